@@ -31,7 +31,7 @@ use Rattle.langtag_keyword.proofs.Found.{both, found_has}
 
 -- ---- what is not found
 
-not_some : {X : Type 0} (o : Option X) → is_some o ≡ false → o ≡ None
+pub not_some : {X : Type 0} (o : Option X) → is_some o ≡ false → o ≡ None
 not_some None is = refl
 not_some (Some x) is = absurd cc
 

@@ -1,16 +1,17 @@
 -- The tables of language identifiers have what the lists say, and what replaces a field has its class: by computation.
 use Rattle.std.proofs.lemmas.Grind.{common_steps}
 use Rattle.std.proofs.Common.{arith}
-use Rattle.std.proofs.Common.{◌≡◌, ℕ, Bool, true, List, [], ◌∷◌, map, option_map, Some, refl}
+use Rattle.std.proofs.Common.{◌≡◌, ℕ, Bool, true, cond, List, [], ◌∷◌, fold, map, option_map, Some, refl, ap, ◌∙◌}
+use Rattle.std.proofs.Math.Bool.{and-false}
 use Rattle.std.specs.Prelude.{find}
 use Rattle.std.specs.List.{list_all}
 use Rattle.langtag.specs.FieldClasses.{is_language_field, is_region_field, is_script_field}
-use Rattle.langtag_scan.specs.Case.{fold_byte}
+use Rattle.langtag_scan.specs.Case.{are_alike, fold_byte}
 use Rattle.langtag_scan.specs.Class.{is_digit, is_letter, is_primary, is_region, is_script}
 use Rattle.langtag_scan.specs.Subtags.{segments}
-use Rattle.langtag_keyword.specs.Alias.{Alias}
+use Rattle.langtag_keyword.specs.Alias.{Alias, TypeAlias}
 use Rattle.langtag_locale.specs.LocaleAliases as list
-use Rattle.langtag_locale.specs.LocaleForm.{has_variant, heir}
+use Rattle.langtag_locale.specs.LocaleForm.{has_variant, heir, language_after}
 use Rattle.langtag_locale.specs.declared.locale_tables.TheConstants as table
 use Rattle.langtag_keyword.proofs.Found.{both, found_has}
 
@@ -67,6 +68,12 @@ region_heirs_good = refl
 pub scripts_good : list_all (λ alias. is_script_field alias.new) list.script_aliases ≡ true
 unfolding list.script_aliases is_script is_letter fold_byte
 scripts_good = refl
+
+-- no language changes if there are no variants
+pub no_variants : (language : List ℕ) (aliases : List TypeAlias) → fold (language_after []) language aliases ≡ language
+no_variants language [] = refl
+no_variants language (alias ∷ aliases) =
+    ap (λ l. fold (language_after []) l aliases) (ap (λ b. cond b alias.new language) (and-false (are_alike alias.key language))) ∙ no_variants language aliases
 
 -- the replacement that is found has what all replacements have
 pub found_good :

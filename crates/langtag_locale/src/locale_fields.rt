@@ -47,6 +47,9 @@ fn language_with<'a>(language: &'a [u8], variants: Option<&str>) -> &'a [u8]
     ensures language { result.now ≡ fold (spec.language_after (segments_left variants.entry)) language.now list.variant_languages }
     ensures in_class { IsTrue (is_language_field result.now) }
 {
+    if variants.is_none() {
+        return language;
+    }
     let mut language = language;
     let mut rows = variant_languages();
     while let [(old, variant, new), others @ ..] = rows {

@@ -33,6 +33,9 @@ fn variant_language<'a>(fields: TagFields<'a>, variants: Option<&str>) -> TagFie
 
 /// Returns a language, or the language that it becomes with some of the variants.
 fn language_with<'a>(language: &'a [u8], variants: Option<&str>) -> &'a [u8] {
+    if variants.is_none() {
+        return language;
+    }
     let mut language = language;
     let mut rows = variant_languages();
     while let [(old, variant, new), others @ ..] = rows {

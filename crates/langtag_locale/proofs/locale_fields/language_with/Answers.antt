@@ -1,10 +1,12 @@
-use Rattle.std.proofs.Common.{ap, ◌∙◌}
+use Rattle.std.proofs.Common.{not, sym, ap, ◌∙◌}
 use Rattle.std.specs.List.{fold, list_all}
 use Rattle.langtag.specs.FieldClasses.{is_language_field}
 use Rattle.langtag_scan.specs.Subtags.{segments_left}
 use Rattle.langtag_keyword.specs.Alias.{TypeAlias}
 use Rattle.langtag_locale.specs.LocaleForm.{language_after}
-use Rattle.langtag_locale.proofs.LocaleTables.{variant_languages_good}
+use Rattle.langtag_locale.specs.LocaleAliases.{variant_languages}
+use Rattle.langtag_locale.proofs.IdentifierLast.{not_some}
+use Rattle.langtag_locale.proofs.LocaleTables.{no_variants, variant_languages_good}
 use Rattle.langtag_locale.proofs.locale_fields.language_with.Goals as goal
 
 pub loop-rows-init : goal.loop-rows-init
@@ -13,3 +15,11 @@ loop-rows-init c = record {
   in_class = c.requires;
   rows_good = ap (list_all {X = TypeAlias} (λ alias. is_language_field alias.new)) c.variant_languages-rows.ensures ∙ variant_languages_good;
 }
+
+pub returns-then-is_none : goal.returns-then-is_none
+returns-then-is_none c =
+    let none = ap segments_left (not_some c.args.variants (c.is_none.ensures ∙ ap not c.if-is_none.true)) in
+    record {
+      language = sym (ap (λ vs. fold (language_after vs) c.args.language.now variant_languages) none ∙ no_variants c.args.language.now variant_languages);
+      in_class = c.requires;
+    }
