@@ -146,7 +146,7 @@ def bits(numbers):
 
 
 def right_to_left_scripts():
-    return [row[0] for row in read("right-to-left.txt")] + SCRIPT_VARIANTS
+    return sorted([row[0] for row in read("right-to-left.txt")] + SCRIPT_VARIANTS, key=folded_number)
 
 
 def tables(likely):
@@ -171,7 +171,8 @@ def tables(likely):
         numbers("OTHER_LANGUAGES", "The index of the language on the right side of each row of `OTHER_KEYS`.", 8, [likely.languages.index(row[3]) for row in likely.others]),
         numbers("OTHER_SCRIPTS", "The index of the script on the right side of each row of `OTHER_KEYS`.", 8, map(script, likely.others)),
         numbers("OTHER_REGIONS", "The index of the region on the right side of each row of `OTHER_KEYS`.", 8, map(region, likely.others)),
-        names("RIGHT_TO_LEFT_SCRIPTS", "The scripts that are written from right to left, with variants of scripts that have codes of their own (ISO 15924).", right_to_left_scripts()),
+        numbers("RIGHT_TO_LEFT_KEYS", "The keys, in ascending order, of the scripts that are written from right to left, with variants of scripts that have codes of\n"
+                "/// their own (ISO 15924).", 32, map(folded_number, right_to_left_scripts())),
     ])
 
 

@@ -15,6 +15,7 @@ pub mod PosixNameLaws
 pub mod PosixNameRead
 pub mod PosixVariantLaws
 pub mod PutLaws
+pub mod RightToLeftKeys
 pub mod RowLaws
 pub mod RowsFound
 pub mod TableRows

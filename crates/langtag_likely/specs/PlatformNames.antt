@@ -26,14 +26,14 @@ abbrev pub marked_region : List ℕ → Option (List ℕ)
 marked_region [] = None
 marked_region (b ∷ region) = if (b == 114 || b == 82) && is_region region then Some region else None
 
--- the marked region after a language. After `sgn` there is none, since sign languages are its extended languages, and the
+-- the region after a language and `r`. After `sgn` there is none, since its extended languages are sign languages, and the
 -- codes of some begin with `r`: sgn-rsl
 abbrev pub android_region : List ℕ → List ℕ → Option (List ℕ)
 android_region language behind = if are_alike (codes "sgn") language then None else marked_region behind
 
 -- ---- .NET: zh-CHS, zh-CHT, az-AZ-Latn and sr-SP-Latn
 
--- the script of a kind of Chinese
+-- the script that CHS or CHT means after `zh`
 abbrev pub chinese_script : List ℕ → List ℕ → Option (List ℕ)
 chinese_script language behind =
     if are_alike (codes "zh") language && are_alike (codes "CHS") behind then Some (codes "Hans")
@@ -44,7 +44,7 @@ chinese_script language behind =
 abbrev pub region_now : List ℕ → List ℕ → List ℕ
 region_now language region = if are_alike (codes "sr") language && are_alike (codes "SP") region then codes "RS" else region
 
--- a script and a region in the order of a tag, if they are written in the other order
+-- a script and a region in the order of a tag, for a region and the code of a script
 abbrev pub script_first : List ℕ → List ℕ → List ℕ → Option (List ℕ)
 script_first language region script = if is_region region && is_script_code script then Some (script ++ 45 ∷ region_now language region) else None
 
@@ -54,7 +54,7 @@ script_first language region script = if is_region region && is_script_code scri
 abbrev pub is_short_language : List ℕ → Bool
 is_short_language language = is_primary language && nat_le (length language) 3
 
--- what is read for the text behind the first hyphen of a name, if Android or .NET writes it so
+-- what is read for the text after the language of a name, if that text has a form of Android or .NET
 abbrev pub platform_behind : List ℕ → List ℕ → Option (List ℕ)
 platform_behind language behind =
     or_else (chinese_script language behind)
@@ -63,7 +63,7 @@ platform_behind language behind =
 abbrev pub platform_text : List ℕ → List ℕ → Option (List ℕ)
 platform_text language behind = if is_short_language language then option_map (λ text. language ++ 45 ∷ text) (platform_behind language behind) else None
 
--- a text as it stands, unless Android or .NET writes a tag so
+-- the tag for a text in a form of Android or .NET, or else the text as it stands
 abbrev pub platform_read : List ℕ → List ℕ
 platform_read text = unwrap_or (platform_text (before_first is_hyphen text) (after_first is_hyphen text)) text
 

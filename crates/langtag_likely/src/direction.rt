@@ -1,12 +1,16 @@
 //! Whether a tag is written from right to left.
-ghost use Rattle.std.specs.Prelude.{◌≡◌};
+ghost use Rattle.std.specs.Prelude.{◌≡◌, IsTrue, map};
+ghost use Rattle.langtag.specs.FieldClasses.{is_script_field};
 ghost use Rattle.langtag.specs.Text.{lang_tag_text};
+ghost use Rattle.langtag_scan.specs.Case.{folded_number};
+ghost use Rattle.langtag_tables.specs.Numbers.{climbs_from};
 ghost use Rattle.langtag_likely.specs.Direction as spec;
 ghost use Rattle.langtag_likely.specs.RightToLeft.{right_to_left_scripts};
 
+use crate::keys::index_of;
 use crate::matching::matching_form;
 use crate::tables;
-use langtag::{LangTag, case_insensitive_eq};
+use langtag::LangTag;
 
 /// Returns whether a tag's language is written from right to left: `true` for `he`, `pa-PK`, `az-Arab` and `und-Thaa`,
 /// `false` for `ar-Latn`.
@@ -32,15 +36,18 @@ pub fn is_right_to_left(tag: LangTag<'_>) -> bool
 }
 
 /// Returns whether a script is written from right to left.
+#[tactic(auto, using(crate::proofs::FieldClasses::script_length, crate::proofs::RightToLeftKeys::found_by_key))]
 fn is_right_to_left_script(script: &[u8]) -> bool
+    requires { IsTrue (is_script_field script.now) }
     ensures { result ≡ spec.is_right_to_left_script script.now }
 {
-    scripts().iter().any(|it| case_insensitive_eq(it, script))
+    index_of(right_to_left_keys(), script).is_some()
 }
 
-#[tactic(auto, unfolding(crate::specs::RightToLeft::right_to_left_scripts))]
-fn scripts() -> &'static [[u8; 4]]
-    ensures { result.now ≡ right_to_left_scripts }
+#[tactic(auto, using(crate::proofs::RightToLeftKeys::keys_listed))]
+fn right_to_left_keys() -> &'static [u32]
+    ensures numbers { result.now ≡ map folded_number right_to_left_scripts }
+    ensures climbs { IsTrue (climbs_from 0 result.now) }
 {
-    &tables::RIGHT_TO_LEFT_SCRIPTS
+    &tables::RIGHT_TO_LEFT_KEYS
 }

@@ -11,8 +11,8 @@ use langtag_scan::{case_insensitive_eq, is_primary, is_region, split_at_byte};
 /// The greatest length of a language and a territory, in bytes.
 pub(crate) const MOST: usize = 255;
 
-/// The greatest length of a tag that is read in another order, in bytes: a language, a script and a region.
-pub(crate) const MOST_REORDERED: usize = 12;
+/// The greatest length of the tag for a name in a form of Android or .NET, in bytes: a language, a script and a region.
+pub(crate) const MOST_READ: usize = 12;
 
 /// Returns the string that a language and a territory are read as, written into `room` or `short`: `zh-TW` for `zh_TW`,
 /// and for `zh-rTW` and `b+zh+TW`.
@@ -20,7 +20,7 @@ pub(crate) const MOST_REORDERED: usize = 12;
 pub(crate) fn read_place<'a>(
     place: &[u8],
     room: &'a mut [u8; MOST],
-    short: &'a mut [u8; MOST_REORDERED],
+    short: &'a mut [u8; MOST_READ],
 ) -> &'a [u8]
     requires { length place.now ≤ 255 }
     ensures text { result.now ≡ spec.read_place place.now }
@@ -55,8 +55,8 @@ fn hyphenate(bytes: &mut [u8], mark: u8)
     }
 }
 
-/// Returns a string as it stands, unless Android or .NET writes a tag so.
-fn platform_read<'a>(text: &'a [u8], short: &'a mut [u8; MOST_REORDERED]) -> &'a [u8]
+/// Returns the tag for a string in a form of Android or .NET, or else the string as it stands.
+fn platform_read<'a>(text: &'a [u8], short: &'a mut [u8; MOST_READ]) -> &'a [u8]
     requires { length text.now ≤ 255 }
     ensures text { result.now ≡ spec.platform_read text.entry.now }
     ensures few { length result.now ≤ 255 }
@@ -76,7 +76,7 @@ fn written<'t, 'r>(
     language: &'t [u8],
     first: &'t [u8],
     second: &'t [u8],
-    room: &'r mut [u8; MOST_REORDERED],
+    room: &'r mut [u8; MOST_READ],
 ) -> &'r [u8]
     requires language { length language.now ≤ 3 }
     requires first { length first.now ≤ 4 }
@@ -97,8 +97,8 @@ fn is_short_language(language: &[u8]) -> bool
     is_primary(language) && language.len() <= 3
 }
 
-/// Returns the one or two subtags that are read for the string behind a language, if Android or .NET writes it so. If
-/// there is one, the second is empty.
+/// Returns the one or two subtags that are read for the string after a language, if the string has a form of Android
+/// or .NET. If there is one, the second is empty.
 #[tactic(auto, using(crate::proofs::PlatformNameLaws::script_code_four, crate::proofs::PlatformNameLaws::region_now_few, crate::proofs::PlatformNameLaws::region_now_marked))]
 fn platform_behind<'a>(language: &[u8], behind: &'a [u8]) -> Option<(&'a [u8], &'a [u8])>
     ensures read { option_map (λ pair. pair.0.now ++ marked 45 pair.1.now) result ≡ spec.platform_behind language.now behind.now }

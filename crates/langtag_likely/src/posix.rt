@@ -12,7 +12,7 @@ ghost use Rattle.langtag.specs.Form.{IsForm};
 ghost use Rattle.langtag_likely.specs.Posix.{IsLocalePlace, IsRefusal, IsTagOfName, NamesTag, modifier_of, script_behind, with_said_script, with_said_variant};
 
 use crate::modifiers::{modifier_script, modifier_variant, script_of};
-use crate::platform_names::{MOST, MOST_REORDERED, read_place};
+use crate::platform_names::{MOST, MOST_READ, read_place};
 use crate::posix_error::PosixError;
 use crate::posix_variant::{MOST_WITH_KEYWORD, tag_with_keyword};
 use langtag::{LangTag, LangTagBuf, Part, tag_of, write_part};
@@ -105,7 +105,7 @@ pub fn write_from_posix(name: &[u8], buffer: &mut [u8]) -> Option<usize>
         (λ len. NamesTag name.now × Writes (IsTagOfName name.now) buffer.old buffer.new len) }
     ensures nothing { result ≡ None → buffer.new ≡ buffer.old }
 {
-    let (mut room, mut short) = ([0; MOST], [0; MOST_REORDERED]);
+    let (mut room, mut short) = ([0; MOST], [0; MOST_READ]);
     let tag = tag_of_place(locale_place(name), &mut room, &mut short)?;
     let (front, modifier) = front_and_modifier(name);
     let script = script_behind(front);
@@ -139,7 +139,7 @@ fn script_behind(front: &[u8]) -> Option<Script<'_>>
 fn tag_of_place<'a>(
     place: &[u8],
     room: &'a mut [u8; MOST],
-    short: &'a mut [u8; MOST_REORDERED],
+    short: &'a mut [u8; MOST_READ],
 ) -> Option<LangTag<'a>>
     ensures tag { MatchOption result (IsLocalePlace place.now → ⊥)
         (λ tag. IsLocalePlace place.now × (lang_tag_text tag ≡ read_place place.now)) }

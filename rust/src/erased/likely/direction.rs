@@ -2,9 +2,10 @@
 
 //! Whether a tag is written from right to left.
 
+use crate::erased::likely::keys::index_of;
 use crate::erased::likely::matching::matching_form;
 use crate::erased::likely::tables;
-use crate::erased::tag::{case_insensitive_eq, LangTag};
+use crate::erased::tag::LangTag;
 
 /// Returns whether a tag's language is written from right to left: `true` for `he`, `pa-PK`,
 /// `az-Arab` and `und-Thaa`, `false` for `ar-Latn`.
@@ -35,9 +36,10 @@ pub fn is_right_to_left(tag: LangTag<'_>) -> bool {
 /// Returns whether a script is written from right to left.
 #[inline]
 fn is_right_to_left_script(script: &[u8]) -> bool {
-    scripts().iter().any(|it| case_insensitive_eq(it, script))
+    index_of(right_to_left_keys(), script).is_some()
 }
 
-fn scripts() -> &'static [[u8; 4]] {
-    &tables::RIGHT_TO_LEFT_SCRIPTS
+#[inline]
+fn right_to_left_keys() -> &'static [u32] {
+    &tables::RIGHT_TO_LEFT_KEYS
 }

@@ -3,7 +3,7 @@
 //! The tag for a POSIX locale name.
 
 use crate::erased::likely::modifiers::{modifier_script, modifier_variant, script_of};
-use crate::erased::likely::platform_names::{read_place, MOST, MOST_REORDERED};
+use crate::erased::likely::platform_names::{read_place, MOST, MOST_READ};
 #[cfg(feature = "alloc")]
 use crate::erased::likely::posix_error::PosixError;
 use crate::erased::likely::posix_variant::{tag_with_keyword, MOST_WITH_KEYWORD};
@@ -102,7 +102,7 @@ fn bytes_of(name: &[u8]) -> Result<Option<Vec<u8>>, AllocError> {
 /// assert_eq!(write_from_posix(b"C", &mut buffer), None);
 /// ```
 pub fn write_from_posix(name: &[u8], buffer: &mut [u8]) -> Option<usize> {
-    let (mut room, mut short) = ([0; MOST], [0; MOST_REORDERED]);
+    let (mut room, mut short) = ([0; MOST], [0; MOST_READ]);
     let tag = tag_of_place(locale_place(name), &mut room, &mut short)?;
     let (front, modifier) = front_and_modifier(name);
     let script = script_behind(front);
@@ -133,7 +133,7 @@ fn script_behind(front: &[u8]) -> Option<Script<'_>> {
 fn tag_of_place<'a>(
     place: &[u8],
     room: &'a mut [u8; MOST],
-    short: &'a mut [u8; MOST_REORDERED],
+    short: &'a mut [u8; MOST_READ],
 ) -> Option<LangTag<'a>> {
     if place.len() > MOST {
         return None;

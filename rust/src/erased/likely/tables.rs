@@ -1238,12 +1238,13 @@ pub(crate) static OTHER_REGIONS: [u8; 581] = [
     0x2C, 0x9B, 0x9B, 0x2C, 0x2C,
 ];
 
-/// The scripts that are written from right to left, with variants of scripts that have codes of
-/// their own (ISO 15924).
+/// The keys, in ascending order, of the scripts that are written from right to left, with variants
+/// of scripts that have codes of their own (ISO 15924).
 #[rustfmt::skip]
-pub(crate) static RIGHT_TO_LEFT_SCRIPTS: [[u8; 4]; 41] = [
-    *b"Adlm", *b"Arab", *b"Armi", *b"Avst", *b"Chrs", *b"Cprt", *b"Elym", *b"Gara", *b"Hatr", *b"Hebr", *b"Hung",
-    *b"Khar", *b"Lydi", *b"Mand", *b"Mani", *b"Mend", *b"Merc", *b"Mero", *b"Narb", *b"Nbat", *b"Nkoo", *b"Orkh",
-    *b"Ougr", *b"Palm", *b"Phli", *b"Phlp", *b"Phnx", *b"Prti", *b"Rohg", *b"Samr", *b"Sarb", *b"Sidt", *b"Sogd",
-    *b"Sogo", *b"Syrc", *b"Thaa", *b"Yezi", *b"Aran", *b"Syre", *b"Syrj", *b"Syrn",
+pub(crate) static RIGHT_TO_LEFT_KEYS: [u32; 41] = [
+    0x61646C6D, 0x61726162, 0x6172616E, 0x61726D69, 0x61767374, 0x63687273, 0x63707274, 0x656C796D, 0x67617261,
+    0x68617472, 0x68656272, 0x68756E67, 0x6B686172, 0x6C796469, 0x6D616E64, 0x6D616E69, 0x6D656E64, 0x6D657263,
+    0x6D65726F, 0x6E617262, 0x6E626174, 0x6E6B6F6F, 0x6F726B68, 0x6F756772, 0x70616C6D, 0x70686C69, 0x70686C70,
+    0x70686E78, 0x70727469, 0x726F6867, 0x73616D72, 0x73617262, 0x73696474, 0x736F6764, 0x736F676F, 0x73797263,
+    0x73797265, 0x7379726A, 0x7379726E, 0x74686161, 0x79657A69,
 ];
