@@ -20,9 +20,8 @@ GRANDFATHERED = set("""
     en-gb-oed i-ami i-bnn i-default i-enochian i-hak i-klingon i-lux i-mingo i-navajo i-pwn i-tao i-tay i-tsu sgn-be-fr sgn-be-nl sgn-ch-de
     art-lojban cel-gaulish no-bok no-nyn zh-guoyu zh-hakka zh-min zh-min-nan zh-xiang
 """.split())
-# The lengths, in bytes, of the longest whole tag that is replaced, and of the longest value. The code does not look up longer
-# texts, and the bound on the length of a form allows no longer value.
-LONGEST_REPLACED, LONGEST_PREFERRED = 16, 14
+# The length, in bytes, of the longest whole tag that is replaced. The code does not look up longer texts.
+LONGEST_REPLACED = 16
 
 
 def is_of(kind: str, text: str) -> bool:
@@ -100,12 +99,10 @@ def preferred_tags_stay(registry: Registry) -> Iterator[str]:
 
 
 def replaced_tags_are_short(registry: Registry) -> Iterator[str]:
-    """A whole tag that is replaced is not longer than the code allows, and neither is its Preferred-Value."""
+    """A whole tag that is replaced is not longer than the code allows."""
     for record in registry.all(*TAG_TYPES, having="Preferred-Value"):
         if len(record.text) > LONGEST_REPLACED:
             yield f"{record}: longer than {LONGEST_REPLACED} bytes, with a Preferred-Value"
-        if len(record.value("Preferred-Value")) > LONGEST_PREFERRED:
-            yield f"{record}: its Preferred-Value {record.value('Preferred-Value')} is longer than {LONGEST_PREFERRED} bytes"
 
 
 def replaced_tags_end_apart(registry: Registry) -> Iterator[str]:
