@@ -75,11 +75,14 @@ FUNCTION(header, result = langtag_bench_header(text, len, &refused))
 /* The tag for a header that is the text, and for another header among tags from the text. */
 FUNCTION(chosen, result = langtag_bench_chosen(text, len, "en,de", 5, &refused) +
                           langtag_bench_chosen("fr, de;q=0.5", 12, text, len, &refused))
+FUNCTION(suitable, result = langtag_bench_suitable(text, len, "en,de", 5, &refused))
+FUNCTION(suitable_ranges, result = langtag_bench_suitable_ranges(text, len, "en,de", 5, &refused))
 FUNCTION(canonical, result = langtag_bench_canonical(text, len, into, sizeof into, &refused))
 FUNCTION(extlang_form, result = langtag_bench_extlang_form(text, len, into, sizeof into, &refused))
 FUNCTION(maximized, result = langtag_bench_maximized(text, len, into, sizeof into, &refused))
 FUNCTION(minimized, result = langtag_bench_minimized(text, len, into, sizeof into, &refused))
 FUNCTION(from_posix, result = langtag_bench_from_posix(text, len, into, sizeof into, &refused))
+FUNCTION(to_posix, result = langtag_bench_to_posix(text, len, into, sizeof into, &refused))
 FUNCTION(misplaced_variant, result = langtag_bench_misplaced_variant(text, len))
 FUNCTION(misplaced_extlang, result = langtag_bench_misplaced_extlang(text, len))
 FUNCTION(fields, result = langtag_bench_fields(text, len))
@@ -117,11 +120,14 @@ static const struct function functions[] = {
     ENTRY(from_parts),
     ENTRY(header),
     ENTRY(chosen),
+    ENTRY(suitable),
+    ENTRY(suitable_ranges),
     ENTRY(canonical),
     ENTRY(extlang_form),
     ENTRY(maximized),
     ENTRY(minimized),
     ENTRY(from_posix),
+    ENTRY(to_posix),
     ENTRY(misplaced_variant),
     ENTRY(misplaced_extlang),
     ENTRY(fields),

@@ -59,12 +59,15 @@ NUMBER(extlang_form, langtag_bench_extlang_form(text, len, into, sizeof into, re
 NUMBER(maximized, langtag_bench_maximized(text, len, into, sizeof into, refused))
 NUMBER(minimized, langtag_bench_minimized(text, len, into, sizeof into, refused))
 NUMBER(from_posix, langtag_bench_from_posix(text, len, into, sizeof into, refused))
+NUMBER(to_posix, langtag_bench_to_posix(text, len, into, sizeof into, refused))
 NUMBER(extensions_form, langtag_bench_extensions_form(text, len, into, sizeof into, refused))
 NUMBER(locale_form, langtag_bench_locale_form(text, len, into, sizeof into, refused))
 NUMBER(set_keyword, langtag_bench_set_keyword(text, len, "islamic-civil", 13, into, sizeof into, refused))
 NUMBER(remove_keyword, langtag_bench_remove_keyword(text, len, into, sizeof into, refused))
 NUMBER(lenient, langtag_bench_lenient(text, len, refused))
 NUMBER(chosen, langtag_bench_chosen("fr, de;q=0.5", 12, text, len, refused))
+NUMBER(suitable, langtag_bench_suitable("fr, de;q=0.5", 12, text, len, refused))
+NUMBER(suitable_ranges, langtag_bench_suitable_ranges("fr,de", 5, text, len, refused))
 
 #define LONG "zh-min-nan-Hant-TW-rozaj-1996-a-bb-cc-u-co-x-y-z"
 
@@ -88,6 +91,7 @@ static const struct row rows[] = {
     {"maximized", maximized, NULL, "zh-TW-x-a", NULL, 1},
     {"minimized", minimized, NULL, "zh-Hant-TW-x-a", NULL, 1},
     {"from_posix", from_posix, NULL, "sr_RS.UTF-8@latin", NULL, 1},
+    {"to_posix", to_posix, NULL, "sr-Latn-RS", NULL, 1},
     {"extensions_form", extensions_form, NULL, "de-u-co-eor", NULL, 1},
     {"extensions_form", extensions_form, NULL, LONG, NULL, 1},
     {"locale_form", locale_form, NULL, "en-US-t-it-m0-names", NULL, 1},
@@ -97,6 +101,8 @@ static const struct row rows[] = {
     {"remove_keyword", remove_keyword, NULL, LONG, NULL, 2},
     {"lenient", lenient, NULL, "de_CH, fr;q=0.5, *;q=0.1", NULL, MANY},
     {"chosen", chosen, NULL, "en,fr-FR,it,es,de-CH,de", NULL, MANY},
+    {"suitable", suitable, NULL, "en,fr-FR,it,es,de-CH,de", NULL, MANY},
+    {"suitable_ranges", suitable_ranges, NULL, "en,fr-FR,it,es,de-CH,de", NULL, MANY},
     {"header", langtag_bench_header, NULL, "", NULL, 0},
     {"header", langtag_bench_header, NULL, "de-CH, fr;q=0.5, *;q=0.1", NULL, MANY},
     {"header", langtag_bench_header, NULL, "a, b;q=0.9, c, d, e;q=0.3, f, g;q=0, h, i, j, k, l, de", NULL, MANY},

@@ -254,13 +254,19 @@ static void sweep_headers(const struct shape *header, size_t first, size_t each,
     }
 }
 
-/* The tag for a header among more and more tags, of which the last has to be found; and for longer and longer headers. */
+/* The tag for a header, and the suitable tags, among more and more tags, of which the last has to be found; and for longer and longer
+ * headers. */
 static void sweep_tags_for_headers(void) {
     static const struct shape many = {"", "en,", "DE-ch"}, header = {"", "fr;q=0.5,", "de-ch-1996;q=0.1"};
-    for (size_t times = 0, len = 0; grow(&many, &times, &len);)
+    for (size_t times = 0, len = 0; grow(&many, &times, &len);) {
         check("chosen", len, langtag_bench_chosen("fr, de-ch-1996;q=0.9", 20, text, len, &refused) == times);
-    for (size_t times = 0, len = 0; grow(&header, &times, &len);)
+        check("suitable", len, langtag_bench_suitable("fr, de-ch-1996;q=0.9", 20, text, len, &refused) == 1);
+        check("suitable_ranges", len, langtag_bench_suitable_ranges("fr,de-ch-1996", 13, text, len, &refused) == 1);
+    }
+    for (size_t times = 0, len = 0; grow(&header, &times, &len);) {
         check("chosen", len, langtag_bench_chosen(text, len, "en,de-CH,de", 11, &refused) == 1);
+        check("suitable", len, langtag_bench_suitable(text, len, "en,de-CH,de", 11, &refused) == 2);
+    }
 }
 
 /* A tag of few subtags. */
@@ -275,6 +281,7 @@ static void check_short(size_t len) {
     check("maximized", len, langtag_bench_maximized(text, len, written, sizeof written, &refused) > 0);
     check("minimized", len, langtag_bench_minimized(text, len, written, sizeof written, &refused) > 0);
     check("from_posix", len, langtag_bench_from_posix(text, len, written, sizeof written, &refused) > 0);
+    check("to_posix", len, langtag_bench_to_posix(text, len, written, sizeof written, &refused) <= 28);
 }
 
 /* A tag in its recommended case, and in lowercase. */

@@ -4,7 +4,7 @@ ghost use Rattle.langtag_scan.specs.Tag.{IsTag};
 
 use crate::matching::tag_of;
 use crate::written::{count, write_text};
-use langtag_likely::{PosixError, from_posix, maximized, minimized};
+use langtag_likely::{PosixError, from_posix, maximized, minimized, to_posix};
 use std::alloc::Global;
 
 /// Writes the maximal form of a tag into a buffer, if there is room, and returns its length. Returns 0 if the string is
@@ -62,5 +62,26 @@ pub extern "C" fn langtag_bench_from_posix(
         Ok(tag) => write_text(tag.as_str(), into),
         Err(PosixError::NoTag(_)) => 0,
         Err(PosixError::Memory(_)) => count(refused),
+    }
+}
+
+/// Writes the POSIX locale name for a tag into a buffer, if there is room, and returns its length. Returns 0 if the tag
+/// has no name, if the string is not a tag, or if an allocation fails. A failed allocation is counted in `refused`.
+#[unsafe(no_mangle)]
+pub extern "C" fn langtag_bench_to_posix(
+    alloc: Global,
+    bytes: &[u8],
+    into: &mut [u8],
+    refused: &mut usize,
+) -> usize
+    ensures { (IsTag bytes.now → ⊥) → result ≡ 0 }
+{
+    let Some(tag) = tag_of(bytes) else {
+        return 0;
+    };
+    match to_posix(alloc, tag) {
+        Ok(Some(name)) => write_text(name.as_str(), into),
+        Ok(None) => 0,
+        Err(_) => count(refused),
     }
 }
