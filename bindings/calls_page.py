@@ -25,7 +25,7 @@ LANGUAGES = [
     Language("Rust", "rust/README.md", "rust/api.txt", "rust/api.txt"),
     Language("C", "docs/C.md", "bindings/include/langtag.h", "bindings/include/langtag.h"),
     Language("C++", "docs/C.md", "bindings/include/langtag.hpp", "bindings/include/langtag.h bindings/include/langtag_names.hpp"),
-    Language("Python", "docs/PYTHON.md", "bindings/python/langtag/__init__.py", "bindings/python/langtag/_native.pyi"),
+    Language("Python", "docs/PYTHON.md", "bindings/python/langtag/__init__.py", "bindings/python/langtag/_ctypes.py"),
     Language("JavaScript", "docs/JAVASCRIPT.md", "bindings/js/index.d.ts", "bindings/js/index.d.ts"),
     Language("PostgreSQL", "docs/POSTGRESQL.md", "bindings/postgresql/langtag.sql.in", "bindings/postgresql/langtag.sql.in"),
     Language("SQLite", "docs/SQLITE.md", "bindings/sqlite/sqlite_langtag.c", "bindings/sqlite/sqlite_langtag.c"),

@@ -1,6 +1,7 @@
 #!/usr/bin/env python3
 """Writes the declarations of the C interface that follow from the signatures in crates/langtag_c:
 
+    bindings/include/langtag.h                the header: langtag.h.in, with the functions, the structs and their documentation
     rust/c/src/exports.rs                     the functions that cargo exports to C
     bindings/c/langtag_verified.map           what the shared library exports
     bindings/c/functions.h                    lists of the functions, for programs that call each of them
@@ -10,7 +11,7 @@
     bindings/js/test/signatures.js            the functions, for a test that calls each of them
     docs/CALLS.md, README.md                  the calls of each language, by task, from bindings/calls.txt
 
-It also compares the declarations of langtag.h, which is written by hand, and the numbers that stand in several files (check_numbers.py).
+It also compares the numbers that stand in several files (check_numbers.py).
 A function must have LANGTAG_PURE if its result is its only effect.
 
     bindings/generate.py            writes the files
@@ -25,7 +26,7 @@ import sys
 import calls_page
 import check_numbers
 import interface
-from interface import Function, Interface, Parameter
+from interface import Function, Interface, Parameter, Struct
 from javascript import javascript
 
 ROOT = pathlib.Path(__file__).resolve().parent.parent
@@ -188,17 +189,55 @@ def signatures(it: Interface) -> str:
 # ---- bindings/include/langtag.h
 
 
-def wrong_header(it: Interface, header: str) -> list[str]:
-    """Returns the declarations and structs of langtag.h that are not those of the crate."""
-    source = re.sub(r"/\*.*?\*/|//[^\n]*", "", header, flags=re.S)
-    said = [" ".join(found.split()) for found in re.findall(r"^(?:LANGTAG_PURE )?\w+ langtag_\w+\([^)]*\);", source, flags=re.M)]
-    wanted = [it.prototype(function) for function in it.functions]
-    found = [f"{HEADER} lacks: {line}" for line in wanted if line not in said]
-    found += [f"{HEADER} has what no function of the crate is: {line}" for line in said if line not in wanted]
-    structs = {name: re.findall(r"(\w+) (\w+(?:\[\d+\])?);", body) for body, name in re.findall(r"typedef struct \w+ \{(.*?)\} (\w+);", source, flags=re.S)}
-    ours = {struct.in_c(): [it.field_in_c(name, kind) for name, kind in struct.fields] for struct in it.structs.values()}
-    return found + [f"{HEADER}: {name} is {structs.get(name)}, and {ours.get(name)} in the crate"
-                    for name in sorted(structs.keys() | ours.keys()) if structs.get(name) != ours.get(name)]
+def in_c(text: str) -> str:
+    """Returns a text without the backticks of C's own names."""
+    return re.sub(r"`((?:langtag|LANGTAG)_\w+)`", r"\1", text)
+
+
+def comment_of(documentation: list[str]) -> str:
+    """Returns some documentation as a comment of C, in which code is indented."""
+    lines, indent = [], ""
+    for line in documentation:
+        if line.startswith("```"):
+            indent = "" if indent else "    " if line == "```c" else "  "
+        else:
+            lines.append(indent + in_c(line))
+    return f"/* {lines[0]} */" if len(lines) == 1 else "/*\n" + "".join(f" * {line}".rstrip() + "\n" for line in lines) + " */"
+
+
+def declaration(it: Interface, function: Function) -> str:
+    """Returns the declaration of a function, in lines of at most 120 columns."""
+    first, *others = it.prototype(function).split(", ")
+    lines = [first]
+    for word in others:
+        if len(lines[-1]) + len(word) > 117:
+            lines.append(" " * (first.index("(") + 1) + word)
+        else:
+            lines[-1] += f", {word}"
+    return "\n".join(f"{line}," if at < len(lines) else line for at, line in enumerate(lines, 1))
+
+
+def definition(it: Interface, struct: Struct) -> str:
+    """Returns the definition of a struct, with the documentation of each field beside it."""
+    fields = [(" ".join(it.field_in_c(name, kind)) + ";", in_c(struct.notes.get(name, ""))) for name, kind in struct.fields]
+    width = max(len(field) for field, _ in fields)
+    lines = "".join(f"    {field:{width}} /* {note} */\n" if note else f"    {field}\n" for field, note in fields)
+    return f"typedef struct {struct.in_c()} {{\n{lines}}} {struct.in_c()};"
+
+
+def header(it: Interface, template: str) -> str:
+    text = f"/* {WRITTEN.replace('from', 'from langtag.h.in and')} */\n{template}"
+    made = {function.name: (function.comment, declaration(it, function)) for function in it.functions}
+    made |= {struct.in_c(): (struct.comment, definition(it, struct)) for struct in it.structs.values()}
+    for name, (comment, code) in made.items():
+        text = text.replace(f"@{name}@\n", f"{comment_of(comment)}\n{code}\n\n")
+    return re.sub(r"\n{3,}", "\n\n", text)
+
+
+def wrong_template(it: Interface, template: str) -> list[str]:
+    """Returns the functions and structs that only the template has, or only the crate."""
+    said, ours = re.findall(r"(?m)^@(\w+)@$", template), [function.name for function in it.functions] + [struct.in_c() for struct in it.structs.values()]
+    return [f"{interface.TEMPLATE}: {name}" for name in sorted({*said} ^ {*ours})]
 
 
 FILES = {
@@ -213,12 +252,12 @@ FILES = {
 
 
 def main(root: pathlib.Path, is_check: bool) -> int:
-    it = interface.read(root)
-    faults = wrong_header(it, (root / HEADER).read_text(encoding="utf-8"))
+    it, template = interface.read(root), (root / interface.TEMPLATE).read_text(encoding="utf-8")
+    faults = wrong_template(it, template)
     if not it.functions or not it.structs:
         faults.append("crates/langtag_c has no functions, or no structs")
     faults += calls_page.faults(it, root) + check_numbers.wrong_numbers(root) + check_numbers.copied_dates(root)
-    for name, text in ({name: written(it) for name, written in FILES.items()} | calls_page.pages(root)).items():
+    for name, text in ({HEADER: header(it, template)} | {name: written(it) for name, written in FILES.items()} | calls_page.pages(root)).items():
         path = root / name
         if not is_check:
             path.write_text(text, encoding="utf-8")

@@ -12,6 +12,7 @@ from typing import NamedTuple
 
 INTEGERS = {"usize": "size_t", "u64": "uint64_t", "u32": "uint32_t", "i32": "int32_t", "bool": "bool", "": "void"}
 OPAQUE = {"PreparedForm": ("uint64_t", 2)}  # the fields of a type of another crate, as C has them: numbers, and how many
+TEMPLATE = "bindings/include/langtag.h.in"
 DECLARATION = r'pub extern "C" fn (\w+)\(([^)]*)\)(?:\s*->\s*(\w+))?(.*?)\n\{'
 
 
@@ -40,6 +41,7 @@ class Function(NamedTuple):
     module: str
     result: str
     parameters: list[Parameter]
+    comment: list[str]  # the lines of its documentation
 
     def short(self) -> str:
         return self.name[len("langtag_"):]
@@ -53,6 +55,8 @@ class Struct(NamedTuple):
     name: str
     path: str  # in rust/c
     fields: list[tuple[str, str]]  # names and types
+    comment: list[str]
+    notes: dict[str, str]  # the documentation of fields
 
     def in_c(self) -> str:
         return "langtag" + re.sub("[A-Z]", lambda letter: "_" + letter[0].lower(), self.name)
@@ -90,23 +94,30 @@ def pairs(text: str) -> list[tuple[str, str]]:
     return [(name, kind.strip()) for name, kind in re.findall(r"(?:pub )?(\w+)\s*:\s*([^,]+)", text)]
 
 
-def function_of(module: str, name: str, parameters: str, result: str, contract: str) -> Function:
+def lines_of(comment: str) -> list[str]:
+    return re.findall(r"(?m)^/// ?(.*)", comment)
+
+
+def function_of(module: str, text: str, name: str, parameters: str, result: str, contract: str) -> Function:
     unchanged = re.findall(r"ensures nothing \{ result ≡ (?:false|0) → (.*) \}", contract)
     others = re.sub(r"ensures nothing .*", "", contract)
+    documented = re.search(rf'((?:///.*\n)+)(?:#\[.*\]\n)*pub extern "C" fn {name}\(', text)
     return Function(name, module, result, [
         Parameter(it, kind, re.search(rf"\b{it}\.old\b", others) is not None, any(f"{it}.new ≡ {it}.old" in said for said in unchanged))
-        for it, kind in pairs(parameters)])
+        for it, kind in pairs(parameters)], lines_of(documented[1]) if documented else [])
 
 
 def read(root: pathlib.Path) -> Interface:
-    """Reads the interface of the repository. The functions are in the order of langtag.h, and those that the header lacks come last."""
+    """Reads the interface of the repository. The functions are in the order of the header, and those that it lacks come last."""
     functions, structs = [], {}
     for crate, inside in (("langtag_span", "spans"), ("langtag_c", "calls")):
         for path in sorted((root / "crates" / crate / "src").glob("*.rt")):
-            source = re.sub(r"//[^\n]*", "", path.read_text(encoding="utf-8"))
-            functions += [function_of(path.stem, *found) for found in re.findall(DECLARATION, source, flags=re.S)]
-            for name, body in re.findall(r"#\[repr\(C\)\][^{]*struct (\w+) \{(.*?)\}", source, flags=re.S):
-                structs[name] = Struct(name, f"crate::{inside}{'' if crate == 'langtag_span' else '::' + path.stem}::{name}", pairs(body))
-    header = (root / "bindings/include/langtag.h").read_text(encoding="utf-8")
-    places = {name: place for place, name in enumerate(re.findall(r"^\w[^(\n]* (langtag_\w+)\(", header, flags=re.M))}
+            text = path.read_text(encoding="utf-8")
+            source = re.sub(r"//[^\n]*", "", text)
+            functions += [function_of(path.stem, text, *found) for found in re.findall(DECLARATION, source, flags=re.S)]
+            for comment, name, body in re.findall(r"((?:///.*\n)+)#\[repr\(C\)\]\n(?:#.*\n)*pub struct (\w+) \{\n((?:.*\n)*?)\}", text):
+                place = f"crate::{inside}{'' if crate == 'langtag_span' else '::' + path.stem}::{name}"
+                notes = {field: note for note, field in re.findall(r"/// (.*)\n *pub (\w+)", body)}
+                structs[name] = Struct(name, place, pairs(re.sub(r"//.*", "", body)), lines_of(comment), notes)
+    places = {name: place for place, name in enumerate(re.findall(r"(?m)^@(\w+)@$", (root / TEMPLATE).read_text(encoding="utf-8")))}
     return Interface(sorted(functions, key=lambda function: places.get(function.name, len(places))), structs)

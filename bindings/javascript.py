@@ -16,11 +16,12 @@ HEAD = """\
  *   or undefined is returned.
  * - If C removes one item after another, the list of all items is returned.
  * - If C writes numbers to an array, the list of the numbers that it wrote is returned. `room` is the length of the array.
+ * - `site`, which prepareSite of memory.js returns, is passed for a string and the prepared tags in it.
  */
-import {{ aligned, close, count, lengthOf, module, open, prepare, read, readSizes, size, SPAN, WORD, write, writeList, written }} from "./memory.js";
+import {{ aligned, close, count, lengthOf, module, open, prepare, read, readSizes, size, SPAN, WORD, write, writeBytes, writeList, written }} from "./memory.js";
 """
 
-KINDS = {"&[u8]", "&[Span]", "&mut [u8]", "&mut [usize]", "u32", "u64"}
+KINDS = {"&[u8]", "&[Span]", "&[PreparedTag]", "&mut [u8]", "&mut [usize]", "u32", "u64"}
 RESULTS = {"bool": "{} !== 0", "u32": "{} >>> 0", "usize": "count({})", "u64": "BigInt.asUintN(64, {})"}
 LONGER = 32  # how many bytes longer than its arguments a written string may be before it needs a second call
 
@@ -63,6 +64,7 @@ class Lowering:
         self.written: list[str] = []  # the other numbers that are written
         self.has_buffer = function.parameters[-1:] != [] and function.parameters[-1].name == "buffer"
         self.array = ""  # the array of numbers that is written
+        self.has_site = False
         followers = [*function.parameters[1:], None]
         for parameter, follower in zip(function.parameters, followers):
             self.add(it, parameter, follower)
@@ -84,6 +86,11 @@ class Lowering:
             self.passed += [f"size({name}At)", "size(room)"]
         elif parameter.kind == "&[Span]":
             self.passed += [f"size({name}At)", f"size({name}.length)"]
+        elif parameter.kind == "&[PreparedTag]":
+            self.passed += ["size(siteAt)", "size(site.count)"]
+        elif follower is not None and follower.kind == "&[PreparedTag]":
+            self.add_text("site", "site.text.length", f"writeBytes(site.text, at{len(self.steps)})")
+            self.has_site = True
         elif follower is not None and follower.kind == "&[Span]":
             of = camel(follower.name)
             self.add_text(of, f"{of}Length", f"writeList({of}, at{len(self.steps)}, {of}At)")
@@ -103,14 +110,17 @@ class Lowering:
     def lines(self) -> list[str]:
         """Returns the lines before the call. The spans of lists come after all strings, and an array comes after the spans."""
         found = [f"const {it}Length = lengthOf({it});" for it in self.lists]
-        lengths = [*(f"{it}.length" for it in self.texts), *(f"{it}Length" for it in self.lists)]
-        needed = [*lengths, *(f"SPAN * {it}.length" for it in self.lists), *(["room"] if self.has_buffer else []), *(["WORD * room"] if self.array else [])]
+        lengths = [*(f"{it}.length" for it in self.texts), *(f"{it}Length" for it in self.lists), *(["site.text.length"] if self.has_site else [])]
+        needed = [*lengths, *(f"SPAN * {it}.length" for it in self.lists), *(["room"] if self.has_buffer else []), *(["WORD * room"] if self.array else []),
+                  *(["site.tags.length"] if self.has_site else [])]
         opened = f"open({' + '.join(needed) or '0'})"
         found.append(f"const at0 = {opened};" if self.steps or self.has_buffer else f"{opened};")
         place = " + ".join(["at0", *lengths])
         for it in self.lists:
             found.append(f"const {it}At = aligned({place});")
             place = f"{it}At + SPAN * {it}.length"
+        if self.has_site:
+            found += [f"const siteAt = aligned({place});", "writeBytes(site.tags, siteAt);"]
         if self.array:
             found.append(f"const {self.array}At = {place};")
         for number, step in enumerate(self.steps, 1):

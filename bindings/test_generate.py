@@ -14,26 +14,20 @@ import unittest
 import calls_page
 import check_numbers
 import generate
+import interface
 
 ROOT = pathlib.Path(sys.argv[1] if sys.argv[1:] else pathlib.Path(__file__).parent.parent).resolve()
-HEADER, MODULE = generate.HEADER, "bindings/python/langtag/__init__.py"
+HEADER, TEMPLATE, MODULE = generate.HEADER, interface.TEMPLATE, "bindings/python/langtag/__init__.py"
 CRATE, SPANS = "crates/langtag_c/src", "crates/langtag_span/src"
 DATE = check_numbers.registry_date(ROOT)
-FILES = {HEADER, MODULE, check_numbers.DATED, "rows/table.txt", *generate.FILES, *calls_page.FILES, *(name for name, _ in check_numbers.VERSIONS + check_numbers.NUMBERS)}
+FILES = {HEADER, TEMPLATE, MODULE, check_numbers.DATED, "rows/table.txt", *generate.FILES, *calls_page.FILES, *(name for name, _ in check_numbers.VERSIONS + check_numbers.NUMBERS)}
 
 # A file, a text in it, the text that replaces it, and what the message has to name.
 PLANTED = [
-    (HEADER, "size_t langtag_viable_len(", "uint32_t langtag_viable_len(", "langtag_viable_len"),
-    (HEADER, "_basic(const char *range, size_t range_len,", "_basic(size_t range_len, const char *range,", "langtag_matches_basic"),
-    (HEADER, "void langtag_fold(char *bytes", "void langtag_fold(const char *bytes", "langtag_fold"),
-    (HEADER, "langtag_span script; ", "langtag_span region; ", "langtag_parts"),
-    (HEADER, "    size_t start;\n    size_t len;", "    size_t len;\n    size_t start;", "langtag_span"),
-    (HEADER, "langtag_grandfathered(const", "langtag_grandfatherd(const", "langtag_grandfatherd"),
-    (HEADER, "\nuint32_t langtag_parse(", "\nLANGTAG_PURE uint32_t langtag_parse(", "langtag_parse"),
-    (HEADER, "\nvoid langtag_recommend(", "\nLANGTAG_PURE void langtag_recommend(", "langtag_recommend"),
-    (HEADER, "\nLANGTAG_PURE bool langtag_eq(", "\nbool langtag_eq(", "langtag_eq"),
-    (HEADER, "uint32_t langtag_registry_date(void);", "uint64_t langtag_registry_date(void);", "langtag_registry_date"),
-    (HEADER, "uint32_t langtag_registry_date(void);", "uint32_t langtag_registry_date(uint32_t kind);", "langtag_registry_date"),
+    (HEADER, "size_t langtag_viable_len(", "uint32_t langtag_viable_len(", HEADER),
+    (HEADER, "langtag_span script; ", "langtag_span region; ", HEADER),
+    (TEMPLATE, "@langtag_span@", "", "langtag_span"),
+    (TEMPLATE, "@langtag_grandfathered@", "@langtag_grandfatherd@", "langtag_grandfatherd"),
     (HEADER, "__attribute__((pure,", "__attribute__((const,", "LANGTAG_PURE"),
     (HEADER, "0 en-GB-oed    1 i-ami ", "1 en-GB-oed    0 i-ami ", "grandfathered"),
     (HEADER, "LANGTAG_ABI_VERSION 1", "LANGTAG_ABI_VERSION 2", "LANGTAG_ABI_VERSION"),
@@ -44,9 +38,9 @@ PLANTED = [
     (MODULE, '__version__ = "0.2.0-dev"', '__version__ = "0.2.0"', "LANGTAG_VERSION"),
     (MODULE, "REGISTRY_DATE = _registry_date()", f'REGISTRY_DATE = "{DATE}"', DATE),
     (check_numbers.DATED, "pub const FILE_DATE", "pub const DATE", "the registry's date"),
-    (CRATE, "fn langtag_eq(a: &[u8], b: &[u8])", "fn langtag_eq(b: &[u8], a: &[u8])", "langtag_eq"),
-    (CRATE, "pub singleton: Span", "pub singletons: Span", "langtag_repeated"),
-    (SPANS, "pub len: usize", "pub length: usize", "langtag_span"),
+    (CRATE, "fn langtag_eq(a: &[u8], b: &[u8])", "fn langtag_eq(b: &[u8], a: &[u8])", HEADER),
+    (CRATE, "pub singleton: Span", "pub singletons: Span", HEADER),
+    (SPANS, "pub len: usize", "pub length: usize", HEADER),
     # The contract says what is written: exports.rs follows it.
     (CRATE, "ensures nothing { result ≡ false → language.new ≡ language.old }", "", "exports.rs"),
     *((name, "hash", "hush", name) for name in generate.FILES),

@@ -8,15 +8,15 @@ negotiate() {
         -o "$work/built/negotiate"
 }
 check "C: the HTTP example builds" negotiate
-check "the HTTP examples in C and Python answer alike" python3 examples/test_examples.py "$work/built/negotiate"
+check "the HTTP examples in C and Python answer alike" env -C examples PROGRAM="$work/built/negotiate" python3 -m unittest test_examples
 
 # example_in_cc NAME TEST
 example_in_cc() {
     c++ -std=c++17 -Wall -Wextra -Wpedantic -Wshadow -Wconversion -Werror -g -fsanitize=address,undefined -I"$work/usr/include" \
-        "examples/$1.cc" "$work/usr/lib/liblangtag_verified.a" -o "$work/built/$1" && python3 "examples/$2" "$work/built/$1"
+        "examples/$1.cc" "$work/usr/lib/liblangtag_verified.a" -o "$work/built/$1" && env -C examples PROGRAM="$work/built/$1" python3 -m unittest "$2"
 }
-check "C++: the subtitle editor, over the installed header" example_in_cc subtitles test_subtitles.py
-check "C++ and Flask: what a viewer and a reader pick" example_in_cc player test_sites.py
+check "C++: the subtitle editor, over the installed header" example_in_cc subtitles test_subtitles
+check "C++ and Flask: what a viewer and a reader pick" example_in_cc player test_sites
 python3 -c 'import flask' 2>/dev/null || not_run "Python: the Flask site" "Flask is not there"
 
 count_tags() { python3 examples/count_tags.py | diff - <(wanted_counts); }
@@ -41,6 +41,6 @@ elif ! echo '#include <sqlite3ext.h>' | cc -E - >/dev/null 2>&1; then
 else
     check "SQLite: the extension builds" sqlite_extension
     check "SQLite: SQL says the versions of the program" sqlite_version
-    check "SQLite: the rows, and what only SQL has" python3 sqlite/test_sqlite.py "$work/built/sqlite_langtag.so"
+    check "SQLite: the rows, and what only SQL has" env -C sqlite EXTENSION="$work/built/sqlite_langtag.so" python3 -m unittest test_sqlite
 fi
 unset PYTHONPATH

@@ -49,6 +49,7 @@ elif node --experimental-wasm-memory64 -e '' 2>/dev/null; then
 else
     not_run "JavaScript: the module of 64-bit addresses" "this Node does not take it"
 fi
+js_written() { js/compile && cmp js/index.js "$here/js/index.js" && cmp js/index.d.ts "$here/js/index.d.ts"; }
 js_types() {
     mkdir -p "$work/types/node_modules/langtag-verified" && cd "$work/types" || return 1
     cp "$work"/bindings/js/{package.json,index.d.ts,index.js} node_modules/langtag-verified && cp "$work/bindings/js/test/types.ts" . || return 1
@@ -57,6 +58,8 @@ js_types() {
         tsc --strict --noEmit --target es2022 --lib es2022,dom --module $resolution types.ts || return 1
     done
 }
+needs '[[ "$(tsc --version 2>/dev/null)" == *" 4.8."* ]]' "there is no tsc 4.8 (in Debian: apt-get install node-typescript)" \
+    "JavaScript: index.js and index.d.ts are what tsc writes" js_written
 needs 'has tsc' "there is no tsc (in Debian: apt-get install node-typescript)" \
     "JavaScript: types, by tsc $(tsc --version 2>/dev/null | sed 's/[^0-9.]//g')" js_types
 CHROMIUM=$(command -v chromium || command -v google-chrome)

@@ -46,7 +46,7 @@ postgresql_clone() {
         postgresql_says | grep '^f|langtag '
 }
 postgresql_later() { later "$here/postgresql" "$here/include" "$work/lib/liblangtag_c.a"; }
-in_postgresql() { cd postgresql/test && python3 "$@"; }
+in_postgresql() { cd postgresql/test && LANGTAG_ROOT=$root python3 -m unittest "$1"; }
 postgresql_wrong() {
     env PG_CONFIG="$pg_config" DESTDIR="$pg_folder/server" LANGTAG_ARCHIVE="$work/lib/liblangtag_c.a" LANGTAG_INCLUDE="$here/include" \
         python3 wrong_wrappers.py "$work/usr/lib" PostgreSQL
@@ -63,15 +63,15 @@ else
     check "PostgreSQL: the examples of the documents" "$root/.ci/examples" sql
     check "PostgreSQL: a planted false result in the documents is seen" python3 "$root/.ci/test_examples" Examples.test_sql
     check "PostgreSQL: make installcheck" postgresql_regress
-    check "PostgreSQL: the rows, and tags of the registry beside a plain reading of it" in_postgresql test_rows.py "$root"
-    check "PostgreSQL: ranges by each scan" in_postgresql test_ranges.py
-    check "PostgreSQL: faults, lengths, memory, dump and restore" in_postgresql test_faults.py
+    check "PostgreSQL: the rows, and tags of the registry beside a plain reading of it" in_postgresql test_rows
+    check "PostgreSQL: ranges by each scan" in_postgresql test_ranges
+    check "PostgreSQL: faults, lengths, memory, dump and restore" in_postgresql test_faults
     needs '[ -f "$("$pg_config" --sharedir)/extension/postgres_fdw.control" ]' "there is no postgres_fdw" \
-        "PostgreSQL: two shards and a hub" in_postgresql test_shards.py
+        "PostgreSQL: two shards and a hub" in_postgresql test_shards
     check "PostgreSQL: a release with another registry installs" postgresql_later
-    check "PostgreSQL: an owner gets no rights by the scripts of the extension" in_postgresql test_privileges.py
+    check "PostgreSQL: an owner gets no rights by the scripts of the extension" in_postgresql test_privileges
     needs '[ -f "$("$pg_config" --sharedir)/extension/amcheck.control" ]' "there is no amcheck" \
-        "PostgreSQL: the update to another registry" in_postgresql test_update.py
+        "PostgreSQL: the update to another registry" in_postgresql test_update
     check "PostgreSQL: SQL says whether the library is proved, and the versions of the program" postgresql_proved
     needs '[ -d "$work/clone" ]' "there is no cargo" "PostgreSQL: a clone installs by cargo" postgresql_clone
     check "PostgreSQL: planted faults are found by make installcheck" postgresql_wrong

@@ -1,12 +1,11 @@
-#!/usr/bin/env python3
-"""Compares the examples in C and Python that answer requests: test_examples.py NEGOTIATE, where NEGOTIATE is the C program. Both
+"""Compares the examples in C and Python that answer requests. PROGRAM names the C program. Both
 get the same headers, and have to give the same answers."""
 import contextlib
 import http.client
+import os
 import socket
 import subprocess
 import sys
-import time
 import unittest
 
 import negotiate
@@ -48,15 +47,10 @@ class Examples(unittest.TestCase):
     def test_servers(self):
         wanted = [(200, tag, negotiate.GREETINGS[tag] + "\n") for _, tag in HEADERS]
         self.assertEqual(answers([sys.executable, negotiate.__file__, "0"]), wanted)
-        self.assertEqual(answers([NEGOTIATE, "0"]), wanted)
+        self.assertEqual(answers([os.environ["PROGRAM"], "0"]), wanted)
 
     def test_who_waits_and_who_sends_a_nul(self):
-        with serving([NEGOTIATE, "0"]) as port, socket.create_connection(("127.0.0.1", port)):  # a client that sends nothing
+        with serving([os.environ["PROGRAM"], "0"]) as port, socket.create_connection(("127.0.0.1", port)):  # a client that sends nothing
             with socket.create_connection(("127.0.0.1", port), timeout=20) as client:
                 client.sendall(b"GET / HTTP/1.1\r\nAccept-Language: de\0\r\nAccept-Language: fr\r\n\r\n")
                 self.assertIn(b"Content-Language: en\r\n", client.makefile("rb").read())
-
-
-if __name__ == "__main__":
-    NEGOTIATE = sys.argv[1]
-    unittest.main(argv=sys.argv[:1])

@@ -1,8 +1,8 @@
-#!/usr/bin/env python3
-"""Tests the examples in which a user picks a language: test_sites.py PLAYER, where PLAYER is the program built from player.cc.
+"""Tests the examples in which a user picks a language. PROGRAM names the program built from player.cc.
 Without Flask, its test is left out, and the output says so. The middleware for Django is called with its settings and with a request that
 has only headers, so Django need not be there."""
 import importlib
+import os
 import subprocess
 import sys
 import types
@@ -31,9 +31,9 @@ PAGES = [
 class Sites(unittest.TestCase):
     def test_player(self):
         for wishes, audio, subtitles, picked in TRACKS:
-            run = subprocess.run([PLAYER, wishes, audio, subtitles], capture_output=True, text=True, check=True)
+            run = subprocess.run([os.environ["PROGRAM"], wishes, audio, subtitles], capture_output=True, text=True, check=True)
             self.assertEqual(run.stdout, picked + "\n")
-        self.assertEqual(subprocess.run([PLAYER], capture_output=True).returncode, 2)
+        self.assertEqual(subprocess.run([os.environ["PROGRAM"]], capture_output=True).returncode, 2)
 
     @unittest.skipUnless(flask_site, "Flask is not there")
     def test_flask(self):
@@ -55,8 +55,3 @@ class Sites(unittest.TestCase):
         for header, code in [("zh-TW, en;q=0.9", "zh-hant"), ("gsw", "de"), ("de_CH", "de"), ("tlh, *;q=0.1", "en"), ("ja", "en"), ("", "en"), (None, "en")]:
             request = types.SimpleNamespace(META={} if header is None else {"HTTP_ACCEPT_LANGUAGE": header})
             self.assertEqual(middleware(request), code)
-
-
-if __name__ == "__main__":
-    PLAYER = sys.argv.pop(1)
-    unittest.main()

@@ -1,8 +1,7 @@
-#!/usr/bin/env python3
-"""Tests the subtitle editor: test_subtitles.py SUBTITLES, where SUBTITLES is the program built from subtitles.cc."""
+"""Tests the subtitle editor. PROGRAM names the program built from subtitles.cc."""
+import os
 import pathlib
 import subprocess
-import sys
 import tempfile
 import unittest
 
@@ -62,7 +61,7 @@ class Subtitles(unittest.TestCase):
         self.path.write_text(text, encoding="utf-8")
 
     def run_program(self, command, *words):
-        run = subprocess.run([PROGRAM, command, self.path, *words], capture_output=True, text=True, encoding="utf-8")
+        run = subprocess.run([os.environ["PROGRAM"], command, self.path, *words], capture_output=True, text=True, encoding="utf-8")
         return run.returncode, run.stdout, run.stderr.replace(str(self.path), "NAME")
 
     def test_list(self):
@@ -96,8 +95,3 @@ class Subtitles(unittest.TestCase):
     def test_usage(self):
         for words in (["sort"], ["list", "de_CH"], ["set", "de", "skript", "Latn"], ["pick"]):
             self.assertEqual(self.run_program(*words)[0], 2)
-
-
-if __name__ == "__main__":
-    PROGRAM = sys.argv[1]
-    unittest.main(argv=sys.argv[:1])

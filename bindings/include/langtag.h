@@ -1,3 +1,4 @@
+/* Written by bindings/generate.py from langtag.h.in and crates/langtag_c. Do not edit. */
 /*
  * langtag: language tags and language ranges by BCP 47 (RFC 5646 and RFC 4647).
  *
@@ -78,7 +79,7 @@ enum langtag_kind_answer {
     LANGTAG_IRREGULAR = 3    /* rule irregular: one of seventeen, such as i-klingon */
 };
 
-/* A span of a string: `len` bytes from the offset `start` on. An absent part has the length 0. */
+/* A span of a string: the offset of its first byte, and its number of bytes. An absent part has no bytes. */
 typedef struct langtag_span {
     size_t start;
     size_t len;
@@ -99,9 +100,9 @@ typedef struct langtag_parts {
  *
  * All of `parts` is written, even if the result is LANGTAG_NONE. No span reaches beyond the string.
  *
- *   - For a normal tag, an absent part has the length 0, and starts at the end of the part before it.
- *   - For a private-use tag such as x-fr-CH, `private_use` is the whole string, and all other members are 0.
- *   - For an irregular tag, and for a string that is not a tag, all members are 0.
+ * - For a normal tag, an absent part has the length 0, and starts at the end of the part before it.
+ * - For a private-use tag such as x-fr-CH, `private_use` is the whole string, and all other members are 0.
+ * - For an irregular tag, and for a string that is not a tag, all members are 0.
  */
 uint32_t langtag_parse(const char *bytes, size_t len, langtag_parts *parts);
 
@@ -110,13 +111,14 @@ LANGTAG_PURE uint32_t langtag_kind(const char *bytes, size_t len);
 
 /*
  * Returns the length of a tag without its extensions and private use, which is 10 for de-CH-1996-u-co-phonebk-x-mine.
- * A private-use tag and an irregular tag have no extensions, so this is their length. Returns 0 for bytes that are not a tag.
+ * A private-use tag and an irregular tag have no extensions, so this is their length. Returns 0 for bytes that are not
+ * a tag.
  */
 LANGTAG_PURE size_t langtag_base_len(const char *bytes, size_t len);
 
 /*
- * Returns the length of the longest prefix with which some tag begins: 3 for "i-no" and for "en-". It is `len` if and only if the
- * string is a tag, or more bytes can make it one.
+ * Returns the length of the longest prefix with which some tag begins: 3 for "i-no" and for "en-". It is `len` if and
+ * only if the string is a tag, or more bytes can make it one.
  */
 LANGTAG_PURE size_t langtag_viable_len(const char *bytes, size_t len);
 
@@ -135,42 +137,45 @@ enum langtag_refused_answer {
 };
 
 /*
- * Returns why a string is not a tag, as an enum langtag_refused_answer. Writes the wrong subtag (out) and the offset to
- * point at (out).
+ * Returns why a string is not a tag, as an enum langtag_refused_answer. Writes the wrong subtag (out) and the offset
+ * to point at (out).
  *
  *     langtag_span subtag;
  *     size_t offset;
  *     langtag_refused("de-419-DE", 9, &subtag, &offset);
  *     printf("%.*s %zu\n", (int)subtag.len, "de-419-DE" + subtag.start, offset); // DE 7
  *
- * The subtag is the first wrong one: no tag begins with the whole subtags up to and including this one. The offset is the start of
- * the subtag, or for LANGTAG_REFUSED_BYTE its first byte that is neither a letter nor a digit. For LANGTAG_REFUSED_NONE and
- * LANGTAG_REFUSED_END the subtag is empty, and subtag and offset are at the end of the string.
+ * The subtag is the first wrong one: no tag begins with the whole subtags up to and including this one. The offset is
+ * the start of the subtag, or for LANGTAG_REFUSED_BYTE its first byte that is neither a letter nor a digit. For
+ * LANGTAG_REFUSED_NONE and LANGTAG_REFUSED_END the subtag is empty, and subtag and offset are at the end of the
+ * string.
  */
 uint32_t langtag_refused(const char *bytes, size_t len, langtag_span *subtag, size_t *offset);
 
 /*
- * Returns whether two strings are equal, ignoring case, which has no meaning in tags (RFC 5646 section 2.1.1). They may be any
- * bytes.
+ * Returns whether two strings are equal, ignoring case, which has no meaning in tags (RFC 5646 section 2.1.1). They
+ * may be any bytes.
  */
 LANGTAG_PURE bool langtag_eq(const char *a, size_t a_len, const char *b, size_t b_len);
 
 /*
- * Compares two strings, ignoring case: returns -1, 0 or 1, and 0 if and only if langtag_eq returns true. They may be any bytes.
+ * Compares two strings, ignoring case: returns -1, 0 or 1, and 0 if and only if langtag_eq returns true. They may be
+ * any bytes.
  *
- * A string sorts after every longer string that begins with it: zh sorts after zh-Latn. For alphabetical order (de before
- * de-AT), change copies with langtag_fold, and compare these as strings.
+ * A string sorts after every longer string that begins with it: zh sorts after zh-Latn. For alphabetical order (de
+ * before de-AT), change copies with langtag_fold, and compare these as strings.
  */
 LANGTAG_PURE int32_t langtag_cmp(const char *a, size_t a_len, const char *b, size_t b_len);
+
+#define LANGTAG_HASH UINT64_C(0xcbf29ce484222325)
 
 /*
  * Returns the 64-bit FNV-1a hash of a string in lowercase. `state` is LANGTAG_HASH, or the hash of the bytes that come
  * before the string in a longer key.
  *
- * An attacker who controls the strings can cause collisions. To prevent that, change a copy with langtag_fold and use a
- * keyed hash.
+ * An attacker who controls the strings can cause collisions. To prevent that, change a copy with langtag_fold and use
+ * a keyed hash.
  */
-#define LANGTAG_HASH UINT64_C(0xcbf29ce484222325)
 LANGTAG_PURE uint64_t langtag_hash(uint64_t state, const char *bytes, size_t len);
 
 /* Changes the ASCII uppercase letters among any bytes to lowercase, in place. */
@@ -180,8 +185,8 @@ void langtag_fold(char *bytes, size_t len);
  * Changes a string to the case that RFC 5646 section 2.1.1 recommends, in place: zh-hant-tw becomes zh-Hant-TW.
  *
  * Letters become lowercase, except in subtags of two bytes, which become uppercase (CH), and of four bytes, which get
- * one uppercase letter (Latn). The exceptions do not apply to the first subtag, or to any subtag that comes after a subtag of one
- * byte. The string may be any bytes. A tag keeps its kind, and its parts keep their offsets.
+ * one uppercase letter (Latn). The exceptions do not apply to the first subtag, or to any subtag that comes after a
+ * subtag of one byte. The string may be any bytes. A tag keeps its kind, and its parts keep their offsets.
  */
 void langtag_recommend(char *bytes, size_t len);
 
@@ -197,9 +202,9 @@ void langtag_recommend(char *bytes, size_t len);
  *     while (langtag_next_subtag(text, len, &rest, &variant))
  *         printf("%.*s ", (int)variant.len, text + variant.start); // rozaj 1994
  *
- * Returns false if and only if `rest` is empty or reaches beyond the string, and then leaves both spans unchanged. So an
- * empty subtag after the last hyphen is not returned: "a-" has one subtag. In "a--b", the second of three subtags is
- * empty.
+ * Returns false if and only if `rest` is empty or reaches beyond the string, and then leaves both spans unchanged. So
+ * an empty subtag after the last hyphen is not returned: "a-" has one subtag. In "a--b", the second of three subtags
+ * is empty.
  */
 bool langtag_next_subtag(const char *bytes, size_t len, langtag_span *rest, langtag_span *subtag);
 
@@ -211,15 +216,16 @@ bool langtag_next_subtag(const char *bytes, size_t len, langtag_span *rest, lang
 bool langtag_next_extension(const char *bytes, size_t len, langtag_span *rest, langtag_span *extension);
 
 /*
- * Returns whether the extension u has a key (RFC 6067 section 2.1), ignoring case, and writes where its value is (out).
+ * Returns whether the extension u has a key (RFC 6067 section 2.1), ignoring case, and writes where its value is
+ * (out).
  *
  *     const char *text = "ar-EG-u-ca-islamic-civil-nu-latn";
  *     langtag_span value;
  *     if (langtag_keyword(text, strlen(text), "ca", 2, &value))
  *         printf("%.*s\n", (int)value.len, text + value.start); // islamic-civil
  *
- * The value is empty if the key has none, such as kn in de-u-kn. An empty value means true. If a key or the extension is
- * repeated, the first one counts.
+ * The value is empty if the key has none, such as kn in de-u-kn. An empty value means true. If a key or the extension
+ * is repeated, the first one counts.
  *
  * Returns false and leaves `value` unchanged if the key is absent, or the string is not a tag.
  */
@@ -227,8 +233,8 @@ bool langtag_keyword(const char *bytes, size_t len, const char *key, size_t key_
 
 /*
  * Writes where the key and the value of the next keyword of the extension u are (out). The value may be empty. Each
- * key is returned once, with its first value. `passed` counts the subtags of u that were passed. Begin with 0, and
- * let the calls change it:
+ * key is returned once, with its first value. `passed` counts the subtags of u that were passed. Begin with 0, and let
+ * the calls change it:
  *
  *     const char *text = "ar-u-ca-islamic-civil-nu-latn";
  *     size_t passed = 0, len = strlen(text);
@@ -242,16 +248,17 @@ bool langtag_next_keyword(const char *bytes, size_t len, size_t *passed, langtag
 
 /*
  * Writes where the attributes of the extension u are (out), which come before its first key (RFC 6067 section 2.1):
- * attr-foo in de-u-attr-foo-ca-buddhist. langtag_next_subtag returns them one by one. A repeated attribute, which has no meaning,
- * is returned too.
+ * attr-foo in de-u-attr-foo-ca-buddhist. langtag_next_subtag returns them one by one. A repeated attribute, which has
+ * no meaning, is returned too.
  *
  * Returns false, and writes an empty span, if there are none.
  */
 bool langtag_attributes(const char *bytes, size_t len, langtag_span *attributes);
 
 /*
- * Returns whether a tag has the extension t (RFC 6497 section 2.2), and writes where the language of t is (out), before its first
- * field: ja-latn in und-t-ja-latn-m0-hepburn. The language is empty if there is none, and it need not be a tag.
+ * Returns whether a tag has the extension t (RFC 6497 section 2.2), and writes where the language of t is (out),
+ * before its first field: ja-latn in und-t-ja-latn-m0-hepburn. The language is empty if there is none, and it need not
+ * be a tag.
  *
  * Returns false and leaves `language` unchanged if there is no t.
  */
@@ -285,16 +292,15 @@ enum langtag_part {
  * written. A size of tag_len + text_len + 1 is always enough. No NUL is written, and bytes after the new tag are left
  * unchanged.
  *
- * Returns 0 and writes nothing if the tag is not LANGTAG_NORMAL, if `part` is not a value of enum langtag_part, or if the string is
- * not such a part: Latin is not a script. The language cannot be removed.
+ * Returns 0 and writes nothing if the tag is not LANGTAG_NORMAL, if `part` is not a value of enum langtag_part, or if
+ * the string is not such a part: Latin is not a script. The language cannot be removed.
  */
 size_t langtag_with_part(const char *tag, size_t tag_len, uint32_t part, const char *text, size_t text_len,
                          char *buffer, size_t buffer_len);
 
 /*
  * Writes a normal tag with a value of a key of the extension u to `buffer` (RFC 6067 section 2.1), and returns the
- * length of the new tag. An empty value means true: the key then has no value. langtag_without_keyword removes a
- * key.
+ * length of the new tag. An empty value means true: the key then has no value. langtag_without_keyword removes a key.
  *
  *     char buffer[64];
  *     size_t len = langtag_with_keyword("th-u-ca-gregory-nu-thai", 23, "ca", 2, "buddhist", 8, buffer, sizeof buffer);
@@ -309,10 +315,10 @@ size_t langtag_with_part(const char *tag, size_t tag_len, uint32_t part, const c
  *
  * Returns 0 and writes nothing in three cases. To find out which, ask in this order:
  *
- *   1. The key, such as c4, does not consist of a letter or digit and then a letter:
- *      langtag_without_keyword("und", 3, key, key_len, buffer, 0) returns 0.
- *   2. A subtag of the value does not have three to eight letters or digits: this call with the tag "und" returns 0.
- *   3. Otherwise the tag is not LANGTAG_NORMAL, and has no place for a keyword.
+ * 1. The key, such as c4, does not consist of a letter or digit and then a letter: langtag_without_keyword("und", 3,
+ *    key, key_len, buffer, 0) returns 0.
+ * 2. A subtag of the value does not have three to eight letters or digits: this call with the tag "und" returns 0.
+ * 3. Otherwise the tag is not LANGTAG_NORMAL, and has no place for a keyword.
  */
 size_t langtag_with_keyword(const char *tag, size_t tag_len, const char *key, size_t key_len, const char *value,
                             size_t value_len, char *buffer, size_t buffer_len);
@@ -330,32 +336,32 @@ size_t langtag_without_keyword(const char *tag, size_t tag_len, const char *key,
 
 /*
  * Writes a tag with its extensions u and t in canonical form to `buffer` (UTS #35, part 1, Annex C), and returns its
- * length: en-u-nu-thai-ca-gregory-kn-true becomes en-u-ca-gregory-kn-nu-thai. If the buffer is too short, its bytes are
- * unspecified, and the result is the size that is needed.
+ * length: en-u-nu-thai-ca-gregory-kn-true becomes en-u-ca-gregory-kn-nu-thai. If the buffer is too short, its bytes
+ * are unspecified, and the result is the size that is needed.
  *
  *     char buffer[64];
  *     size_t len = langtag_extensions_form("de-u-CO-phonebk-ca-islamicc", 27, buffer, sizeof buffer);
  *     if (len > 0 && len <= sizeof buffer) printf("%.*s\n", (int)len, buffer); // de-u-ca-islamic-civil-co-phonebk
  *
- * Attributes, keywords and fields are put in alphabetical order, each once and in lowercase. If a key is repeated,
- * its first value counts. Types and subdivisions that CLDR replaces become their replacements. The value true is
- * left out of u. The variants in the language of t are put in alphabetical order.
+ * Attributes, keywords and fields are put in alphabetical order, each once and in lowercase. If a key is repeated, its
+ * first value counts. Types and subdivisions that CLDR replaces become their replacements. The value true is left out
+ * of u. The variants in the language of t are put in alphabetical order.
  *
- * All other bytes stay, and so does a tag without these extensions. Only the first u and the first t are changed. A
- * t that UTS #35 does not allow, such as t-m0, stays as it is. The order of the extensions stays, too;
- * langtag_canonical sorts them.
+ * All other bytes stay, and so does a tag without these extensions. Only the first u and the first t are changed. A t
+ * that UTS #35 does not allow, such as t-m0, stays as it is. The order of the extensions stays, too; langtag_canonical
+ * sorts them.
  *
- * Time is quadratic beyond 512 attributes, or variants in the language of t: up to 4 s for 1 MB. The form may be longer
- * than the tag.
+ * Time is quadratic beyond 512 attributes, or variants in the language of t: up to 4 s for 1 MB. The form may be
+ * longer than the tag.
  *
  * Returns 0 and writes nothing if the string is not a tag.
  */
 size_t langtag_extensions_form(const char *bytes, size_t len, char *buffer, size_t buffer_len);
 
 /*
- * Returns whether a string is a Unicode locale identifier (UTS #35, part 1, section "Unicode Locale Identifier"), as Intl
- * of JavaScript requires: true for de-1996-u-co-phonebk, false for x-a, i-klingon, zh-yue and und-t-m0, which are tags,
- * and for a string that is not a tag.
+ * Returns whether a string is a Unicode locale identifier (UTS #35, part 1, section "Unicode Locale Identifier"), as
+ * Intl of JavaScript requires: true for de-1996-u-co-phonebk, false for x-a, i-klingon, zh-yue and und-t-m0, which are
+ * tags, and for a string that is not a tag.
  *
  * The language has two, three, or five to eight letters, and no extended language. No variant and no singleton is
  * repeated. Each key of u ends with a letter. In t, the language meets the same rules, and each field has a value.
@@ -365,18 +371,18 @@ size_t langtag_extensions_form(const char *bytes, size_t len, char *buffer, size
 LANGTAG_PURE bool langtag_is_locale(const char *bytes, size_t len);
 
 /*
- * Writes the canonical form of a tag as a Unicode locale identifier to `buffer` (UTS #35, part 1, Annex C), and returns its
- * length: eng becomes en, ger-UK becomes de-GB, and sh becomes sr-Latn. If the buffer is too short, its bytes are
- * unspecified, and the result is the size that is needed.
+ * Writes the canonical form of a tag as a Unicode locale identifier to `buffer` (UTS #35, part 1, Annex C), and
+ * returns its length: eng becomes en, ger-UK becomes de-GB, and sh becomes sr-Latn. If the buffer is too short, its
+ * bytes are unspecified, and the result is the size that is needed.
  *
  *     char buffer[64];
  *     size_t len = langtag_locale_form("ger-UK-u-ca-islamicc", 20, buffer, sizeof buffer);
  *     if (len > 0 && len <= sizeof buffer) printf("%.*s\n", (int)len, buffer); // de-GB-u-ca-islamic-civil
  *
- * CLDR's aliases replace the language, the script, the region and the variants. Variants are put in alphabetical order,
- * and extensions in the order of their singletons. u and t get the form of langtag_extensions_form. The script is in
- * titlecase, the region in uppercase, and everything else in lowercase. sgn-NO becomes nsl, as in the IANA registry,
- * where CLDR has nsi.
+ * CLDR's aliases replace the language, the script, the region and the variants. Variants are put in alphabetical
+ * order, and extensions in the order of their singletons. u and t get the form of langtag_extensions_form. The script
+ * is in titlecase, the region in uppercase, and everything else in lowercase. sgn-NO becomes nsl, as in the IANA
+ * registry, where CLDR has nsi.
  *
  * A tag that is not a Unicode locale identifier is replaced first. A tag with a Preferred-Value in the IANA registry
  * becomes that value: i-klingon becomes tlh. In any other tag, a registered extended language replaces the language
@@ -384,7 +390,8 @@ LANGTAG_PURE bool langtag_is_locale(const char *bytes, size_t len);
  *
  * Time is quadratic beyond 512 variants or attributes: up to 4 s for 1 MB.
  *
- * Returns 0 and writes nothing if the tag has no form, such as x-a, i-default and und-t-m0, or if the string is not a tag.
+ * Returns 0 and writes nothing if the tag has no form, such as x-a, i-default and und-t-m0, or if the string is not a
+ * tag.
  */
 size_t langtag_locale_form(const char *bytes, size_t len, char *buffer, size_t buffer_len);
 
@@ -422,23 +429,23 @@ enum langtag_validity_answer {
 };
 
 /*
- * Returns whether a tag is valid (RFC 5646 section 2.2.9), as an enum langtag_validity_answer, and writes where its first invalid
- * subtag is (out), which is empty if there is none.
+ * Returns whether a tag is valid (RFC 5646 section 2.2.9), as an enum langtag_validity_answer, and writes where its
+ * first invalid subtag is (out), which is empty if there is none.
  *
  *     langtag_span invalid;
  *     langtag_validity("qt-FR", 5, &invalid);
  *     printf("%.*s\n", (int)invalid.len, "qt-FR" + invalid.start); // qt
  *
- * A tag is valid if it is grandfathered, or if its language, extended language, script, region and variants are registered, it
- * has at most one extended language, and no variant or singleton is repeated. The registry is that of langtag_registry_date.
- * Deprecated subtags are valid. Whether a variant follows one of its prefixes is not checked.
+ * A tag is valid if it is grandfathered, or if its language, extended language, script, region and variants are
+ * registered, it has at most one extended language, and no variant or singleton is repeated. The registry is that of
+ * langtag_registry_date. Deprecated subtags are valid. Whether a variant follows one of its prefixes is not checked.
  */
 uint32_t langtag_validity(const char *bytes, size_t len, langtag_span *invalid);
 
 /*
- * Writes the registered code that is probably meant by a subtag that is not registered, and returns its length, which is 2 or 3:
- * de for the language deu or ger, GB for the region UK, US for 840. `fault` is what langtag_validity returned, and `subtag` the
- * invalid subtag.
+ * Writes the registered code that is probably meant by a subtag that is not registered, and returns its length, which
+ * is 2 or 3: de for the language deu or ger, GB for the region UK, US for 840. `fault` is what langtag_validity
+ * returned, and `subtag` the invalid subtag.
  *
  *     langtag_span invalid;
  *     uint32_t fault = langtag_validity("ger-AT", 6, &invalid);
@@ -446,16 +453,17 @@ uint32_t langtag_validity(const char *bytes, size_t len, langtag_span *invalid);
  *     size_t len = langtag_suggestion(fault, "ger-AT" + invalid.start, invalid.len, code, sizeof code);
  *     if (len > 0) printf("did you mean %.*s?\n", (int)len, code); // did you mean de?
  *
- * The codes are from the aliases of Unicode's CLDR. Returns 0 and writes nothing if the aliases have no code for the subtag, or
- * more than one region, or if a script or a region comes with the language. Also returns 0 if `fault` is neither LANGTAG_INVALID_LANGUAGE
- * nor LANGTAG_INVALID_REGION. If `buffer` is too short, nothing is written, and the result is the size that is needed. No NUL is
- * written.
+ * The codes are from the aliases of Unicode's CLDR. Returns 0 and writes nothing if the aliases have no code for the
+ * subtag, or more than one region, or if a script or a region comes with the language. Also returns 0 if `fault` is
+ * neither LANGTAG_INVALID_LANGUAGE nor LANGTAG_INVALID_REGION. If `buffer` is too short, nothing is written, and the
+ * result is the size that is needed. No NUL is written.
  */
 size_t langtag_suggestion(uint32_t fault, const char *subtag, size_t subtag_len, char *buffer, size_t buffer_len);
 
 /*
- * Writes the canonical form of a tag to `buffer` (RFC 5646 section 4.5), and returns its length: iw becomes he, zh-yue becomes
- * yue, art-lojban becomes jbo, en-b-ccc-a-aaa becomes en-a-aaa-b-ccc. The registry is that of langtag_registry_date.
+ * Writes the canonical form of a tag to `buffer` (RFC 5646 section 4.5), and returns its length: iw becomes he, zh-yue
+ * becomes yue, art-lojban becomes jbo, en-b-ccc-a-aaa becomes en-a-aaa-b-ccc. The registry is that of
+ * langtag_registry_date.
  *
  *     char buffer[64];
  *     size_t len = langtag_canonical("en-BU", 5, buffer, sizeof buffer);
@@ -475,14 +483,14 @@ size_t langtag_suggestion(uint32_t fault, const char *subtag, size_t subtag_len,
 size_t langtag_canonical(const char *bytes, size_t len, char *buffer, size_t buffer_len);
 
 /*
- * Returns whether a string is a tag that equals its canonical form, ignoring case: true for HE and x-iw, false for iw, for
- * en-b-ccc-a-aaa, and for a string that is not a tag.
+ * Returns whether a string is a tag that equals its canonical form, ignoring case: true for HE and x-iw, false for iw,
+ * for en-b-ccc-a-aaa, and for a string that is not a tag.
  */
 LANGTAG_PURE bool langtag_is_canonical(const char *bytes, size_t len);
 
 /*
- * Returns the date of the IANA registry inside this library (its File-Date, RFC 5646 section 3.1.1) as one number: year, month
- * and day, so that 20250131 is 2025-01-31. A later date is a greater number.
+ * Returns the date of the IANA registry inside this library (its File-Date, RFC 5646 section 3.1.1) as one number:
+ * year, month and day, so that 20250131 is 2025-01-31. A later date is a greater number.
  */
 LANGTAG_PURE uint32_t langtag_registry_date(void);
 
@@ -512,9 +520,9 @@ size_t langtag_maximized(const char *bytes, size_t len, char *buffer, size_t buf
 size_t langtag_minimized(const char *bytes, size_t len, char *buffer, size_t buffer_len);
 
 /*
- * Writes the parent of a tag in CLDR to `buffer` (UTS #35, part 1, Parent Locales), and returns its length: pt-PT for pt-AO,
- * zh-Hant for zh-TW. If a catalogue has no string for a tag, it looks for the parent of the tag next. The data are those of
- * langtag_cldr_version. As with langtag_canonical, nothing is written if the buffer is too short.
+ * Writes the parent of a tag in CLDR to `buffer` (UTS #35, part 1, Parent Locales), and returns its length: pt-PT for
+ * pt-AO, zh-Hant for zh-TW. If a catalogue has no string for a tag, it looks for the parent of the tag next. The data
+ * are those of langtag_cldr_version. As with langtag_canonical, nothing is written if the buffer is too short.
  *
  *     char tags[2][64] = {"pt-AO"};
  *     size_t len = 5;
@@ -523,38 +531,40 @@ size_t langtag_minimized(const char *bytes, size_t len, char *buffer, size_t buf
  *         len = langtag_parent(tags[at], len, tags[!at], sizeof tags[!at]);
  *     }
  *
- * A parent is written in the same script, so zh-Hant has none: zh is Simplified. Extensions and private use are removed first,
- * then each variant, the last one first, then the region. A script is only removed if it is the likely script of the language.
- * The tag should be in its canonical form, as CLDR does not list deprecated or extended languages. Case is ignored.
+ * A parent is written in the same script, so zh-Hant has none: zh is Simplified. Extensions and private use are
+ * removed first, then each variant, the last one first, then the region. A script is only removed if it is the likely
+ * script of the language. The tag should be in its canonical form, as CLDR does not list deprecated or extended
+ * languages. Case is ignored.
  *
  * Returns 0 and writes nothing if the tag has no parent, such as pt and x-a, or if the string is not a tag.
  */
 size_t langtag_parent(const char *bytes, size_t len, char *buffer, size_t buffer_len);
 
 /*
- * Returns whether a tag is written from right to left, by its script or, if it has none, by its likely script: true for he,
- * pa-PK and az-Arab, false for ar-Latn, for und, for a private-use tag, and for a string that is not a tag.
+ * Returns whether a tag is written from right to left, by its script or, if it has none, by its likely script: true
+ * for he, pa-PK and az-Arab, false for ar-Latn, for und, for a private-use tag, and for a string that is not a tag.
  */
 LANGTAG_PURE bool langtag_is_right_to_left(const char *bytes, size_t len);
+
+#define LANGTAG_NO_DISTANCE UINT32_MAX
 
 /*
  * Returns the distance from the tag that a reader desires to a supported tag (UTS #35, part 1, Language Matching): 0
  * from zh-TW to zh-Hant, 4 from de-AT to de, 10 from yue to zh-HK, 84 from de to en, and at most 134.
  *
  * Up to 15 the languages are nearly the same. Below 50 most readers of the desired language understand the supported
- * one. Languages and regions that CLDR replaces count as their replacements: iw counts as he, and ger and deu count
- * as de. Everything after the region is ignored, such as variants, extensions and private use: en-GB-oed counts as
- * en-GB. The distance is 255 if the tags differ and either of them is only und, is a private-use tag, or begins with
- * i-.
+ * one. Languages and regions that CLDR replaces count as their replacements: iw counts as he, and ger and deu count as
+ * de. Everything after the region is ignored, such as variants, extensions and private use: en-GB-oed counts as en-GB.
+ * The distance is 255 if the tags differ and either of them is only und, is a private-use tag, or begins with i-.
  *
  * Returns LANGTAG_NO_DISTANCE if one of the strings is not a tag.
  */
-#define LANGTAG_NO_DISTANCE UINT32_MAX
-LANGTAG_PURE uint32_t langtag_distance(const char *desired, size_t desired_len, const char *supported, size_t supported_len);
+LANGTAG_PURE uint32_t langtag_distance(const char *desired, size_t desired_len, const char *supported,
+                                       size_t supported_len);
 
 /*
- * Returns the index of the best tag for an Accept-Language header, or `tags_len` if none is suitable. The tags are spans of one
- * string. A span that is not a tag, or reaches beyond the string, is skipped.
+ * Returns the index of the best tag for an Accept-Language header, or `tags_len` if none is suitable. The tags are
+ * spans of one string. A span that is not a tag, or reaches beyond the string, is skipped.
  *
  *     const char *header = "zh-TW,zh;q=0.9,en;q=0.8", *have = "en zh-Hans zh-Hant";
  *     const langtag_span tags[] = {{0, 2}, {3, 7}, {11, 7}};
@@ -563,16 +573,16 @@ LANGTAG_PURE uint32_t langtag_distance(const char *desired, size_t desired_len, 
  *
  * Ranges are tried in order of weight. The first range with a tag at a distance below 16 wins, and its nearest tag is
  * chosen (langtag_distance). If there is no such range, the limit is 50, and after that, lookup is tried (RFC 4647
- * section 3.4). A tag whose longest matching range has the weight 0 is not chosen. A range "*" chooses nothing, so
- * the program's default is used. Among tags at the same distance, the best is the tag for which lookup removes the
- * fewest subtags from the range, then a tag with the most likely region of its language, then one of CLDR's paradigm
- * locales, such as es-419, then the first in the list. So list the tags in the order that you prefer.
+ * section 3.4). A tag whose longest matching range has the weight 0 is not chosen. A range "*" chooses nothing, so the
+ * program's default is used. Among tags at the same distance, the best is the tag for which lookup removes the fewest
+ * subtags from the range, then a tag with the most likely region of its language, then one of CLDR's paradigm locales,
+ * such as es-419, then the first in the list. So list the tags in the order that you prefer.
  *
  * Malformed elements are read leniently: _ is read as a hyphen, everything after ., @ or _# is dropped, and a weight
  * that is not a number counts as 1.
  *
- * Time is at most proportional to the length of the header times the length of the tags. Limit the header to 8 KiB, as most
- * servers do.
+ * Time is at most proportional to the length of the header times the length of the tags. Limit the header to 8 KiB, as
+ * most servers do.
  */
 LANGTAG_PURE size_t langtag_best_for_header(const char *header, size_t header_len, const char *bytes, size_t len,
                                             const langtag_span *tags, size_t tags_len);
@@ -593,8 +603,8 @@ typedef struct langtag_best_match {
  *     size_t best = langtag_match_for_header(header, strlen(header), have, strlen(have), tags, 2, &match);
  *     printf("%zu, for %.*s at %u\n", best, (int)match.range.len, header + match.range.start, match.distance); // 1, for gsw at 8
  *
- * If no tag is suitable, the range is empty, at the end of the header, and the distance is LANGTAG_NO_DISTANCE. `found` is always
- * written.
+ * If no tag is suitable, the range is empty, at the end of the header, and the distance is LANGTAG_NO_DISTANCE.
+ * `found` is always written.
  */
 size_t langtag_match_for_header(const char *header, size_t header_len, const char *bytes, size_t len,
                                 const langtag_span *tags, size_t tags_len, langtag_best_match *found);
@@ -604,42 +614,44 @@ size_t langtag_match_for_header(const char *header, size_t header_len, const cha
  * suitable. The ranges are spans of one string, and the tags are spans of another. The choice is that of
  * langtag_best_for_header if all ranges have the same weight.
  *
- * A range is read as in a header: zh_TW.UTF-8 is read as zh-TW, and sr_RS@latin as sr-RS. Call langtag_from_posix first for the
- * names in LANG and LANGUAGE. An extended range is read without its *: zh-*-Hant is read as zh-Hant. A span is skipped if it is not a range, such as de;q=0, or not a tag, or reaches beyond its text.
+ * A range is read as in a header: zh_TW.UTF-8 is read as zh-TW, and sr_RS@latin as sr-RS. Call langtag_from_posix
+ * first for the names in LANG and LANGUAGE. An extended range is read without its *: zh-*-Hant is read as zh-Hant. A
+ * span is skipped if it is not a range, such as de;q=0, or not a tag, or reaches beyond its text.
  */
-LANGTAG_PURE size_t langtag_best_for_ranges(const char *text, size_t text_len, const langtag_span *ranges, size_t ranges_len,
-                                            const char *bytes, size_t len, const langtag_span *tags, size_t tags_len);
+LANGTAG_PURE size_t langtag_best_for_ranges(const char *text, size_t text_len, const langtag_span *ranges,
+                                            size_t ranges_len, const char *bytes, size_t len, const langtag_span *tags,
+                                            size_t tags_len);
 
 /*
- * Writes the indices of the suitable tags for an Accept-Language header to `found` (out), best first, and returns their number:
- * the tag that langtag_best_for_header chooses, the tag that it chooses among the other tags, and so on, as long as one is
- * suitable. If there are more than `found_len`, it writes the best.
+ * Writes the indices of the suitable tags for an Accept-Language header to `found` (out), best first, and returns
+ * their number: the tag that langtag_best_for_header chooses, the tag that it chooses among the other tags, and so on,
+ * as long as one is suitable. If there are more than `found_len`, it writes the best.
  *
  *     const char *header = "de-CH,fr;q=0.7", *have = "en fr de de-AT";
  *     const langtag_span tags[] = {{0, 2}, {3, 2}, {6, 2}, {9, 5}};
  *     size_t found[4], count = langtag_suitable_for_header(header, strlen(header), have, strlen(have), tags, 4, found, 4);
  *     for (size_t i = 0; i < count; i++) printf("%zu ", found[i]); // 2 3 1
  *
- * The rest of the array stays unchanged. The time is that of langtag_best_for_header for each index, and of a comparison with
- * each earlier index for each tag, so `found_len` limits the time.
+ * The rest of the array stays unchanged. The time is that of langtag_best_for_header for each index, and of a
+ * comparison with each earlier index for each tag, so `found_len` limits the time.
  */
 size_t langtag_suitable_for_header(const char *header, size_t header_len, const char *bytes, size_t len,
                                    const langtag_span *tags, size_t tags_len, size_t *found, size_t found_len);
 
 /*
- * Writes the indices of the suitable tags for a list of language ranges, as langtag_suitable_for_header does for a header. Ranges
- * and tags are read as by langtag_best_for_ranges.
+ * Writes the indices of the suitable tags for a list of language ranges, as langtag_suitable_for_header does for a
+ * header. Ranges and tags are read as by langtag_best_for_ranges.
  */
 size_t langtag_suitable_for_ranges(const char *text, size_t text_len, const langtag_span *ranges, size_t ranges_len,
-                                   const char *bytes, size_t len, const langtag_span *tags, size_t tags_len, size_t *found,
-                                   size_t found_len);
+                                   const char *bytes, size_t len, const langtag_span *tags, size_t tags_len,
+                                   size_t *found, size_t found_len);
 
 /*
- * A tag of a site, with what a choice computes of it. It is plain data without pointers: it may be copied, stored, and shared by
- * threads. Set `tag`, and let langtag_prepare write the rest.
+ * A tag of a site, with what a choice computes of it. It is plain data without pointers: it may be copied, stored, and
+ * shared by threads. Set `tag`, and let langtag_prepare write the rest.
  */
 typedef struct langtag_prepared_tag {
-    langtag_span tag; /* in the string of the site */
+    langtag_span tag;   /* in the string of the site */
     uint64_t opaque[2];
 } langtag_prepared_tag;
 
@@ -654,22 +666,33 @@ typedef struct langtag_prepared_tag {
  *     size_t best = langtag_site_best_for_header(header, strlen(header), have, strlen(have), site, 3);
  *     printf("%zu\n", best); // 2
  *
- * Prepare the tags again if the string changes, or the version of the library. A span that is not a tag, or reaches beyond the
- * string, is never chosen.
+ * Prepare the tags again if the string changes, or the version of the library. A span that is not a tag, or reaches
+ * beyond the string, is never chosen.
  */
 void langtag_prepare(const char *bytes, size_t len, langtag_prepared_tag *tag);
 
 /*
- * Return what langtag_best_for_header, langtag_match_for_header and langtag_best_for_ranges return for the same string and the spans
- * of the tags. For 40 tags they take about 0.6 of the time, and for a few tags nearly as much. Each tag was prepared by
- * langtag_prepare for this string. A tag that was not is skipped: any values of `opaque` are safe.
+ * Returns what langtag_best_for_header returns for the same string and the spans of the tags. For 40 tags it takes
+ * about 0.6 of the time, and for a few tags nearly as much. Each tag was prepared by langtag_prepare for this string.
+ * A tag that was not is skipped: any values of `opaque` are safe.
  */
 LANGTAG_PURE size_t langtag_site_best_for_header(const char *header, size_t header_len, const char *bytes, size_t len,
                                                  const langtag_prepared_tag *tags, size_t tags_len);
+
+/*
+ * Returns what langtag_match_for_header returns, among tags that langtag_prepare prepared, as
+ * langtag_site_best_for_header does.
+ */
 size_t langtag_site_match_for_header(const char *header, size_t header_len, const char *bytes, size_t len,
                                      const langtag_prepared_tag *tags, size_t tags_len, langtag_best_match *found);
-LANGTAG_PURE size_t langtag_site_best_for_ranges(const char *text, size_t text_len, const langtag_span *ranges, size_t ranges_len,
-                                                 const char *bytes, size_t len, const langtag_prepared_tag *tags, size_t tags_len);
+
+/*
+ * Returns what langtag_best_for_ranges returns, among tags that langtag_prepare prepared, as
+ * langtag_site_best_for_header does.
+ */
+LANGTAG_PURE size_t langtag_site_best_for_ranges(const char *text, size_t text_len, const langtag_span *ranges,
+                                                 size_t ranges_len, const char *bytes, size_t len,
+                                                 const langtag_prepared_tag *tags, size_t tags_len);
 
 /*
  * Writes the tag for a POSIX locale name to `buffer` (IEEE Std 1003.1, section 8.2), and returns its length:
@@ -680,59 +703,64 @@ LANGTAG_PURE size_t langtag_site_best_for_ranges(const char *text, size_t text_l
  *
  * The codeset is dropped. The modifiers latin, cyrillic, devanagari, iqtelif, valencia, tarask, ijekavian,
  * ijekavianlatin and the codes of scripts are used, ignoring case. Other modifiers are dropped. If the only variant is
- * POSIX, ignoring case, and there are no extensions, it becomes the keyword va-posix: en_US_POSIX becomes en-US-u-va-posix.
+ * POSIX, ignoring case, and there are no extensions, it becomes the keyword va-posix: en_US_POSIX becomes
+ * en-US-u-va-posix.
  *
- * Returns 0 and writes nothing if language and territory do not form a tag (C), are POSIX, or have more than 255 bytes.
+ * Returns 0 and writes nothing if language and territory do not form a tag (C), are POSIX, or have more than 255
+ * bytes.
  */
 size_t langtag_from_posix(const char *name, size_t name_len, char *buffer, size_t buffer_len);
 
 /*
- * Writes the POSIX locale name for a tag to `buffer` (IEEE Std 1003.1, section 8.2), and returns its length, which is at most 28:
- * pt-BR becomes pt_BR, sr-Latn-RS becomes sr_RS@latin, ca-ES-valencia becomes ca_ES@valencia, and en-US-u-va-posix becomes
- * en_US_POSIX. As with langtag_canonical, nothing is written if the buffer is too short. The codeset is the caller's, as in
- * pt_BR.UTF-8. langtag_from_posix reads the name as the same tag, in its recommended case, without a script that was left out.
+ * Writes the POSIX locale name for a tag to `buffer` (IEEE Std 1003.1, section 8.2), and returns its length, which is
+ * at most 28: pt-BR becomes pt_BR, sr-Latn-RS becomes sr_RS@latin, ca-ES-valencia becomes ca_ES@valencia, and
+ * en-US-u-va-posix becomes en_US_POSIX. As with langtag_canonical, nothing is written if the buffer is too short. The
+ * codeset is the caller's, as in pt_BR.UTF-8. langtag_from_posix reads the name as the same tag, in its recommended
+ * case, without a script that was left out.
  *
  *     char name[28];
  *     size_t len = langtag_to_posix("zh-Hant-TW", 10, name, sizeof name);
  *     printf("%.*s\n", (int)len, name); // zh_TW
  *
- * A script is left out if it is the likely script of the language, both alone and with its region: en_US for en-Latn-US. A script
- * without a modifier is also left out if it is likely with the region. The modifiers are latin, cyrillic, devanagari, valencia,
- * tarask, ijekavian and ijekavianlatin.
+ * A script is left out if it is the likely script of the language, both alone and with its region: en_US for
+ * en-Latn-US. A script without a modifier is also left out if it is likely with the region. The modifiers are latin,
+ * cyrillic, devanagari, valencia, tarask, ijekavian and ijekavianlatin.
  *
- * Returns 0 and writes nothing if no name expresses the whole tag: another script or variant, an extended language, another
- * extension, private use, or a language of more than three letters. Also for und, and if the string is not a tag. To leave
- * extensions out, ask for the first langtag_base_len bytes of the tag.
+ * Returns 0 and writes nothing if no name expresses the whole tag: another script or variant, an extended language,
+ * another extension, private use, or a language of more than three letters. Also for und, and if the string is not a
+ * tag. To leave extensions out, ask for the first langtag_base_len bytes of the tag.
  */
 size_t langtag_to_posix(const char *bytes, size_t len, char *buffer, size_t buffer_len);
 
 /*
- * Returns whether langtag_from_posix drops the modifier of a name because it is not known, and writes where the modifier is (out):
- * foo in de_DE@foo. A program may want to refuse such a name, because de_DE becomes the same tag.
+ * Returns whether langtag_from_posix drops the modifier of a name because it is not known, and writes where the
+ * modifier is (out): foo in de_DE@foo. A program may want to refuse such a name, because de_DE becomes the same tag.
  *
- * Returns false and leaves `modifier` unchanged if there is no modifier, if langtag_from_posix reads it, or if it is not about
- * the language, such as euro.
+ * Returns false and leaves `modifier` unchanged if there is no modifier, if langtag_from_posix reads it, or if it is
+ * not about the language, such as euro.
  */
 bool langtag_unknown_modifier(const char *name, size_t name_len, langtag_span *modifier);
 
 /*
- * Writes the version of Unicode's CLDR inside this library to `buffer`, such as 48.2, and returns its length. Likely subtags,
- * distances and aliases come from that version. As with langtag_canonical, nothing is written if the buffer is too short.
+ * Writes the version of Unicode's CLDR inside this library to `buffer`, such as 48.2, and returns its length. Likely
+ * subtags, distances and aliases come from that version. As with langtag_canonical, nothing is written if the buffer
+ * is too short.
  */
 size_t langtag_cldr_version(char *buffer, size_t buffer_len);
+
+#define LANGTAG_GRANDFATHERED_COUNT 26u
 
 /*
  * Returns the number of a grandfathered tag, ignoring case, in the order of RFC 5646 section 2.1, or
  * LANGTAG_GRANDFATHERED_COUNT if the string is not one of the 26. A tag with a number below 17 is irregular, and the
  * others are regular:
  *
- *  0 en-GB-oed    1 i-ami        2 i-bnn          3 i-default    4 i-enochian   5 i-hak        6 i-klingon
- *  7 i-lux        8 i-mingo      9 i-navajo      10 i-pwn       11 i-tao       12 i-tay       13 i-tsu
- * 14 sgn-BE-FR   15 sgn-BE-NL   16 sgn-CH-DE
- * 17 art-lojban  18 cel-gaulish 19 no-bok        20 no-nyn      21 zh-guoyu    22 zh-hakka    23 zh-min
- * 24 zh-min-nan  25 zh-xiang
+ *    0 en-GB-oed    1 i-ami        2 i-bnn          3 i-default    4 i-enochian   5 i-hak        6 i-klingon
+ *    7 i-lux        8 i-mingo      9 i-navajo      10 i-pwn       11 i-tao       12 i-tay       13 i-tsu
+ *   14 sgn-BE-FR   15 sgn-BE-NL   16 sgn-CH-DE
+ *   17 art-lojban  18 cel-gaulish 19 no-bok        20 no-nyn      21 zh-guoyu    22 zh-hakka    23 zh-min
+ *   24 zh-min-nan  25 zh-xiang
  */
-#define LANGTAG_GRANDFATHERED_COUNT 26u
 LANGTAG_PURE uint32_t langtag_grandfathered(const char *bytes, size_t len);
 
 /* What langtag_range_kind returns (RFC 4647 section 2). */
@@ -763,8 +791,9 @@ LANGTAG_PURE bool langtag_matches_basic(const char *range, size_t range_len, con
 LANGTAG_PURE bool langtag_matches_extended(const char *range, size_t range_len, const char *tag, size_t tag_len);
 
 /*
- * Shortens `rest` to its next fallback in a lookup (RFC 4647 section 3.4); for a catalogue of strings, call langtag_parent instead.
- * It removes the last subtag, and each subtag of one byte that would then be last. Begin with the whole range:
+ * Shortens `rest` to its next fallback in a lookup (RFC 4647 section 3.4); for a catalogue of strings, call
+ * langtag_parent instead. It removes the last subtag, and each subtag of one byte that would then be last. Begin with
+ * the whole range:
  *
  *     const char *range = "zh-Hant-CN-x-private1";
  *     size_t len = strlen(range);
@@ -772,8 +801,8 @@ LANGTAG_PURE bool langtag_matches_extended(const char *range, size_t range_len, 
  *     while (langtag_next_fallback(range, len, &rest))
  *         printf("%.*s ", (int)rest.len, range + rest.start); // zh-Hant-CN zh-Hant zh
  *
- * Returns false if and only if no fallback is left, or `rest` is empty or reaches beyond the string, and then leaves `rest`
- * unchanged. It does not check that the string is a range; langtag_range_kind does.
+ * Returns false if and only if no fallback is left, or `rest` is empty or reaches beyond the string, and then leaves
+ * `rest` unchanged. It does not check that the string is a range; langtag_range_kind does.
  *
  * A lookup reads an extended range as the basic range without each "-*" (section 3.2). So remove each "-*" from a
  * fallback before you compare it: de-*-DE finds the tag de-DE, and then de. A range that begins with * finds nothing.
@@ -802,14 +831,14 @@ enum langtag_accepted_answer {
  *
  * `range` (out) is where the range is, and `weight` (out) its weight in thousandths: 1000 if none is given, and 0 for
  * "not acceptable". For a malformed element, `range` is everything between the commas, and `weight` is 0. The next
- * call continues after that element. So the loop above skips malformed elements. A strict program stops at a malformed element, and
- * refuses the header.
+ * call continues after that element. So the loop above skips malformed elements. A strict program stops at a malformed
+ * element, and refuses the header.
  *
- * The elements are returned in the order of the header. A lookup tries the greatest weight first, and ranges of
- * equal weight in the order of the header. So collect the ranges, and sort them by descending weight with a stable sort.
+ * The elements are returned in the order of the header. A lookup tries the greatest weight first, and ranges of equal
+ * weight in the order of the header. So collect the ranges, and sort them by descending weight with a stable sort.
  *
- * Returns LANGTAG_ACCEPTED_END if and only if only empty elements are left, or `rest` reaches beyond the string, and then
- * writes nothing.
+ * Returns LANGTAG_ACCEPTED_END if and only if only empty elements are left, or `rest` reaches beyond the string, and
+ * then writes nothing.
  */
 uint32_t langtag_next_accepted(const char *bytes, size_t len, langtag_span *rest, langtag_span *range,
                                uint32_t *weight);
@@ -823,9 +852,9 @@ uint32_t langtag_next_accepted(const char *bytes, size_t len, langtag_span *rest
  *     size_t index = langtag_tag_for_header_lenient(header, strlen(header), have, strlen(have), tags, 3);
  *     printf("%zu\n", index); // 1
  *
- * The ranges are looked up by descending weight, and ranges of equal weight in the order of the header. Ranges of weight
- * 0 are not looked up. A range finds the first tag that equals it, ignoring case. If there is none, its fallbacks are tried,
- * the longest first (langtag_next_fallback). So zh-TW does not find zh-Hant, though
+ * The ranges are looked up by descending weight, and ranges of equal weight in the order of the header. Ranges of
+ * weight 0 are not looked up. A range finds the first tag that equals it, ignoring case. If there is none, its
+ * fallbacks are tried, the longest first (langtag_next_fallback). So zh-TW does not find zh-Hant, though
  * langtag_best_for_header chooses it.
  *
  * To look up a list of ranges, in order of preference, remove each "-*" from them, and join them with commas.
@@ -839,10 +868,10 @@ LANGTAG_PURE size_t langtag_tag_for_header_lenient(const char *header, size_t he
  * Looks up a tag as langtag_tag_for_header_lenient does, but refuses a header with a malformed element. Returns an
  * enum langtag_accepted_answer.
  *
- *   - LANGTAG_ACCEPTED_END: no element is malformed. `index` (out) is what langtag_tag_for_header_lenient returns, and `bad` (out)
- *     is empty, at the end of the header.
- *   - Otherwise: the answer says what is wrong with the first malformed element. `index` is `tags_len`, and `bad` is
- *     the string of that element between its commas.
+ * - LANGTAG_ACCEPTED_END: no element is malformed. `index` (out) is what langtag_tag_for_header_lenient returns, and
+ *   `bad` (out) is empty, at the end of the header.
+ * - Otherwise: the answer says what is wrong with the first malformed element. `index` is `tags_len`, and `bad` is the
+ *   string of that element between its commas.
  */
 uint32_t langtag_tag_for_header(const char *header, size_t header_len, const char *bytes, size_t len,
                                 const langtag_span *tags, size_t tags_len, size_t *index, langtag_span *bad);

@@ -821,29 +821,35 @@ public:
     std::size_t size() const noexcept { return tags_.size(); }
 
     /* Returns the tag at an index, or std::nullopt if its string is not a tag. */
-    std::optional<tag> operator[](std::size_t index) const {
+    std::optional<tag> operator[](std::size_t index) const & {
         return tag::parse(std::string_view(text_).substr(tags_[index].tag.start, tags_[index].tag.len));
     }
 
+    std::optional<tag> operator[](std::size_t) const && = delete;
+
     /* Returns the best tag for a header, as langtag::best_for_header does. */
-    std::optional<tag> best_for_header(std::string_view header) const {
+    std::optional<tag> best_for_header(std::string_view header) const & {
         return at(langtag_site_best_for_header(langtag_bytes(header.data()), header.size(), text_.data(), text_.size(), tags_.data(),
                                                tags_.size()));
     }
 
+    std::optional<tag> best_for_header(std::string_view) const && = delete;
+
     /* Returns the best tag for a header with its index, range and distance, as langtag::match_for_header does. */
-    std::optional<best_match> match_for_header(std::string_view header) const {
+    std::optional<best_match> match_for_header(std::string_view header) const & {
         langtag_best_match match;
         const std::size_t index = langtag_site_match_for_header(langtag_bytes(header.data()), header.size(), text_.data(), text_.size(),
                                                                 tags_.data(), tags_.size(), &match);
         return langtag::matched(at(index), index, header, match);
     }
-    template <class Allocator> std::optional<best_match> match_for_header(temporary_string<Allocator>) const = delete;
+    std::optional<best_match> match_for_header(std::string_view) const && = delete;
+    template <class Allocator> std::optional<best_match> match_for_header(temporary_string<Allocator>) const & = delete;
 
     /* Returns the best tag for a list of ranges, as langtag::best_for_ranges does. */
-    template <class Ranges = texts> std::optional<tag> best_for_ranges(const Ranges &ranges) const {
+    template <class Ranges = texts> std::optional<tag> best_for_ranges(const Ranges &ranges) const & {
         return at(listed_tags(ranges).chosen_in(text_, tags_));
     }
+    template <class Ranges = texts> std::optional<tag> best_for_ranges(const Ranges &) const && = delete;
 
 private:
     std::optional<tag> at(std::size_t index) const { return index < tags_.size() ? (*this)[index] : std::nullopt; }

@@ -10,8 +10,9 @@
  *   or undefined is returned.
  * - If C removes one item after another, the list of all items is returned.
  * - If C writes numbers to an array, the list of the numbers that it wrote is returned. `room` is the length of the array.
+ * - `site`, which prepareSite of memory.js returns, is passed for a string and the prepared tags in it.
  */
-import { aligned, close, count, lengthOf, module, open, prepare, read, readSizes, size, SPAN, WORD, write, writeList, written } from "./memory.js";
+import { aligned, close, count, lengthOf, module, open, prepare, read, readSizes, size, SPAN, WORD, write, writeBytes, writeList, written } from "./memory.js";
 
 /** Returns [result, parts.language.start, parts.language.len, parts.script.start, parts.script.len, parts.region.start, parts.region.len, parts.variants.start, parts.variants.len, parts.extensions.start, parts.extensions.len, parts.private_use.start, parts.private_use.len]. */
 export function parse(bytes) {
@@ -370,6 +371,37 @@ export function suitableForRanges(ranges, tags, room) {
     const at1 = writeList(ranges, at0, rangesAt);
     writeList(tags, at1, tagsAt);
     return close(readSizes(foundAt, count(module.calls.langtag_suitable_for_ranges(module.begin, size(rangesLength), size(rangesAt), size(ranges.length), size(at1), size(tagsLength), size(tagsAt), size(tags.length), size(foundAt), size(room)))));
+}
+
+export function siteBestForHeader(header, site) {
+    const at0 = open(header.length + site.text.length + site.tags.length);
+    const siteAt = aligned(at0 + header.length + site.text.length);
+    writeBytes(site.tags, siteAt);
+    const at1 = write(header, at0);
+    writeBytes(site.text, at1);
+    return close(count(module.calls.langtag_site_best_for_header(module.begin, size(header.length), size(at1), size(site.text.length), size(siteAt), size(site.count))));
+}
+
+/** Returns [result, found.range.start, found.range.len, found.distance]. */
+export function siteMatchForHeader(header, site) {
+    const at0 = open(header.length + site.text.length + site.tags.length);
+    const siteAt = aligned(at0 + header.length + site.text.length);
+    writeBytes(site.tags, siteAt);
+    const at1 = write(header, at0);
+    writeBytes(site.text, at1);
+    const result = count(module.calls.langtag_site_match_for_header(module.begin, size(header.length), size(at1), size(site.text.length), size(siteAt), size(site.count), module.outs[0]));
+    return close([result, written(0), written(1), written(2)]);
+}
+
+export function siteBestForRanges(ranges, site) {
+    const rangesLength = lengthOf(ranges);
+    const at0 = open(rangesLength + site.text.length + SPAN * ranges.length + site.tags.length);
+    const rangesAt = aligned(at0 + rangesLength + site.text.length);
+    const siteAt = aligned(rangesAt + SPAN * ranges.length);
+    writeBytes(site.tags, siteAt);
+    const at1 = writeList(ranges, at0, rangesAt);
+    writeBytes(site.text, at1);
+    return close(count(module.calls.langtag_site_best_for_ranges(module.begin, size(rangesLength), size(rangesAt), size(ranges.length), size(at1), size(site.text.length), size(siteAt), size(site.count))));
 }
 
 /** Returns the written string. */

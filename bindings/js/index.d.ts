@@ -1,3 +1,4 @@
+/* Written by tsc from index.ts. Do not edit. */
 /**
  * Language tags and language ranges by BCP 47 (RFC 5646, RFC 4647), over code that is proved to accept exactly the tags of the grammar.
  *
@@ -11,53 +12,21 @@
  * `localeForm` use the IANA registry. Functions that take a tag or a range also accept a string. An invalid string throws `InvalidTag` or
  * `InvalidRange`, and any other value throws a `TypeError`.
  */
-
 /** A string, or an object with a `text`, such as a tag or a range, also from another copy of this module or from `structuredClone`. */
-export type Text = string | { readonly text: string };
-
+export declare type Text = string | {
+    readonly text: string;
+};
 /** The value of an Accept-Language header. For a request without the header, Node has undefined and fetch has null; both are read as an
  * empty header. */
-export type Header = string | null | undefined;
-
-/** The 26 grandfathered tags in their registered spelling (RFC 5646 section 2.1). The first seventeen are irregular. */
-export const GRANDFATHERED: readonly string[];
-
-/** The date of the IANA registry inside this library, in a form like "2025-01-31". */
-export const REGISTRY_DATE: string;
-
-/** The version of Unicode's CLDR from which likely subtags, distances and aliases come, such as "48.2". */
-export const CLDR_VERSION: string;
-
-/**
- * Whether the WebAssembly module was linked from the archive that Rattle's prover built after it had proved the sources. It is false if cargo
- * built the module from the same sources.
- */
-export const PROVED: boolean;
-
+export declare type Header = string | null | undefined;
 /** The kinds of tags (RFC 5646 section 2.1). Regular grandfathered tags, such as zh-min-nan, are normal. */
-export type Kind = "normal" | "private-use" | "irregular";
-
+export declare type Kind = "normal" | "private-use" | "irregular";
 /** What is wrong with a subtag: it is not registered, it is a second extended language, or it is repeated. */
-export type Fault =
-    | "language" | "extlang" | "second-extlang" | "script" | "region" | "variant" | "repeated-variant" | "repeated-singleton";
-
-/** The first subtag that makes a tag invalid. `toString` returns a message: "variant 1996 is repeated". */
-export interface InvalidSubtag {
-    readonly fault: Fault;
-    readonly subtag: string;
-    /** Where the subtag begins. */
-    readonly start: number;
-    /** The registered code that was probably meant, according to CLDR's aliases: "de" for the language ger, "GB" for the region UK. */
-    readonly suggestion: string | undefined;
-    toString(): string;
-}
-
+export declare type Fault = "language" | "extlang" | "second-extlang" | "script" | "region" | "variant" | "repeated-variant" | "repeated-singleton";
 /** The subtags of an extension: "co-pinyin", or ["co", "pinyin"]. */
-export type Subtags = string | Iterable<string>;
-
+export declare type Subtags = string | Iterable<string>;
 /** A key of the extension u and its new value: ["ca", "buddhist"]. null removes the key. */
-export type KeywordPair = readonly [key: string, value: string | null | undefined];
-
+export declare type KeywordPair = readonly [key: string, value: string | null | undefined];
 /** The parts that `with` changes. A part that is undefined stays as it is, and null removes the part. */
 export interface Parts {
     /** The primary language with its extended languages, such as zh-yue. */
@@ -66,16 +35,19 @@ export interface Parts {
     region?: string | null | undefined;
     variants?: Subtags | null | undefined;
     /** "u-co-pinyin", or the subtags of each singleton: { u: ["co", "pinyin"] }, or a Map. */
-    extensions?: string | Iterable<readonly [string, Subtags]> | { [singleton: string]: Subtags } | null | undefined;
+    extensions?: string | Iterable<readonly [string, Subtags]> | {
+        [singleton: string]: Subtags;
+    } | null | undefined;
     /** The private-use part with its x, such as x-mine. */
     privateUse?: string | null | undefined;
     /**
      * The values of keys of the extension u: { ca: "buddhist", nu: null }, or a Map. Keys that are not named stay, null removes a key, and
      * "" means true. They are set one after another, after all other parts. A new key is put before the first greater key.
      */
-    keywords?: readonly KeywordPair[] | Iterable<KeywordPair> | { [key: string]: string | null | undefined } | undefined;
+    keywords?: readonly KeywordPair[] | Iterable<KeywordPair> | {
+        [key: string]: string | null | undefined;
+    } | undefined;
 }
-
 /** The extension t (RFC 6497 section 2.2). */
 export interface Transform {
     /** The language of the string before it was transformed, such as ja-latn. */
@@ -83,17 +55,98 @@ export interface Transform {
     /** The value of each field, by lowercase keys such as m0. */
     readonly fields: Map<string, string>;
 }
-
+/** A range of a header, and its weight in thousandths, from 1 to 1000. */
+export interface WeightedRange {
+    readonly range: LanguageRange;
+    readonly weight: number;
+}
+/** The best tag for a header: what `matchForHeader` returns. */
+export interface BestMatch<Tag> {
+    /** The index of the tag in the list. */
+    readonly index: number;
+    /** The tag, as it is in the list. */
+    readonly tag: Tag;
+    /** The distance from the range to the tag, as `distance` returns it. If it is 50 or more, only lookup found the tag. */
+    readonly distance: number;
+    /** The range that the tag serves, as it is written in the header. */
+    readonly range: string;
+}
+/** The 26 grandfathered tags in their registered spelling (RFC 5646 section 2.1). The first seventeen are irregular. */
+export declare const GRANDFATHERED: readonly string[];
+/** The date of the IANA registry inside this library, in a form like "2025-01-31". */
+export declare const REGISTRY_DATE: string;
+/** The version of Unicode's CLDR from which likely subtags, distances and aliases come, such as "48.2". */
+export declare const CLDR_VERSION: string;
+/**
+ * Whether the WebAssembly module was linked from the archive that Rattle's prover built after it had proved the sources. It is false if cargo
+ * built the module from the same sources.
+ */
+export declare const PROVED: boolean;
+/** Thrown if a string is not a language tag. */
+export declare class InvalidTag extends RangeError {
+    readonly text: string;
+    /** The wrong subtag: DE in de-419-DE, de_CH in de_CH. It is undefined if the string ends too soon. */
+    readonly subtag: string | undefined;
+    /** Where the subtag begins, or the end of a string that ends too soon. */
+    readonly start: number;
+    /** The offset to point at: the start of the subtag, or its first character that is neither a letter nor a digit. */
+    readonly offset: number;
+    /** What is wrong, without the string. */
+    readonly reason: string;
+    /** The length of the longest prefix with which some tag begins. */
+    readonly viableLength: number;
+    private constructor();
+}
+/** Thrown if a string is not a language range. */
+export declare class InvalidRange extends RangeError {
+    readonly text: string;
+    private constructor();
+}
+/**
+ * Thrown if a part or a keyword cannot be changed. `text` is not such a part, or is undefined if the tag is not a normal tag. For keywords,
+ * `part` is "keywords", or the "key" or "value" that is wrong.
+ */
+export declare class EditError extends RangeError {
+    readonly part: keyof Parts | "key" | "value";
+    readonly text: string | undefined;
+    private constructor();
+}
+/** Thrown if a header has a malformed element. It has the number of commas before the element, where the element begins, and which part
+ * is malformed. */
+export declare class AcceptLanguageError extends RangeError {
+    readonly header: string;
+    readonly index: number;
+    readonly offset: number;
+    readonly part: "language range" | "weight";
+    private constructor();
+}
+/** The first subtag that makes a tag invalid. `toString` returns a message: "variant 1996 is repeated". */
+declare class InvalidSubtag {
+    readonly fault: Fault;
+    readonly subtag: string;
+    /** Where the subtag begins. */
+    readonly start: number;
+    /** The registered code that was probably meant, according to CLDR's aliases: "de" for the language ger, "GB" for the region UK. */
+    readonly suggestion: string | undefined;
+    constructor(answer: number, subtag: string, start: number);
+    toString(): string;
+}
+export type { InvalidSubtag };
 /** A well-formed language tag (RFC 5646 section 2.1). It is immutable, and JSON.stringify writes its text. */
-export class LanguageTag {
+export declare class LanguageTag {
+    #private;
+    /** The tag as it was given. */
+    readonly text: string;
     /** Parses a tag; throws InvalidTag if the string is not a tag. */
-    constructor(text: Text);
+    constructor(given: Text);
     /** Parses a tag; throws InvalidTag if the string is not a tag. */
     static parse(text: Text): LanguageTag;
     /** Returns whether a string is a tag. */
     static canParse(text: Text): boolean;
     /** Returns the tag made of these parts; throws EditError if a string is not such a part. */
-    static from(parts: Parts & { language: string }): LanguageTag;
+    static from(parts: Parts & {
+        language: string;
+    }): LanguageTag;
     /**
      * Returns the tag for a POSIX locale name, or undefined if there is none: pt_BR.UTF-8 becomes pt-BR. Names as Java, Android and .NET
      * write them are read, too: zh-rTW becomes zh-TW. A modifier that is not known is dropped; `unknownModifier` returns it.
@@ -104,9 +157,6 @@ export class LanguageTag {
      * after zh-Latn. For alphabetical order, sort by `toFolded`.
      */
     static compare(this: void, one: Text, other: Text): -1 | 0 | 1;
-
-    /** The tag as it was given. */
-    readonly text: string;
     get kind(): Kind;
     /** The primary language with its extended languages, such as zh-yue. */
     get language(): string | undefined;
@@ -152,6 +202,14 @@ export class LanguageTag {
     maximize(): LanguageTag;
     /** Returns the tag without its likely subtags (UTS #35), by CLDR_VERSION: zh-Hant-TW becomes zh-TW. */
     minimize(): LanguageTag;
+    /** Whether the tag is written from right to left, by its script or its likely script: true for he, pa-PK and az-Arab. */
+    get isRightToLeft(): boolean;
+    /** Returns the tag in the case that RFC 5646 section 2.1.1 recommends: zh-hant-tw becomes zh-Hant-TW. */
+    toRecommended(): LanguageTag;
+    /** Returns the string in lowercase, which is the same for all equal tags. */
+    toFolded(): string;
+    /** Returns the 64-bit FNV-1a hash of the lowercase text, which is the same in every program. It is not safe against hash flooding. */
+    fnv1a(): bigint;
     /**
      * Returns the tag with its extensions u and t in canonical form (UTS #35, part 1, Annex C), by CLDR_VERSION: de-u-nu-thai-ca-roc becomes
      * de-u-ca-roc-nu-thai. Each key stands once, with its first value. The rest of the tag stays.
@@ -179,14 +237,6 @@ export class LanguageTag {
      * undefined if it is not one then, either: x-a, i-default.
      */
     localeForm(): LanguageTag | undefined;
-    /** Whether the tag is written from right to left, by its script or its likely script: true for he, pa-PK and az-Arab. */
-    get isRightToLeft(): boolean;
-    /** Returns the tag in the case that RFC 5646 section 2.1.1 recommends: zh-hant-tw becomes zh-Hant-TW. */
-    toRecommended(): LanguageTag;
-    /** Returns the string in lowercase, which is the same for all equal tags. */
-    toFolded(): string;
-    /** Returns the 64-bit FNV-1a hash of the lowercase text, which is the same in every program. It is not safe against hash flooding. */
-    fnv1a(): bigint;
     /** Returns the tag with other parts; throws EditError if a string is not such a part, or the tag is not a normal tag. */
     with(parts: Parts): LanguageTag;
     /** Returns whether this tag equals another tag or a string, ignoring case. */
@@ -198,17 +248,17 @@ export class LanguageTag {
     /** The string of the tag, as the only locale of that list. */
     get 0(): string;
 }
-
 /** A language range, basic or extended (RFC 4647 section 2): de-CH, *, *-CH, de-*-DE. JSON.stringify writes its text. */
-export class LanguageRange {
+export declare class LanguageRange {
+    #private;
+    /** The range as it was given. */
+    readonly text: string;
     /** Parses a range; throws InvalidRange if the string is not a range. */
-    constructor(text: Text);
+    constructor(given: Text);
     /** Parses a range; throws InvalidRange if the string is not a range. */
     static parse(text: Text): LanguageRange;
     /** Returns whether a string is a range. */
     static canParse(text: Text): boolean;
-    /** The range as it was given. */
-    readonly text: string;
     /** Whether this is a basic range (section 2.1): de-CH, or only *. */
     get isBasic(): boolean;
     /**
@@ -231,22 +281,24 @@ export class LanguageRange {
     toString(): string;
     toJSON(): string;
 }
-
-/** A range of a header, and its weight in thousandths, from 1 to 1000. */
-export interface WeightedRange {
-    readonly range: LanguageRange;
-    readonly weight: number;
-}
-
+/**
+ * Returns the tag of the first range that finds a tag, or the last argument (RFC 4647 section 3.4). A range finds the tag that
+ * equals it. If there is none, its fallbacks are tried, the longest first. An extended range is looked up without its *.
+ *
+ *     lookUp(["nl", "ZH-hant-CN"], ["en", "zh-Hant", "zh"]); // "zh-Hant"
+ */
+export declare function lookUp<Tag extends Text>(ranges: Iterable<Text>, tags: Iterable<Tag>): Tag | undefined;
+export declare function lookUp<Tag extends Text, Otherwise>(ranges: Iterable<Text>, tags: Iterable<Tag>, otherwise: Otherwise): Tag | Otherwise;
 /** The ranges of an Accept-Language header (RFC 9110 section 12.5.4). */
-export class AcceptLanguage {
+export declare class AcceptLanguage {
+    #private;
+    /** The ranges by descending weight, without ranges of weight 0. */
+    readonly ranges: readonly WeightedRange[];
     private constructor();
     /** Parses a header; throws AcceptLanguageError if an element is malformed, such as de_CH or de;q=2. */
     static parse(header: Header): AcceptLanguage;
     /** Parses a header, and skips malformed elements. */
     static lenient(header: Header): AcceptLanguage;
-    /** The ranges by descending weight, without ranges of weight 0. */
-    readonly ranges: readonly WeightedRange[];
     /** Returns the tag that the ranges find by lookup, the greatest weight first, or the last argument. */
     lookUp<Tag extends Text>(tags: Iterable<Tag>): Tag | undefined;
     lookUp<Tag extends Text, Otherwise>(tags: Iterable<Tag>, otherwise: Otherwise): Tag | Otherwise;
@@ -257,24 +309,12 @@ export class AcceptLanguage {
     best<Tag extends Text>(tags: Iterable<Tag>): Tag | undefined;
     best<Tag extends Text, Otherwise>(tags: Iterable<Tag>, otherwise: Otherwise): Tag | Otherwise;
 }
-
-/**
- * Returns the tag of the first range that finds a tag, or the last argument (RFC 4647 section 3.4). A range finds the tag that
- * equals it. If there is none, its fallbacks are tried, the longest first. An extended range is looked up without its *.
- *
- *     lookUp(["nl", "ZH-hant-CN"], ["en", "zh-Hant", "zh"]); // "zh-Hant"
- */
-export function lookUp<Tag extends Text>(ranges: Iterable<Text>, tags: Iterable<Tag>): Tag | undefined;
-export function lookUp<Tag extends Text, Otherwise>(ranges: Iterable<Text>, tags: Iterable<Tag>, otherwise: Otherwise): Tag | Otherwise;
-
 /** Returns the tag that a header finds by lookup, or the last argument; throws AcceptLanguageError if an element is malformed. */
-export function tagForHeader<Tag extends Text>(header: Header, tags: Iterable<Tag>): Tag | undefined;
-export function tagForHeader<Tag extends Text, Otherwise>(header: Header, tags: Iterable<Tag>, otherwise: Otherwise): Tag | Otherwise;
-
+export declare function tagForHeader<Tag extends Text>(header: Header, tags: Iterable<Tag>): Tag | undefined;
+export declare function tagForHeader<Tag extends Text, Otherwise>(header: Header, tags: Iterable<Tag>, otherwise: Otherwise): Tag | Otherwise;
 /** Returns the tag that a header finds by lookup, or the last argument. Malformed elements are skipped. */
-export function tagForHeaderLenient<Tag extends Text>(header: Header, tags: Iterable<Tag>): Tag | undefined;
-export function tagForHeaderLenient<Tag extends Text, Otherwise>(header: Header, tags: Iterable<Tag>, otherwise: Otherwise): Tag | Otherwise;
-
+export declare function tagForHeaderLenient<Tag extends Text>(header: Header, tags: Iterable<Tag>): Tag | undefined;
+export declare function tagForHeaderLenient<Tag extends Text, Otherwise>(header: Header, tags: Iterable<Tag>, otherwise: Otherwise): Tag | Otherwise;
 /**
  * Returns the distance from the tag that a reader desires to a supported tag (UTS #35, Language Matching), by CLDR_VERSION. It is at most
  * 134, or 255 if the tags differ and one of them has no known language, such as und.
@@ -282,8 +322,7 @@ export function tagForHeaderLenient<Tag extends Text, Otherwise>(header: Header,
  *     distance("zh-TW", "zh-Hant"); // 0
  *     distance("de", "en");         // 84
  */
-export function distance(desired: Text, supported: Text): number;
-
+export declare function distance(desired: Text, supported: Text): number;
 /**
  * Returns the modifier that `LanguageTag.fromPosix` drops because it is not known, or undefined if there is none. Two folders of
  * translations whose names differ only in such a modifier would become the same tag.
@@ -291,37 +330,39 @@ export function distance(desired: Text, supported: Text): number;
  *     unknownModifier("de_DE@foo");   // "foo"
  *     unknownModifier("sr_RS@latin"); // undefined
  */
-export function unknownModifier(name: string): string | undefined;
-
+export declare function unknownModifier(name: string): string | undefined;
 /**
  * Returns the best tag for a header by language distance, or the last argument if none is suitable. Malformed elements are read
  * leniently: de_CH is read as de-CH. Time is at most proportional to the length of the header times the length of the tags.
  *
  *     bestForHeader("gsw", ["fr", "de-CH"], "fr"); // "de-CH"
  */
-export function bestForHeader<Tag extends Text>(header: Header, tags: Iterable<Tag>): Tag | undefined;
-export function bestForHeader<Tag extends Text, Otherwise>(header: Header, tags: Iterable<Tag>, otherwise: Otherwise): Tag | Otherwise;
-
-/** The best tag for a header: what `matchForHeader` returns. */
-export interface BestMatch<Tag> {
-    /** The index of the tag in the list. */
-    readonly index: number;
-    /** The tag, as it is in the list. */
-    readonly tag: Tag;
-    /** The distance from the range to the tag, as `distance` returns it. If it is 50 or more, only lookup found the tag. */
-    readonly distance: number;
-    /** The range that the tag serves, as it is written in the header. */
-    readonly range: string;
-}
-
+export declare function bestForHeader<Tag extends Text>(header: Header, tags: Iterable<Tag>): Tag | undefined;
+export declare function bestForHeader<Tag extends Text, Otherwise>(header: Header, tags: Iterable<Tag>, otherwise: Otherwise): Tag | Otherwise;
 /**
  * Returns the best tag for a header, as bestForHeader does, with its index, range and distance, or undefined. The distance shows whether
  * the list has the language itself, or only a language near it.
  *
  *     matchForHeader("tlh", ["de", "en"]); // { index: 1, tag: "en", distance: 30, range: "tlh" }
  */
-export function matchForHeader<Tag extends Text>(header: Header, tags: Iterable<Tag>): BestMatch<Tag> | undefined;
-
+export declare function matchForHeader<Tag extends Text>(header: Header, tags: Iterable<Tag>): BestMatch<Tag> | undefined;
+/**
+ * Returns all suitable tags for a header, best first: the tag that bestForHeader chooses, the tag that it chooses among the other tags, and
+ * so on. A catalogue looks for a message in this order.
+ *
+ *     suitableForHeader("de-CH,fr;q=0.7", ["en", "fr", "de", "de-AT"]); // ["de", "de-AT", "fr"]
+ */
+export declare function suitableForHeader<Tag extends Text>(header: Header, tags: Iterable<Tag>): Tag[];
+/**
+ * Returns all suitable tags for a list of ranges in order of preference, best first, as suitableForHeader does for a header.
+ *
+ *     suitableForRanges(["de_CH", "fr"], ["en", "fr", "de"]); // ["de", "fr"]
+ */
+export declare function suitableForRanges<Tag extends Text>(ranges: Iterable<Text>, tags: Iterable<Tag>): Tag[];
+/** Returns the length of the longest prefix with which some tag begins: 3 for "i-no". */
+export declare function viableLength(text: Text): number;
+/** Returns the length of the shortest prefix with which no tag begins, or of the whole string if there is none: 4 for "i-no". */
+export declare function stopLength(text: Text): number;
 /**
  * Returns the best tag for a list of ranges in order of preference, such as `navigator.languages`. An extended range is read without its
  * *. A string that is not a range, such as de;q=0, is skipped. A name such as sr_RS@latin is read without its modifier: pass names from LANG
@@ -329,24 +370,8 @@ export function matchForHeader<Tag extends Text>(header: Header, tags: Iterable<
  *
  *     bestForRanges(["fi", "zh_TW", "en"], ["en", "zh-Hans", "zh-Hant"]); // "zh-Hant"
  */
-export function bestForRanges<Tag extends Text>(ranges: Iterable<Text>, tags: Iterable<Tag>): Tag | undefined;
-export function bestForRanges<Tag extends Text, Otherwise>(ranges: Iterable<Text>, tags: Iterable<Tag>, otherwise: Otherwise): Tag | Otherwise;
-
-/**
- * Returns all suitable tags for a header, best first: the tag that bestForHeader chooses, the tag that it chooses among the other tags, and
- * so on. A catalogue looks for a message in this order.
- *
- *     suitableForHeader("de-CH,fr;q=0.7", ["en", "fr", "de", "de-AT"]); // ["de", "de-AT", "fr"]
- */
-export function suitableForHeader<Tag extends Text>(header: Header, tags: Iterable<Tag>): Tag[];
-
-/**
- * Returns all suitable tags for a list of ranges in order of preference, best first, as suitableForHeader does for a header.
- *
- *     suitableForRanges(["de_CH", "fr"], ["en", "fr", "de"]); // ["de", "fr"]
- */
-export function suitableForRanges<Tag extends Text>(ranges: Iterable<Text>, tags: Iterable<Tag>): Tag[];
-
+export declare function bestForRanges<Tag extends Text>(ranges: Iterable<Text>, tags: Iterable<Tag>): Tag | undefined;
+export declare function bestForRanges<Tag extends Text, Otherwise>(ranges: Iterable<Text>, tags: Iterable<Tag>, otherwise: Otherwise): Tag | Otherwise;
 /**
  * The tags of a site that are known before the requests, such as the languages of its translations. What a choice needs of each tag is
  * computed once, so a choice takes less time than with a list. The methods return what `bestForHeader`, `matchForHeader` and
@@ -356,10 +381,11 @@ export function suitableForRanges<Tag extends Text>(ranges: Iterable<Text>, tags
  *     site.bestForHeader("zh-TW,zh;q=0.9,en;q=0.8"); // "zh-Hant"
  *     site.bestForHeader("fi", "en");                // "en"
  */
-export class Site<Tag extends Text = Text> {
-    constructor(tags: Iterable<Tag>);
+export declare class Site<Tag extends Text = Text> {
+    #private;
     /** The tags, as they were given. */
     readonly tags: readonly Tag[];
+    constructor(tags: Iterable<Tag>);
     /** Returns the best tag for a header, or the last argument. */
     bestForHeader(header: Header): Tag | undefined;
     bestForHeader<Otherwise>(header: Header, otherwise: Otherwise): Tag | Otherwise;
@@ -369,65 +395,15 @@ export class Site<Tag extends Text = Text> {
     bestForRanges(ranges: Iterable<Text>): Tag | undefined;
     bestForRanges<Otherwise>(ranges: Iterable<Text>, otherwise: Otherwise): Tag | Otherwise;
 }
-
 /**
  * Returns an English name of a tag, made of CLDR's names for the subtags of its canonical form: "Portuguese (Brazil)" for pt-BR. A subtag
  * for which CLDR has no name is shown as it is, and so are extensions and private use. The variants are in alphabetical order. For names
  * in other languages, use `Intl.DisplayNames`.
  */
-export function describe(tag: Text): string;
-
+export declare function describe(tag: Text): string;
 /**
  * Returns the name of a tag's language in the language itself, from CLDR: "Deutsch" for de-DE, "繁體中文" for zh-TW. Returns undefined if
  * CLDR has none. If CLDR has a name for the language in the tag's script or region, it returns that name. The script is the tag's own, or
  * the likely script of the language in the region. If there is no name in that script, it returns undefined.
  */
-export function autonym(tag: Text): string | undefined;
-
-/** Returns the length of the longest prefix with which some tag begins: 3 for "i-no". */
-export function viableLength(text: Text): number;
-
-/** Returns the length of the shortest prefix with which no tag begins, or of the whole string if there is none: 4 for "i-no". */
-export function stopLength(text: Text): number;
-
-/** Thrown if a string is not a language tag. */
-export class InvalidTag extends RangeError {
-    private constructor();
-    readonly text: string;
-    /** The wrong subtag: DE in de-419-DE, de_CH in de_CH. It is undefined if the string ends too soon. */
-    readonly subtag: string | undefined;
-    /** Where the subtag begins, or the end of a string that ends too soon. */
-    readonly start: number;
-    /** The offset to point at: the start of the subtag, or its first character that is neither a letter nor a digit. */
-    readonly offset: number;
-    /** What is wrong, without the string. */
-    readonly reason: string;
-    /** The length of the longest prefix with which some tag begins. */
-    readonly viableLength: number;
-}
-
-/** Thrown if a string is not a language range. */
-export class InvalidRange extends RangeError {
-    private constructor();
-    readonly text: string;
-}
-
-/**
- * Thrown if a part or a keyword cannot be changed. `text` is not such a part, or is undefined if the tag is not a normal tag. For keywords,
- * `part` is "keywords", or the "key" or "value" that is wrong.
- */
-export class EditError extends RangeError {
-    private constructor();
-    readonly part: keyof Parts | "key" | "value";
-    readonly text: string | undefined;
-}
-
-/** Thrown if a header has a malformed element. It has the number of commas before the element, where the element begins, and which part
- * is malformed. */
-export class AcceptLanguageError extends RangeError {
-    private constructor();
-    readonly header: string;
-    readonly index: number;
-    readonly offset: number;
-    readonly part: "language range" | "weight";
-}
+export declare function autonym(tag: Text): string | undefined;

@@ -1,113 +1,119 @@
+/* Written by tsc from index.ts. Do not edit. */
 /**
- * Language tags and language ranges by BCP 47 (RFC 5646, RFC 4647), over code that is proved to accept exactly the tags of the
- * grammar. index.d.ts documents each export.
+ * Language tags and language ranges by BCP 47 (RFC 5646, RFC 4647), over code that is proved to accept exactly the tags of the grammar.
+ *
+ *     const tag = LanguageTag.parse("zh-yue-Hant-HK-u-co-pinyin-x-mine");
+ *     [tag.primaryLanguage, tag.script, tag.region];                              // ["zh", "Hant", "HK"]
+ *     tag.extensions.get("u");                                                    // ["co", "pinyin"]
+ *     tag.equals("ZH-YUE-hant-hk-U-CO-pinyin-x-MINE");                            // true
+ *     bestForHeader("zh-TW,zh;q=0.9,en;q=0.8", ["en", "zh-Hans", "zh-Hant"]);     // "zh-Hant"
+ *
+ * Offsets and lengths count UTF-16 code units, as in JavaScript's strings. Only `isValid`, `invalidSubtag`, `isCanonical`, `canonical` and
+ * `localeForm` use the IANA registry. Functions that take a tag or a range also accept a string. An invalid string throws `InvalidTag` or
+ * `InvalidRange`, and any other value throws a `TypeError`.
  */
 import * as calls from "./calls.js";
-import { prepareSite, siteBestForHeader, siteBestForRanges, siteMatchForHeader } from "./memory.js";
+import { prepareSite } from "./memory.js";
+// @ts-ignore: `build` makes it
 import * as built from "./module.js";
+// @ts-ignore: `build` makes it
 import { AUTONYMS, NAMES } from "./names.js";
-
 /** The 26 grandfathered tags in their registered spelling (RFC 5646 section 2.1). The first seventeen are irregular. */
 export const GRANDFATHERED = Object.freeze([
     "en-GB-oed", "i-ami", "i-bnn", "i-default", "i-enochian", "i-hak", "i-klingon", "i-lux", "i-mingo", "i-navajo", "i-pwn",
     "i-tao", "i-tay", "i-tsu", "sgn-BE-FR", "sgn-BE-NL", "sgn-CH-DE", "art-lojban", "cel-gaulish", "no-bok", "no-nyn",
     "zh-guoyu", "zh-hakka", "zh-min", "zh-min-nan", "zh-xiang",
 ]);
-
+/** The date of the IANA registry inside this library, in a form like "2025-01-31". */
 export const REGISTRY_DATE = String(calls.registryDate()).replace(/(....)(..)(..)/, "$1-$2-$3");
-
 /** The version of Unicode's CLDR from which likely subtags, distances and aliases come, such as "48.2". */
 export const CLDR_VERSION = calls.cldrVersion();
-
+/**
+ * Whether the WebAssembly module was linked from the archive that Rattle's prover built after it had proved the sources. It is false if cargo
+ * built the module from the same sources.
+ */
 export const PROVED = built.PROVED;
-
 const FNV1A = 0xcbf29ce484222325n; // the hash of an empty string
-
 const KINDS = [undefined, "normal", "private-use", "irregular"];
 const PARTS = ["language", "script", "region", "variants", "extensions", "privateUse"];
 const FAULTS = [
     "language", "extlang", "second-extlang", "script", "region", "variant", "repeated-variant", "repeated-singleton",
 ];
-
 const ESCAPED = /[\0-\x1f\\`\x7f-\x9f\u200b-\u200f\u2028-\u202e\u2060-\u206f\ufeff]|\p{Surrogate}/gu;
 const ESCAPES = { "\t": "\\t", "\n": "\\n", "\r": "\\r", "\\": "\\\\", "`": "\\`" };
-
 /** Returns a string as a message shows it: in backticks, with escapes, and only its first 80 characters if it is long. */
 function quoted(text) {
     const characters = [...text.slice(0, 161)]; // at least 81 characters, if there are so many
     const shown = characters.slice(0, 80).join("").replace(ESCAPED, (it) => ESCAPES[it] ?? `\\u{${it.codePointAt(0).toString(16)}}`);
     return `\`${shown}${characters.length > 80 ? "..." : ""}\``;
 }
-
 /** Returns the type of a value as an error message names it. */
 const typeName = (value) => (value === null ? "null" : typeof value);
-
 /** Returns a string itself, or the text of an object, such as a tag, also of another copy of this module or made by
  * structuredClone. */
 function textOf(value, expected = "a string or a LanguageTag") {
     const text = typeof value === "object" && value !== null ? value.text : value;
-    if (typeof text === "string") return text;
+    if (typeof text === "string")
+        return text;
     throw new TypeError(`expected ${expected}, got ${typeName(value)}`);
 }
-
 /** Returns a list of tags or ranges. A single string is refused, since its letters would be read as the elements. */
 function several(values, what) {
-    if (typeof values?.[Symbol.iterator] !== "function" || typeof values === "string") throw new TypeError(`expected a list of ${what}, got ${typeName(values)}`);
+    if (typeof values?.[Symbol.iterator] !== "function" || typeof values === "string")
+        throw new TypeError(`expected a list of ${what}, got ${typeName(values)}`);
     return values;
 }
-
 /** Returns the text of a header. A request without the header, for which Node has undefined and fetch has null, gives the empty
  * text. */
 const headerText = (header) => textOf(header ?? "", "a string");
-
-/** The base of the errors, which copies the given properties, such as the refused text. */
-class Refusal extends RangeError {
-    constructor(message, more) {
-        super(message);
-        Object.assign(this, more);
-    }
-}
-
-export class InvalidTag extends Refusal {
+/** Returns an error. Its constructor is private, because only this module makes errors. */
+const refusal = (type, ...given) => new type(...given);
+/** Thrown if a string is not a language tag. */
+export class InvalidTag extends RangeError {
     constructor(text) {
         const [answer, start, length, offset] = calls.refused(text);
         const subtag = answer < 3 ? text.slice(start, start + length) : undefined;
         const reason = answer === 1 ? (subtag === "" ? "empty subtag" : `unexpected subtag ${quoted(subtag)}`) :
             answer === 2 ? `invalid character ${quoted(String.fromCodePoint(text.codePointAt(offset)))}: expected a letter, a digit or a hyphen` :
-            "unexpected end: expected a subtag";
-        super(`invalid language tag ${quoted(text)}: ${reason}`, { text, subtag, start, offset, viableLength: calls.viableLen(text), reason });
+                "unexpected end: expected a subtag";
+        super(`invalid language tag ${quoted(text)}: ${reason}`);
+        Object.assign(this, { text, subtag, start, offset, viableLength: calls.viableLen(text), reason });
     }
 }
-
-export class InvalidRange extends Refusal {
+/** Thrown if a string is not a language range. */
+export class InvalidRange extends RangeError {
     constructor(text) {
-        super(`invalid language range ${quoted(text)}`, { text });
+        super(`invalid language range ${quoted(text)}`);
+        Object.assign(this, { text });
     }
 }
-
-export class EditError extends Refusal {
+/**
+ * Thrown if a part or a keyword cannot be changed. `text` is not such a part, or is undefined if the tag is not a normal tag. For keywords,
+ * `part` is "keywords", or the "key" or "value" that is wrong.
+ */
+export class EditError extends RangeError {
     constructor(part, text) {
         const message = text === undefined ? "not a normal language tag" :
             part === "key" ? `${quoted(text)} is not a key of the extension u` :
-            part === "value" ? `${quoted(text)} is not a value of a key: a subtag needs three to eight letters or digits` :
-            `invalid ${part === "privateUse" ? "private use" : part} ${quoted(text)}`;
-        super(message, { part, text });
+                part === "value" ? `${quoted(text)} is not a value of a key: a subtag needs three to eight letters or digits` :
+                    `invalid ${part === "privateUse" ? "private use" : part} ${quoted(text)}`;
+        super(message);
+        Object.assign(this, { part, text });
     }
 }
-
-export class AcceptLanguageError extends Refusal {
+/** Thrown if a header has a malformed element. It has the number of commas before the element, where the element begins, and which part
+ * is malformed. */
+export class AcceptLanguageError extends RangeError {
     constructor(header, index, offset, part) {
-        super(`element ${index} has a bad ${part}`, { header, index, offset, part });
+        super(`element ${index} has a bad ${part}`);
+        Object.assign(this, { header, index, offset, part });
     }
 }
-
 for (const [name, type] of Object.entries({ InvalidTag, InvalidRange, EditError, AcceptLanguageError })) {
     Object.defineProperty(type.prototype, "name", { value: name });
 }
-
 const HOW = { "second-extlang": "is the second", "repeated-variant": "is repeated", "repeated-singleton": "is repeated" };
-
-/** The first subtag that makes a tag invalid. */
+/** The first subtag that makes a tag invalid. `toString` returns a message: "variant 1996 is repeated". */
 class InvalidSubtag {
     constructor(answer, subtag, start) {
         const suggestion = calls.suggestion(answer, subtag) || undefined;
@@ -119,115 +125,119 @@ class InvalidSubtag {
         return `${kind} ${this.subtag} ${HOW[this.fault] ?? "is not registered"}${meant}`;
     }
 }
-
 /**
  * Returns the text to which a part is set. null and an empty list remove the part. A list of one empty subtag becomes "-", which is
  * not a part, so it is refused.
  */
 function partText(value) {
-    if (value === null) return "";
-    if (typeof value === "string") return value;
-    if (typeof value !== "object") throw new TypeError(`expected a string, a list or null for a part, got ${typeName(value)}`);
+    if (value === null)
+        return "";
+    if (typeof value === "string")
+        return value;
+    if (typeof value !== "object")
+        throw new TypeError(`expected a string, a list or null for a part, got ${typeName(value)}`);
     const members = Symbol.iterator in value ? [...value] : Object.entries(value);
-    if (members.length === 0) return "";
+    if (members.length === 0)
+        return "";
     const texts = members.map((member) => {
-        if (typeof member === "string") return member;
+        if (typeof member === "string")
+            return member;
         const [singleton, subtags] = member;
         return [singleton, ...(typeof subtags === "string" ? [subtags] : subtags)].join("-");
     });
     return texts.join("-") || "-";
 }
-
 /** Returns the tag with the value of a key, or without the key if the value is undefined, or "" if the library refuses them. */
 const withKeyword = (tag, key, value) => (value === undefined ? calls.withoutKeyword(tag, key) : calls.withKeyword(tag, key, value));
-
 /** Returns the keys and values of keywords as a list of pairs, without the keys whose value is undefined. */
 function keywordPairs(value) {
-    if (typeof value !== "object" || value === null) throw new TypeError(`expected a Map or an object of keywords, got ${typeName(value)}`);
+    if (typeof value !== "object" || value === null)
+        throw new TypeError(`expected a Map or an object of keywords, got ${typeName(value)}`);
     const pairs = [...(Symbol.iterator in value ? value : Object.entries(value))];
     for (const pair of pairs) {
         const isPair = Array.isArray(pair) && [pair[0], pair[1] ?? ""].every((text) => typeof text === "string");
-        if (!isPair) throw new TypeError("expected a string as the key of a keyword, and a string or null as its value");
+        if (!isPair)
+            throw new TypeError("expected a string as the key of a keyword, and a string or null as its value");
     }
     return pairs.filter(([, text]) => text !== undefined);
 }
-
+/** A well-formed language tag (RFC 5646 section 2.1). It is immutable, and JSON.stringify writes its text. */
 export class LanguageTag {
     #parsed; // the number of the kind, and the offset and length of each part
-
-    constructor(value) {
-        const text = textOf(value);
+    /** Parses a tag; throws InvalidTag if the string is not a tag. */
+    constructor(given) {
+        const text = textOf(given);
         const found = calls.parse(text);
-        if (found[0] === 0) throw new InvalidTag(text);
+        if (found[0] === 0)
+            throw refusal(InvalidTag, text);
         this.text = text;
         this.#parsed = found;
         Object.freeze(this);
     }
-
+    /** Parses a tag; throws InvalidTag if the string is not a tag. */
     static parse(text) {
         return new LanguageTag(text);
     }
-
+    /** Returns whether a string is a tag. */
     static canParse(text) {
         return calls.kind(textOf(text)) !== 0;
     }
-
+    /** Returns the tag made of these parts; throws EditError if a string is not such a part. */
     static from(parts) {
-        if (parts.language === undefined) throw new TypeError("expected a language, got undefined");
+        if (parts.language === undefined)
+            throw new TypeError("expected a language, got undefined");
         return new LanguageTag("und").with(parts);
     }
-
+    /**
+     * Returns the tag for a POSIX locale name, or undefined if there is none: pt_BR.UTF-8 becomes pt-BR. Names as Java, Android and .NET
+     * write them are read, too: zh-rTW becomes zh-TW. A modifier that is not known is dropped; `unknownModifier` returns it.
+     */
     static fromPosix(name) {
         const made = calls.fromPosix(textOf(name));
         return made === "" ? undefined : new LanguageTag(made);
     }
-
+    /**
+     * Compares two tags, ignoring case, for `sort`: returns -1, 0 or 1. A tag sorts after every longer tag that begins with it: zh sorts
+     * after zh-Latn. For alphabetical order, sort by `toFolded`.
+     */
     static compare(one, other) {
         return calls.cmp(tagOf(one).text, tagOf(other).text);
     }
-
     #at(offset, length) {
         return this.text.slice(offset, offset + length);
     }
-
     /** Returns the text of the part with a number, or "" if the part is absent. */
     #part(part) {
         return this.#at(this.#parsed[2 * part + 1], this.#parsed[2 * part + 2]);
     }
-
     #subtags(part) {
         const text = this.#part(part);
         return text === "" ? [] : text.split("-");
     }
-
     get kind() {
         return KINDS[this.#parsed[0]];
     }
-
+    /** The primary language with its extended languages, such as zh-yue. */
     get language() {
         return this.#part(0) || undefined;
     }
-
+    /** The primary language only, such as zh. */
     get primaryLanguage() {
         return this.#subtags(0)[0];
     }
-
     get extendedLanguages() {
         return this.#subtags(0).slice(1);
     }
-
     get script() {
         return this.#part(1) || undefined;
     }
-
     get region() {
         return this.#part(2) || undefined;
     }
-
     get variants() {
         return this.#subtags(3);
     }
-
+    /** The subtags of each extension by its lowercase singleton. If a singleton is repeated, the first one counts. */
     get extensions() {
         const found = new Map();
         let subtags;
@@ -237,253 +247,283 @@ export class LanguageTag {
                 continue;
             }
             subtags = [];
-            if (!found.has(subtag.toLowerCase())) found.set(subtag.toLowerCase(), subtags);
+            if (!found.has(subtag.toLowerCase()))
+                found.set(subtag.toLowerCase(), subtags);
         }
         return found;
     }
-
+    /**
+     * Returns the value of a key of the extension u (RFC 6067), ignoring case, or undefined if the key is absent: islamic-civil for
+     * ca in ar-u-ca-islamic-civil. The value is "" if the key has none, which means true. If a key is repeated, the first one counts.
+     */
     keyword(key) {
         const found = calls.keyword(this.text, textOf(key));
         return found && this.#at(...found);
     }
-
+    /** The keywords of the extension u, by lowercase keys. If a key is repeated, the first one counts. */
     get keywords() {
         return this.#mapOf(calls.everyKeyword(this.text));
     }
-
+    /** The attributes of the extension u, which come before its first key. A repeated attribute is returned once. */
     get attributes() {
         const found = new Map();
         for (const attribute of this.#at(...(calls.attributes(this.text) ?? [0, 0])).split("-")) {
             const key = attribute.toLowerCase();
-            if (key !== "" && !found.has(key)) found.set(key, attribute);
+            if (key !== "" && !found.has(key))
+                found.set(key, attribute);
         }
         return [...found.values()];
     }
-
+    /** The extension t (RFC 6497), or undefined if the tag has none. */
     get transform() {
         const language = calls.transform(this.text);
-        if (language === undefined) return undefined;
+        if (language === undefined)
+            return undefined;
         return { language: this.#at(...language) || undefined, fields: this.#mapOf(calls.everyField(this.text)) };
     }
-
     /** Returns a map from lowercase keys to values. Each key occurs once in the list. */
     #mapOf(pairs) {
         return new Map(pairs.map(([start, length, ...value]) => [this.#at(start, length).toLowerCase(), this.#at(...value)]));
     }
-
+    /** The private-use part with its x, such as x-mine. For a private-use tag it is the whole string. */
     get privateUse() {
         return this.#part(5) || undefined;
     }
-
+    /** The registered spelling if the tag is grandfathered (ignoring case), otherwise undefined. */
     get grandfathered() {
         return GRANDFATHERED[calls.grandfathered(this.text)];
     }
-
+    /** The first variant that equals an earlier one, ignoring case. Such a tag is well-formed but not valid. */
     get repeatedVariant() {
         const [, offset, length] = calls.repeats(this.text);
         return this.#at(offset, length) || undefined;
     }
-
+    /** The first singleton that equals an earlier one, ignoring case. Such a tag is well-formed but not valid. */
     get repeatedSingleton() {
         const [, , , offset, length] = calls.repeats(this.text);
         return this.#at(offset, length) || undefined;
     }
-
+    /** Whether the tag is valid (RFC 5646 section 2.2.9) by the registry of REGISTRY_DATE. Deprecated subtags are valid. */
     get isValid() {
         return calls.validity(this.text)[0] === 1;
     }
-
+    /** The first subtag that makes the tag invalid, or undefined if it is valid. */
     get invalidSubtag() {
         const [answer, start, length] = calls.validity(this.text);
         return answer > 1 ? new InvalidSubtag(answer, this.#at(start, length), start) : undefined;
     }
-
+    /** Whether the tag equals its canonical form, ignoring case. */
     get isCanonical() {
         return calls.isCanonical(this.text);
     }
-
+    /** Returns the canonical form (RFC 5646 section 4.5) by the registry of REGISTRY_DATE: iw becomes he, zh-yue becomes yue. */
     canonical() {
         return new LanguageTag(calls.canonical(this.text));
     }
-
+    /**
+     * Returns the tag with its likely subtags (UTS #35), by CLDR_VERSION: zh-TW becomes zh-Hant-TW. Deprecated subtags stay, and get the
+     * likely subtags of their replacements: iw becomes iw-Hebr-IL. To replace them, call localeForm first.
+     */
     maximize() {
         return new LanguageTag(calls.maximized(this.text));
     }
-
+    /** Returns the tag without its likely subtags (UTS #35), by CLDR_VERSION: zh-Hant-TW becomes zh-TW. */
     minimize() {
         return new LanguageTag(calls.minimized(this.text));
     }
-
+    /** Whether the tag is written from right to left, by its script or its likely script: true for he, pa-PK and az-Arab. */
     get isRightToLeft() {
         return calls.isRightToLeft(this.text);
     }
-
+    /** Returns the tag in the case that RFC 5646 section 2.1.1 recommends: zh-hant-tw becomes zh-Hant-TW. */
     toRecommended() {
         return new LanguageTag(calls.recommend(this.text));
     }
-
+    /** Returns the string in lowercase, which is the same for all equal tags. */
     toFolded() {
         return calls.fold(this.text);
     }
-
+    /** Returns the 64-bit FNV-1a hash of the lowercase text, which is the same in every program. It is not safe against hash flooding. */
     fnv1a() {
         return calls.hash(FNV1A, this.text);
     }
-
+    /**
+     * Returns the tag with its extensions u and t in canonical form (UTS #35, part 1, Annex C), by CLDR_VERSION: de-u-nu-thai-ca-roc becomes
+     * de-u-ca-roc-nu-thai. Each key stands once, with its first value. The rest of the tag stays.
+     */
     extensionsForm() {
         return new LanguageTag(calls.extensionsForm(this.text));
     }
-
+    /** The tag without extensions and private use, as baseName of Intl.Locale: de-CH for de-CH-u-co-phonebk. It keeps its case. */
     get base() {
         return new LanguageTag(this.#at(0, calls.baseLen(this.text)));
     }
-
+    /**
+     * Returns the POSIX locale name for the tag, or undefined if no name expresses the whole tag: sr_RS@latin for sr-Latn-RS, zh_TW for
+     * zh-Hant-TW. A script that is likely anyway is left out. The codeset is yours, as in zh_TW.UTF-8. `fromPosix` reads the name.
+     */
     toPosix() {
         const name = calls.toPosix(this.text);
         return name === "" ? undefined : name;
     }
-
+    /**
+     * The parent of the tag in CLDR, which a catalogue of strings asks next, or undefined if there is none: pt-PT for pt-AO, zh-Hant for
+     * zh-TW. A parent is written in the same script, so zh-Hant has none: zh is Simplified.
+     */
     get parent() {
         const parent = calls.parent(this.text);
         return parent === "" ? undefined : new LanguageTag(parent);
     }
-
+    /** The tag, its parent, the parent of its parent, and so on, in which order to search a catalogue: pt-AO, pt-PT and pt. */
     get parents() {
         const found = [];
-        for (let tag = this; tag !== undefined; tag = tag.parent) found.push(tag);
+        for (let tag = this; tag !== undefined; tag = tag.parent)
+            found.push(tag);
         return found;
     }
-
+    /** Whether the tag is a Unicode locale identifier (UTS #35), as Intl requires: false for zh-yue, i-klingon and x-a. */
     get isLocale() {
         return calls.isLocale(this.text);
     }
-
+    /**
+     * Returns the canonical form of a Unicode locale identifier (UTS #35, part 1, Annex C), by CLDR_VERSION: eng becomes en, and ger-UK
+     * becomes de-GB. A tag that is not such an identifier is first replaced by the registry of REGISTRY_DATE: zh-yue becomes yue. Returns
+     * undefined if it is not one then, either: x-a, i-default.
+     */
     localeForm() {
         const form = calls.localeForm(this.text);
         return form === "" ? undefined : new LanguageTag(form);
     }
-
+    /** Returns the tag with other parts; throws EditError if a string is not such a part, or the tag is not a normal tag. */
     with(parts) {
         for (const name of Object.keys(parts)) {
-            if (!PARTS.includes(name) && name !== "keywords") throw new TypeError(`a tag has no part ${quoted(name)}`);
+            if (!PARTS.includes(name) && name !== "keywords")
+                throw new TypeError(`a tag has no part ${quoted(name)}`);
         }
         let tag = this;
         PARTS.forEach((name, part) => {
-            if (parts[name] !== undefined) tag = tag.#withPart(part, parts[name]);
+            if (parts[name] !== undefined)
+                tag = tag.#withPart(part, parts[name]);
         });
         const keywords = parts.keywords === undefined ? [] : keywordPairs(parts.keywords);
-        for (const [key, value] of keywords) tag = tag.#withKeyword(key, value ?? undefined);
+        for (const [key, value] of keywords)
+            tag = tag.#withKeyword(key, value ?? undefined);
         return tag;
     }
-
     #withPart(part, value) {
-        if (this.#parsed[0] !== 1) throw new EditError(PARTS[part]);
+        if (this.#parsed[0] !== 1)
+            throw refusal(EditError, PARTS[part]);
         const text = partText(value);
         const isList = part === 3 || part === 4;
         const made = text === "" && value !== null && !isList ? "" : calls.withPart(this.text, part, text);
-        if (made === "") throw new EditError(PARTS[part], text);
+        if (made === "")
+            throw refusal(EditError, PARTS[part], text);
         return new LanguageTag(made);
     }
-
     #withKeyword(key, value) {
         const made = withKeyword(this.text, key, value);
-        if (made !== "") return new LanguageTag(made);
+        if (made !== "")
+            return new LanguageTag(made);
         // A keyword can be set in und, so the library refuses the key or the value, if it refuses them there too.
-        if (withKeyword("und", key) === "") throw new EditError("key", key);
-        if (value !== undefined && withKeyword("und", key, value) === "") throw new EditError("value", value);
-        throw new EditError("keywords");
+        if (withKeyword("und", key) === "")
+            throw refusal(EditError, "key", key);
+        if (value !== undefined && withKeyword("und", key, value) === "")
+            throw refusal(EditError, "value", value);
+        throw refusal(EditError, "keywords");
     }
-
+    /** Returns whether this tag equals another tag or a string, ignoring case. */
     equals(other) {
         return calls.eq(this.text, textOf(other));
     }
-
     toString() {
         return this.text;
     }
-
     toJSON() {
         return this.text;
     }
-
     // Intl reads an object as a list of locales, and the list that a tag is contains only the tag.
+    /** 1, because Intl takes an object as a list of locales: `new Intl.NumberFormat(tag)` formats for the tag. */
     get length() {
         return 1;
     }
-
+    /** The string of the tag, as the only locale of that list. */
     get 0() {
         return this.text;
     }
 }
-
 const tagOf = (value) => (value instanceof LanguageTag ? value : new LanguageTag(value));
-
+/** A language range, basic or extended (RFC 4647 section 2): de-CH, *, *-CH, de-*-DE. JSON.stringify writes its text. */
 export class LanguageRange {
     #isBasic;
-
-    constructor(value) {
-        const text = textOf(value, "a string, a LanguageRange or a LanguageTag");
+    /** Parses a range; throws InvalidRange if the string is not a range. */
+    constructor(given) {
+        const text = textOf(given, "a string, a LanguageRange or a LanguageTag");
         const kind = calls.rangeKind(text);
-        if (kind === 0) throw new InvalidRange(text);
+        if (kind === 0)
+            throw refusal(InvalidRange, text);
         this.text = text;
         this.#isBasic = kind === 1;
         Object.freeze(this);
     }
-
+    /** Parses a range; throws InvalidRange if the string is not a range. */
     static parse(text) {
         return new LanguageRange(text);
     }
-
+    /** Returns whether a string is a range. */
     static canParse(text) {
         return calls.rangeKind(textOf(text)) !== 0;
     }
-
+    /** Whether this is a basic range (section 2.1): de-CH, or only *. */
     get isBasic() {
         return this.#isBasic;
     }
-
+    /**
+     * Iterates over the ranges that a lookup tries (RFC 4647 section 3.4), from this range to the shortest: zh-Hant-CN, zh-Hant, zh. For a
+     * catalogue of strings, use `parents` of LanguageTag.
+     */
     *fallbacks() {
         yield this;
-        for (const [, length] of calls.everyFallback(this.text)) yield new LanguageRange(this.text.slice(0, length));
+        for (const [, length] of calls.everyFallback(this.text))
+            yield new LanguageRange(this.text.slice(0, length));
     }
-
+    /**
+     * Returns whether this range matches a tag by basic filtering (section 3.3.1): de-DE matches de-DE-1996, but not de-Latn-DE. It does not
+     * match a string that is not a tag.
+     */
     matchesBasic(tag) {
         return calls.matchesBasic(this.text, textOf(tag));
     }
-
+    /**
+     * Returns whether this range matches a tag by extended filtering (section 3.3.2): de-DE matches de-Latn-DE. It does not match a string
+     * that is not a tag.
+     */
     matchesExtended(tag) {
         return calls.matchesExtended(this.text, textOf(tag));
     }
-
+    /** Returns whether this range equals another range or a string, ignoring case. */
     equals(other) {
         return calls.eq(this.text, textOf(other));
     }
-
     toString() {
         return this.text;
     }
-
     toJSON() {
         return this.text;
     }
 }
-
 const rangeOf = (value) => (value instanceof LanguageRange ? value : new LanguageRange(value));
-
 /** Returns the tag that a call chooses for a header or for ranges, or `otherwise` if it chooses none. */
 function chosen(choose, wanted, tags, otherwise) {
     const list = [...several(tags, "tags")];
     const index = choose(wanted, list.map((tag) => tagOf(tag).text));
     return index < list.length ? list[index] : otherwise;
 }
-
 export function lookUp(ranges, tags, otherwise) {
     const header = [...several(ranges, "ranges")].map((range) => rangeOf(range).text.replaceAll("-*", "")).join();
     return chosen(calls.tagForHeaderLenient, header, tags, otherwise);
 }
-
 const BAD_PARTS = [, , "language range", "weight"];
-
+/** The ranges of an Accept-Language header (RFC 9110 section 12.5.4). */
 export class AcceptLanguage {
     constructor(header, isLenient = false) {
         const text = headerText(header);
@@ -491,119 +531,140 @@ export class AcceptLanguage {
         for (const [answer, offset, length, weight] of calls.everyAccepted(text)) {
             if (answer > 1 && !isLenient) {
                 const index = text.slice(0, offset).split(",").length - 1;
-                throw new AcceptLanguageError(text, index, offset, BAD_PARTS[answer]);
+                throw refusal(AcceptLanguageError, text, index, offset, BAD_PARTS[answer]);
             }
-            if (weight > 0) ranges.push({ range: new LanguageRange(text.slice(offset, offset + length)), weight });
+            if (weight > 0)
+                ranges.push({ range: new LanguageRange(text.slice(offset, offset + length)), weight });
         }
         this.ranges = Object.freeze(ranges.sort((one, other) => other.weight - one.weight));
         Object.freeze(this);
     }
-
+    /** Parses a header; throws AcceptLanguageError if an element is malformed, such as de_CH or de;q=2. */
     static parse(header) {
         return new AcceptLanguage(header);
     }
-
+    /** Parses a header, and skips malformed elements. */
     static lenient(header) {
         return new AcceptLanguage(header, true);
     }
-
     #wanted() {
         return this.ranges.map(({ range }) => range);
     }
-
     lookUp(tags, otherwise) {
         return lookUp(this.#wanted(), tags, otherwise);
     }
-
     best(tags, otherwise) {
         return bestForRanges(this.#wanted(), tags, otherwise);
     }
 }
-
 export function tagForHeader(header, tags, otherwise) {
     return AcceptLanguage.parse(header).lookUp(tags, otherwise);
 }
-
 export function tagForHeaderLenient(header, tags, otherwise) {
     return chosen(calls.tagForHeaderLenient, headerText(header), tags, otherwise);
 }
-
+/**
+ * Returns the distance from the tag that a reader desires to a supported tag (UTS #35, Language Matching), by CLDR_VERSION. It is at most
+ * 134, or 255 if the tags differ and one of them has no known language, such as und.
+ *
+ *     distance("zh-TW", "zh-Hant"); // 0
+ *     distance("de", "en");         // 84
+ */
 export function distance(desired, supported) {
     return calls.distance(tagOf(desired).text, tagOf(supported).text);
 }
-
+/**
+ * Returns the modifier that `LanguageTag.fromPosix` drops because it is not known, or undefined if there is none. Two folders of
+ * translations whose names differ only in such a modifier would become the same tag.
+ *
+ *     unknownModifier("de_DE@foo");   // "foo"
+ *     unknownModifier("sr_RS@latin"); // undefined
+ */
 export function unknownModifier(name) {
     const text = textOf(name), found = calls.unknownModifier(text);
     return found && text.slice(found[0], found[0] + found[1]);
 }
-
 export function bestForHeader(header, tags, otherwise) {
     return chosen(calls.bestForHeader, headerText(header), tags, otherwise);
 }
-
+/**
+ * Returns the best tag for a header, as bestForHeader does, with its index, range and distance, or undefined. The distance shows whether
+ * the list has the language itself, or only a language near it.
+ *
+ *     matchForHeader("tlh", ["de", "en"]); // { index: 1, tag: "en", distance: 30, range: "tlh" }
+ */
 export function matchForHeader(header, tags) {
     const list = [...several(tags, "tags")], text = headerText(header);
     const [index, start, length, distance] = calls.matchForHeader(text, list.map((tag) => tagOf(tag).text));
     return index < list.length ? { index, tag: list[index], distance, range: text.slice(start, start + length) } : undefined;
 }
-
 /** Returns the tags of a list that a call names by their indices. */
 function suitable(choose, wanted, tags) {
     const list = [...several(tags, "tags")];
     return choose(wanted, list.map((tag) => tagOf(tag).text), list.length).map((index) => list[index]);
 }
-
+/**
+ * Returns all suitable tags for a header, best first: the tag that bestForHeader chooses, the tag that it chooses among the other tags, and
+ * so on. A catalogue looks for a message in this order.
+ *
+ *     suitableForHeader("de-CH,fr;q=0.7", ["en", "fr", "de", "de-AT"]); // ["de", "de-AT", "fr"]
+ */
 export function suitableForHeader(header, tags) {
     return suitable(calls.suitableForHeader, headerText(header), tags);
 }
-
+/**
+ * Returns all suitable tags for a list of ranges in order of preference, best first, as suitableForHeader does for a header.
+ *
+ *     suitableForRanges(["de_CH", "fr"], ["en", "fr", "de"]); // ["de", "fr"]
+ */
 export function suitableForRanges(ranges, tags) {
     return suitable(calls.suitableForRanges, rangeTexts(ranges), tags);
 }
-
+/** Returns the length of the longest prefix with which some tag begins: 3 for "i-no". */
 export function viableLength(text) {
     return calls.viableLen(textOf(text));
 }
-
+/** Returns the length of the shortest prefix with which no tag begins, or of the whole string if there is none: 4 for "i-no". */
 export function stopLength(text) {
     return calls.stopLen(textOf(text));
 }
-
 export function bestForRanges(ranges, tags, otherwise) {
     return chosen(calls.bestForRanges, rangeTexts(ranges), tags, otherwise);
 }
-
 function rangeTexts(ranges) {
     return [...several(ranges, "ranges")].map((range) => textOf(range, "a string, a LanguageRange or a LanguageTag"));
 }
-
+/**
+ * The tags of a site that are known before the requests, such as the languages of its translations. What a choice needs of each tag is
+ * computed once, so a choice takes less time than with a list. The methods return what `bestForHeader`, `matchForHeader` and
+ * `bestForRanges` return for the same tags. A site does not change.
+ *
+ *     const site = new Site(["en", "zh-Hans", "zh-Hant"]);
+ *     site.bestForHeader("zh-TW,zh;q=0.9,en;q=0.8"); // "zh-Hant"
+ *     site.bestForHeader("fi", "en");                // "en"
+ */
 export class Site {
     #prepared;
-
     constructor(tags) {
         this.tags = Object.freeze([...several(tags, "tags")]);
         this.#prepared = prepareSite(this.tags.map((tag) => tagOf(tag).text));
         Object.freeze(this);
     }
-
     bestForHeader(header, otherwise) {
-        return this.#at(siteBestForHeader(this.#prepared, headerText(header)), otherwise);
+        return this.#at(calls.siteBestForHeader(headerText(header), this.#prepared), otherwise);
     }
-
+    /** Returns the best tag for a header with its index, range and distance, or undefined. */
     matchForHeader(header) {
-        const text = headerText(header), [index, start, length, distance] = siteMatchForHeader(this.#prepared, text);
+        const text = headerText(header), [index, start, length, distance] = calls.siteMatchForHeader(text, this.#prepared);
         return index < this.tags.length ? { index, tag: this.tags[index], distance, range: text.slice(start, start + length) } : undefined;
     }
-
     bestForRanges(ranges, otherwise) {
-        return this.#at(siteBestForRanges(this.#prepared, rangeTexts(ranges)), otherwise);
+        return this.#at(calls.siteBestForRanges(rangeTexts(ranges), this.#prepared), otherwise);
     }
-
     #at(index, otherwise) {
         return index < this.tags.length ? this.tags[index] : otherwise;
     }
 }
-
 /** Returns a function that returns the name of a key. The lines are split when it is first called. */
 function namesIn(lines) {
     let names;
@@ -612,25 +673,34 @@ function namesIn(lines) {
         return names.get(key);
     };
 }
-
 const englishName = namesIn(NAMES), ownName = namesIn(AUTONYMS); // the keys are subtags, or tags, in the recommended case
-
-export function describe(value) {
-    const tag = tagOf(value).canonical().toRecommended();
-    if (tag.language === undefined) return tag.text;
+/**
+ * Returns an English name of a tag, made of CLDR's names for the subtags of its canonical form: "Portuguese (Brazil)" for pt-BR. A subtag
+ * for which CLDR has no name is shown as it is, and so are extensions and private use. The variants are in alphabetical order. For names
+ * in other languages, use `Intl.DisplayNames`.
+ */
+export function describe(tag) {
+    const form = tagOf(tag).canonical().toRecommended();
+    if (form.language === undefined)
+        return form.text;
     const name = (subtag) => englishName(subtag) ?? subtag;
-    const subtags = [tag.script, tag.region, ...[...tag.variants].sort()].filter(Boolean).map(name);
-    const extensions = [...tag.extensions].map(([singleton, rest]) => [singleton, ...rest].join("-"));
-    const inside = [...subtags, ...extensions, tag.privateUse ?? []].flat().join(", ").replaceAll("(", "[").replaceAll(")", "]");
-    return inside === "" ? name(tag.language) : `${name(tag.language)} (${inside})`;
+    const subtags = [form.script, form.region, ...[...form.variants].sort()].filter(Boolean).map(name);
+    const extensions = [...form.extensions].map(([singleton, rest]) => [singleton, ...rest].join("-"));
+    const inside = [...subtags, ...extensions, form.privateUse ?? []].flat().join(", ").replaceAll("(", "[").replaceAll(")", "]");
+    return inside === "" ? name(form.language) : `${name(form.language)} (${inside})`;
 }
-
-export function autonym(value) {
-    const tag = tagOf(value).canonical().toRecommended();
-    if (tag.language === undefined) return undefined;
-    const { script } = tag.base.maximize();
-    const isUsual = script === undefined || script === new LanguageTag(tag.language).maximize().script;
-    const written = tag.script ?? (isUsual ? undefined : script);
-    const asked = [[written, tag.region, ...tag.variants], [written, tag.region], [written], ...(isUsual ? [[]] : [])];
-    return asked.map((subtags) => ownName([tag.language, ...subtags.filter(Boolean)].join("-"))).find((name) => name !== undefined);
+/**
+ * Returns the name of a tag's language in the language itself, from CLDR: "Deutsch" for de-DE, "繁體中文" for zh-TW. Returns undefined if
+ * CLDR has none. If CLDR has a name for the language in the tag's script or region, it returns that name. The script is the tag's own, or
+ * the likely script of the language in the region. If there is no name in that script, it returns undefined.
+ */
+export function autonym(tag) {
+    const form = tagOf(tag).canonical().toRecommended();
+    if (form.language === undefined)
+        return undefined;
+    const { script } = form.base.maximize();
+    const isUsual = script === undefined || script === new LanguageTag(form.language).maximize().script;
+    const written = form.script ?? (isUsual ? undefined : script);
+    const asked = [[written, form.region, ...form.variants], [written, form.region], [written], ...(isUsual ? [[]] : [])];
+    return asked.map((subtags) => ownName([form.language, ...subtags.filter(Boolean)].join("-"))).find((name) => name !== undefined);
 }

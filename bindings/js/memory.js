@@ -93,6 +93,12 @@ export function write(text, at) {
     return at + text.length;
 }
 
+/** Writes bytes, and returns the address after them. */
+export function writeBytes(array, at) {
+    bytes.set(array, at);
+    return at + array.length;
+}
+
 /** Returns the first address, at or after an address, where spans can begin. */
 export const aligned = (at) => (at + ALIGNED - 1) & -ALIGNED;
 
@@ -156,36 +162,4 @@ export function prepareSite(list) {
         module.calls.langtag_prepare(module.begin, size(length), size(tags + PREPARED * index));
     }
     return close({ text: bytes.slice(at, at + length), tags: bytes.slice(tags, tags + PREPARED * list.length), count: list.length });
-}
-
-/** Copies a site to an address in the block, and returns its arguments of a call. */
-function writeSite(site, at) {
-    const tags = aligned(at + site.text.length);
-    bytes.set(site.text, at);
-    bytes.set(site.tags, tags);
-    return [size(at), size(site.text.length), size(tags), size(site.count)];
-}
-
-const lengthOfSite = (site) => site.text.length + site.tags.length;
-
-/** Returns the index of the best tag. */
-export function siteBestForHeader(site, header) {
-    const at = write(header, open(header.length + lengthOfSite(site)));
-    return close(count(module.calls.langtag_site_best_for_header(module.begin, size(header.length), ...writeSite(site, at))));
-}
-
-/** Returns [index, range.start, range.len, distance]. */
-export function siteMatchForHeader(site, header) {
-    const at = write(header, open(header.length + lengthOfSite(site)));
-    const given = [module.begin, size(header.length), ...writeSite(site, at)];
-    const index = count(module.calls.langtag_site_match_for_header(...given, module.outs[0]));
-    return close([index, written(0), written(1), written(2)]);
-}
-
-/** Returns the index of the best tag. */
-export function siteBestForRanges(site, ranges) {
-    const length = lengthOf(ranges), at = open(length + SPAN * ranges.length + ALIGNED + lengthOfSite(site)), spans = aligned(at + length);
-    writeList(ranges, at, spans);
-    const given = [module.begin, size(length), size(spans), size(ranges.length), ...writeSite(site, spans + SPAN * ranges.length)];
-    return close(count(module.calls.langtag_site_best_for_ranges(...given)));
 }

@@ -26,7 +26,7 @@ HERE = pathlib.Path(__file__).resolve().parent
 CLONE = HERE.parent if (HERE.parent / "archive").is_file() else None  # the folder bindings, if this is a clone
 NAME = "liblangtag_verified.so.1"
 TIME = 315532800  # the first second of 1980, the earliest that a wheel can say
-MODULE_FILES = r"\w+\.pyi?|py\.typed|names\.txt|autonyms\.txt"
+MODULE_FILES = r"\w+\.py|py\.typed|names\.txt|autonyms\.txt"
 SDIST_FILES = r"pyproject\.toml|backend\.py|README\.md|PROVED\.txt|native/.*|(examples|rows)/.*"
 EXAMPLES = r"(negotiate|count_tags|catalogue)\.py"
 

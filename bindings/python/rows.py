@@ -31,9 +31,11 @@ class Row(NamedTuple):
     wanted: str
 
 
-def wanted(floors: Mapping[str, int]) -> dict[str, int]:
-    """Returns the files of rows to run, each with the least number of rows that it must have."""
-    return {name: floor for name, floor in floors.items() if name == (ALONE or name)}
+def floors(language: str) -> dict[str, int]:
+    """Returns the files of rows to run, each with the least number of rows that have to be run."""
+    head, *lines = [line.split() for line in (FOLDER / "floors.txt").read_text("ascii").splitlines()[1:]]
+    found = {line[0]: line[head.index(language)] for line in lines}
+    return {name: int(floor) for name, floor in found.items() if floor != "-" and name == (ALONE or name)}
 
 
 def expand(line: str) -> str:

@@ -6,7 +6,6 @@ import itertools
 import os
 import pickle
 import pydoc
-import re
 import subprocess
 import sys
 import threading
@@ -18,7 +17,7 @@ import weakref
 
 import langtag
 import leaks
-from langtag import (AcceptLanguage, EditError, InvalidRange, InvalidTag, Kind, Range, Tag, kind, look_up, parse, stop_len,
+from langtag import (AcceptLanguage, EditError, InvalidTag, Kind, Range, Tag, kind, look_up, parse, stop_len,
                      tag_for_header, tag_for_header_lenient, viable_len)
 
 
@@ -619,7 +618,3 @@ class Library(unittest.TestCase):
 def load_tests(loader, tests, ignore):
     tests.addTests(doctest.DocTestSuite(langtag))
     return tests
-
-
-if __name__ == "__main__":
-    unittest.main()

@@ -71,7 +71,3 @@ class Program(unittest.TestCase):
         for arguments, given in calls():
             with self.subTest(arguments=arguments):
                 self.assertEqual(run([*PYTHON[:1], "-S", *PYTHON[1:]], arguments, given), run(program, arguments, given))
-
-
-if __name__ == "__main__":
-    unittest.main()

@@ -400,22 +400,14 @@ ANSWERS = {
     "viable": lambda text: f"{langtag.viable_len(text)} {langtag.stop_len(text)}", "range": answer_range, "match": answer_match,
     "header": answer_header, "ranges": answer_ranges, "elements": answer_elements, "fallbacks": answer_fallbacks,
 }
-FLOORS = {"table.txt": 360, "texts.txt": 710, "negotiation.txt": 102, "ranges.txt": 55, "edits.txt": 125, "likely.txt": 250, "parents.txt": 330,
-          "refused.txt": 80, "distance.txt": 140, "direction.txt": 325, "posix.txt": 240, "choices.txt": 285, "lists.txt": 28, "suitable.txt": 32, "lengths.txt": 180,
-          "unicode.txt": 400, "keywords.txt": 380, "extensions.txt": 630, "locale.txt": 780, "cldr.txt": 1774,
-          "names.txt": 430}
 
 
 class Rows(unittest.TestCase):
     def test_answers(self):
         asker = rows.Asker(ANSWERS, adapted)
-        for name, floor in rows.wanted(FLOORS).items():
+        for name, floor in rows.floors("Python").items():
             asker.ask(rows.FOLDER / name, floor)
         if "LANGTAG_ANSWERS" in os.environ:
             asker.ask(pathlib.Path(os.environ["LANGTAG_ANSWERS"]), 1000)
         if asker.failures():
             self.fail("\n" + asker.failures())
-
-
-if __name__ == "__main__":
-    unittest.main()

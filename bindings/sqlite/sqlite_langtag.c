@@ -1,50 +1,9 @@
 /*
- * A loadable extension for SQLite. It returns parts of language tags, canonical forms, validity, likely subtags, the best tag for a
- * request, and whether a range matches. It also has a collation. `make` in this folder builds it, with the C library inside. The README
- * of the tarball, which is docs/SQLITE.md, has examples.
+ * A loadable extension for SQLite: functions for language tags, and a collation. `make` in this folder builds it, with the C library
+ * inside. docs/SQLITE.md, which is the README of the tarball, says what each function returns.
  *
- * Each function returns NULL if an argument is NULL, except for the value of langtag_set_keyword and the tags of a choice.
- *
- * The following functions say yes or no, as 1 or 0. They return 0 for a string that is not a tag, so that a CHECK refuses it:
- *
- *   - langtag_is_well_formed(tag), whether the string is a tag, and langtag_is_valid(tag), whether its subtags are registered, too (RFC
- *     5646 section 2.2.9)
- *   - langtag_is_locale(tag), whether the tag is a Unicode locale identifier (UTS #35, part 1)
- *   - langtag_is_right_to_left(tag), whether the tag is written from right to left (UTS #35)
- *   - langtag_matches_basic(range, tag) and langtag_matches_extended(range, tag) (RFC 4647 sections 3.3.1 and 3.3.2), also 0 if the first
- *     string is not a range
- *
- * langtag_part(tag, part) returns NULL if the string is not a tag, or the part is absent. The parts are language, script, region,
- * variants, extensions and private_use. langtag_keyword(tag, key) returns the value of a key of the extension u (RFC 6067), which
- * is empty if the key has none, and NULL if the key is absent. The following functions return NULL if a string is not a tag:
- *
- *   - langtag_set_keyword(tag, key, value), the tag with a value of a key of the extension u. If the value is NULL, the key is removed.
- *     An empty value means true. It is an error if the key or the value cannot be in a keyword, or if the tag is not a normal tag
- *   - langtag_base(tag), the tag without extensions and private use
- *   - langtag_extensions_form(tag), the tag with its extensions u and t in canonical form (UTS #35, part 1, Annex C)
- *   - langtag_locale_form(tag), the canonical form of a Unicode locale identifier, also NULL if there is none
- *   - langtag_canonical(tag) (RFC 5646 section 4.5)
- *   - langtag_parent(tag), the parent in CLDR, which a catalogue of strings asks next: pt-PT for pt-AO. Also NULL if there is none
- *   - langtag_suggestion(tag), the registered code that is probably meant by the invalid subtag, also NULL if there is none
- *   - langtag_maximized(tag), langtag_minimized(tag), langtag_distance(desired, supported) (UTS #35)
- *
- * langtag_describe(tag) returns an English name of a tag, made of CLDR's names for the subtags of its canonical form, such as Portuguese
- * (Brazil). langtag_autonym(tag) returns the name of the tag's language in the language itself, such as português, or NULL if CLDR has
- * none. Both return NULL if the string is not a tag.
- *
- * langtag_from_posix(name) returns the tag for a POSIX locale name, or NULL if it has none. langtag_unknown_modifier(name) returns
- * the modifier that langtag_from_posix drops because it is not known, or NULL. langtag_to_posix(tag) returns the POSIX locale name for a
- * tag, sr_RS@latin for sr-Latn-RS, or NULL if a name cannot say all of the tag.
- *
- * langtag_best_for_header(header, tag, ..) returns the best tag for a header, or NULL if none is suitable. langtag_match_for_header
- * returns this tag as JSON, with its index, the range of the header that it serves, and the distance from that range.
- * langtag_suitable_for_header(header, tag, ..) returns all suitable tags as a JSON array, best first. The aggregate
- * langtag_group_best_for_header(header, tag) returns the best tag of the rows of a group. Among equally good tags it takes the first, and
- * the order of rows is that of a subquery with ORDER BY. It is an error if the header is not the same in all rows of a group.
- *
- * langtag_version() returns the version of the library, the date of the IANA registry and the version of CLDR in one line, and
- * langtag_proved() whether the library is the proved archive. In the collation a tag sorts after every longer tag that begins with it. For
- * alphabetical order use ORDER BY lower(tag).
+ * Each function returns NULL if an argument is NULL, except for the value of langtag_set_keyword and the tags of a choice. A function
+ * that says yes or no returns 1 or 0, and 0 for a string that is not a tag, so that a CHECK refuses it.
  */
 #include <langtag.h>
 #include <langtag_names.h>
@@ -58,6 +17,10 @@ SQLITE_EXTENSION_INIT1
 #endif
 #define FLAGS (SQLITE_UTF8 | SQLITE_DETERMINISTIC | SQLITE_INNOCUOUS)
 
+/* The definition of a function of SQL. Most functions know how many arguments they have. */
+#define FUNCTION(name) \
+    static void name(sqlite3_context *context, __attribute__((unused)) int count, __attribute__((unused)) sqlite3_value **values)
+
 /* A function of SQL. If several functions share `call`, one of the last three is what they ask of the library. */
 typedef struct function {
     const char *name;
@@ -69,6 +32,12 @@ typedef struct function {
 } function;
 
 static const function *called(sqlite3_context *context) { return sqlite3_user_data(context); }
+
+/* Returns whether there was no memory for something, which is an error. */
+static bool lacks(sqlite3_context *context, const void *made) {
+    if (!made) sqlite3_result_error_nomem(context);
+    return !made;
+}
 
 /* A string argument. `at` is NULL if the argument is NULL. */
 typedef struct text {
@@ -99,8 +68,7 @@ static const langtag_span *part_named(const langtag_parts *parts, text name) {
     return NULL;
 }
 
-static void part(sqlite3_context *context, int count, sqlite3_value **values) {
-    (void)count;
+FUNCTION(part) {
     const text tag = text_of(values[0]), name = text_of(values[1]);
     langtag_parts parts;
     if (!tag.at || !name.at) return; /* NULL */
@@ -110,15 +78,13 @@ static void part(sqlite3_context *context, int count, sqlite3_value **values) {
     else if (kind != LANGTAG_NONE && span->len > 0) return_span(context, tag, *span);
 }
 
-static void keyword(sqlite3_context *context, int count, sqlite3_value **values) {
-    (void)count;
+FUNCTION(keyword) {
     const text tag = text_of(values[0]), key = text_of(values[1]);
     langtag_span value;
     if (tag.at && key.at && langtag_keyword(tag.at, tag.len, key.at, key.len, &value)) return_span(context, tag, value); /* else NULL */
 }
 
-static void base(sqlite3_context *context, int count, sqlite3_value **values) {
-    (void)count;
+FUNCTION(base) {
     const text tag = text_of(values[0]);
     const langtag_span span = {0, tag.at ? langtag_base_len(tag.at, tag.len) : 0};
     if (span.len > 0) return_span(context, tag, span); /* else NULL */
@@ -126,8 +92,7 @@ static void base(sqlite3_context *context, int count, sqlite3_value **values) {
 
 /* Returns a string of C in allocated memory. NULL means that there was no memory, which is an error. */
 static void return_made(sqlite3_context *context, char *made) {
-    if (made) sqlite3_result_text(context, made, -1, sqlite3_free);
-    else sqlite3_result_error_nomem(context);
+    if (!lacks(context, made)) sqlite3_result_text(context, made, -1, sqlite3_free);
 }
 
 /* Of what a string is made: its form, or if `form` is NULL, the tag with the value of a key, or without the key if the value is NULL. */
@@ -153,15 +118,13 @@ static bool return_written(sqlite3_context *context, const source *of) {
         return len > 0;
     }
     char *made = sqlite3_malloc64(len);
-    if (made) {
-        write_source(of, made, len);
-        sqlite3_result_text64(context, made, len, sqlite3_free, SQLITE_UTF8);
-    } else sqlite3_result_error_nomem(context);
+    if (lacks(context, made)) return true;
+    write_source(of, made, len);
+    sqlite3_result_text64(context, made, len, sqlite3_free, SQLITE_UTF8);
     return true;
 }
 
-static void form(sqlite3_context *context, int count, sqlite3_value **values) {
-    (void)count;
+FUNCTION(form) {
     const text tag = text_of(values[0]);
     if (tag.at) return_written(context, &(source){.form = called(context)->form, .tag = tag}); /* else NULL */
 }
@@ -173,25 +136,20 @@ static char *form_of(sqlite3_context *context, text tag, size_t *len) {
     *len = tag.at ? langtag_canonical(tag.at, tag.len, &none, 0) : 0;
     if (*len == 0) return NULL;
     char *form = sqlite3_malloc64(*len);
-    if (!form) {
-        sqlite3_result_error_nomem(context);
-        return NULL;
-    }
+    if (lacks(context, form)) return NULL;
     langtag_canonical(tag.at, tag.len, form, *len);
     langtag_recommend(form, *len);
     return form;
 }
 
-static void describe(sqlite3_context *context, int count, sqlite3_value **values) {
-    (void)count;
+FUNCTION(describe) {
     size_t len;
     char *form = form_of(context, text_of(values[0]), &len);
     if (form) return_written(context, &(source){.form = langtag_name_describe, .tag = {form, len}}); /* else NULL, or the error */
     sqlite3_free(form);
 }
 
-static void autonym(sqlite3_context *context, int count, sqlite3_value **values) {
-    (void)count;
+FUNCTION(autonym) {
     size_t len;
     char *form = form_of(context, text_of(values[0]), &len);
     const char *name = form ? langtag_name_autonym(form, len) : NULL;
@@ -209,14 +167,10 @@ static const char *why_refused(text key, text value) {
     return "langtag_set_keyword: not a normal language tag";
 }
 
-static void set_keyword(sqlite3_context *context, int count, sqlite3_value **values) {
-    (void)count;
+FUNCTION(set_keyword) {
     const int removes = sqlite3_value_type(values[2]) == SQLITE_NULL;
     const text tag = text_of(values[0]), key = text_of(values[1]), value = text_of(values[2]);
-    if (!removes && !value.at) { /* no memory for the string of a number, which is no reason to remove the key */
-        sqlite3_result_error_nomem(context);
-        return;
-    }
+    if (!removes && lacks(context, value.at)) return; /* no memory for the string of a number is no reason to remove the key */
     if (!tag.at || !key.at || !langtag_kind(tag.at, tag.len)) return; /* NULL */
     if (!return_written(context, &(source){.tag = tag, .key = key, .value = value})) sqlite3_result_error(context, why_refused(key, value), -1);
 }
@@ -226,12 +180,10 @@ static void set_keyword(sqlite3_context *context, int count, sqlite3_value **val
 static bool given(sqlite3_context *context, sqlite3_value *value, text *found) {
     if (sqlite3_value_type(value) == SQLITE_NULL) return false;
     *found = text_of(value);
-    if (!found->at) sqlite3_result_error_nomem(context);
-    return found->at != NULL;
+    return !lacks(context, found->at);
 }
 
-static void is(sqlite3_context *context, int count, sqlite3_value **values) {
-    (void)count;
+FUNCTION(is) {
     text tag;
     if (given(context, values[0], &tag)) sqlite3_result_int(context, called(context)->is(tag.at, tag.len));
 }
@@ -243,22 +195,19 @@ static bool is_valid(const char *tag, size_t len) {
     return langtag_validity(tag, len, &invalid) == LANGTAG_VALID;
 }
 
-static void matches(sqlite3_context *context, int count, sqlite3_value **values) {
-    (void)count;
+FUNCTION(matches) {
     text range, tag;
     if (given(context, values[0], &range) && given(context, values[1], &tag))
         sqlite3_result_int(context, called(context)->matches(range.at, range.len, tag.at, tag.len));
 }
 
-static void unknown_modifier(sqlite3_context *context, int count, sqlite3_value **values) {
-    (void)count;
+FUNCTION(unknown_modifier) {
     const text name = text_of(values[0]);
     langtag_span modifier;
     if (name.at && langtag_unknown_modifier(name.at, name.len, &modifier)) return_span(context, name, modifier); /* else NULL */
 }
 
-static void distance(sqlite3_context *context, int count, sqlite3_value **values) {
-    (void)count;
+FUNCTION(distance) {
     const text desired = text_of(values[0]), supported = text_of(values[1]);
     if (!desired.at || !supported.at) return; /* NULL */
     uint32_t far = langtag_distance(desired.at, desired.len, supported.at, supported.len);
@@ -282,10 +231,7 @@ static offered *offer(sqlite3_context *context, int count, sqlite3_value **value
     size_t len = 0;
     for (size_t k = 1; k <= tags_count; k++) len += text_of(values[k]).len;
     offered *tags = sqlite3_malloc64(sizeof *tags + tags_count * (sizeof *tags->site + sizeof *tags->spans + sizeof *tags->found) + len + 1);
-    if (!tags) {
-        sqlite3_result_error_nomem(context);
-        return NULL;
-    }
+    if (lacks(context, tags)) return NULL;
     tags->count = tags_count;
     tags->len = len;
     tags->site = (langtag_prepared_tag *)(tags + 1);
@@ -349,14 +295,14 @@ static size_t chosen(sqlite3_context *context, int count, sqlite3_value **values
     return best;
 }
 
-static void best_for_header(sqlite3_context *context, int count, sqlite3_value **values) {
+FUNCTION(best_for_header) {
     langtag_best_match match;
     size_t best = chosen(context, count, values, &match);
     if (best) sqlite3_result_value(context, values[best]); /* else NULL */
 }
 
 /* Returns a JSON object. The bytes of tags and ranges need no escapes in JSON. */
-static void match_for_header(sqlite3_context *context, int count, sqlite3_value **values) {
+FUNCTION(match_for_header) {
     langtag_best_match match;
     size_t best = chosen(context, count, values, &match);
     if (!best) return; /* NULL */
@@ -365,7 +311,7 @@ static void match_for_header(sqlite3_context *context, int count, sqlite3_value 
 }
 
 /* Returns a JSON array of the suitable tags, best first. The bytes of tags need no escapes in JSON. */
-static void suitable_for_header(sqlite3_context *context, int count, sqlite3_value **values) {
+FUNCTION(suitable_for_header) {
     text header;
     offered *tags = has_header(context, count, values, &header) ? offer(context, count, values) : NULL;
     if (!tags) return; /* NULL, or the error */
@@ -380,8 +326,7 @@ static void suitable_for_header(sqlite3_context *context, int count, sqlite3_val
     return_made(context, sqlite3_str_finish(json));
 }
 
-static void suggestion(sqlite3_context *context, int count, sqlite3_value **values) {
-    (void)count;
+FUNCTION(suggestion) {
     const text tag = text_of(values[0]);
     langtag_span invalid;
     char code[3];
@@ -403,10 +348,7 @@ typedef struct group {
 static bool same_header(sqlite3_context *context, group *rows, text header) {
     if (!rows->header) {
         rows->header = sqlite3_malloc64(header.len + 1);
-        if (!rows->header) {
-            sqlite3_result_error_nomem(context);
-            return false;
-        }
+        if (lacks(context, rows->header)) return false;
         memcpy(rows->header, header.at, header.len);
         rows->header_len = header.len;
     }
@@ -417,17 +359,12 @@ static bool same_header(sqlite3_context *context, group *rows, text header) {
 
 /* Chooses between the best tag of the rows before and that of this row. This is correct because the choice between two tags depends on
  * no third tag, and of two equally good tags the first is chosen. */
-static void group_step(sqlite3_context *context, int count, sqlite3_value **values) {
-    (void)count;
+FUNCTION(group_step) {
     group *rows = sqlite3_aggregate_context(context, sizeof *rows);
     text header, tag;
-    if (!rows) sqlite3_result_error_nomem(context);
-    if (!rows || !given(context, values[0], &header) || !given(context, values[1], &tag) || !same_header(context, rows, header)) return;
+    if (lacks(context, rows) || !given(context, values[0], &header) || !given(context, values[1], &tag) || !same_header(context, rows, header)) return;
     char *bytes = sqlite3_realloc64(rows->bytes, rows->best_len + tag.len + 1);
-    if (!bytes) {
-        sqlite3_result_error_nomem(context);
-        return;
-    }
+    if (lacks(context, bytes)) return;
     rows->bytes = bytes;
     memcpy(bytes + rows->best_len, tag.at, tag.len);
     /* Without a best tag, the first span is empty, which is no tag. */
@@ -445,8 +382,7 @@ static void group_final(sqlite3_context *context) {
     sqlite3_free(rows->bytes);
 }
 
-static void version(sqlite3_context *context, int count, sqlite3_value **values) {
-    (void)count, (void)values;
+FUNCTION(version) {
     const unsigned date = langtag_registry_date();
     char cldr[32];
     const size_t len = langtag_cldr_version(cldr, sizeof cldr);
@@ -454,8 +390,7 @@ static void version(sqlite3_context *context, int count, sqlite3_value **values)
                                          date / 100 % 100, date % 100, len <= sizeof cldr ? (int)len : 0, cldr));
 }
 
-static void proved(sqlite3_context *context, int count, sqlite3_value **values) {
-    (void)count, (void)values;
+FUNCTION(proved) {
     sqlite3_result_int(context, LANGTAG_PROVED);
 }
 

@@ -1,11 +1,10 @@
-#!/usr/bin/env python3
-"""Tests the extension for SQLite: test_sqlite.py EXTENSION [TEST]. It runs the rows that the tests of all languages read, and tests
+"""Tests the extension for SQLite, which EXTENSION names. It runs the rows that the tests of all languages read, and tests
 what only SQL has."""
 import functools
 import json
+import os
 import re
 import subprocess
-import sys
 import unittest
 
 import rows
@@ -15,7 +14,7 @@ PARTS = ("language", "script", "region", "variants", "extensions", "private_use"
 
 def sqlite(script):
     """Runs statements with the extension loaded. Returns SQLite's output and its errors."""
-    command = ["sqlite3", ":memory:", "-cmd", f".load {EXTENSION}"]
+    command = ["sqlite3", ":memory:", "-cmd", f".load {os.environ['EXTENSION']}"]
     run = subprocess.run(command, input=script, capture_output=True, text=True)
     return run.stdout, run.stderr
 
@@ -134,9 +133,6 @@ def adapted(row):
     return "".join(f"\n  {name} {'-'.join(subtags)}" for name, *subtags in lines if name in PARTS)
 
 
-FLOORS = {"table.txt": 255, "likely.txt": 250, "parents.txt": 330, "names.txt": 430, "distance.txt": 140, "direction.txt": 325, "posix.txt": 240, "choices.txt": 285, "suitable.txt": 25, "lengths.txt": 90,
-          "unicode.txt": 25, "keywords.txt": 380, "extensions.txt": 630, "locale.txt": 780, "cldr.txt": 1770}
-
 TABLE = "CREATE TABLE texts (tag TEXT PRIMARY KEY COLLATE langtag); INSERT INTO texts VALUES ('zh-Hant'), ('de'), ('zh'), ('');"
 # Statements, and SQLite's output for them.
 STATEMENTS = [
@@ -197,7 +193,7 @@ STATEMENTS = [
 
 class Sqlite(unittest.TestCase):
     def test_rows(self):
-        asked = [row for name in rows.wanted(FLOORS) for row in rows.read(rows.FOLDER / name) if is_asked(row)]
+        asked = [row for name in rows.floors("SQLite") for row in rows.read(rows.FOLDER / name) if is_asked(row)]
         said, complaints = sqlite("".join(f"{CALLS[row.call][0](*row.arguments)};\n" for row in asked))
         errors = {int(number): error for number, error in re.findall(r"(?m)near line (\d+): (.*)$", complaints)}
         self.assertEqual(len(errors), len(complaints.splitlines()))
@@ -210,7 +206,7 @@ class Sqlite(unittest.TestCase):
             return CALLS[call][1](lines[(call, *arguments)]) if (call, *arguments) in lines else None
 
         asker = rows.Asker({call: functools.partial(answer, call) for call in CALLS}, adapted)
-        for name, floor in rows.wanted(FLOORS).items():
+        for name, floor in rows.floors("SQLite").items():
             asker.ask(rows.FOLDER / name, floor)
         if asker.failures():
             self.fail("\n" + asker.failures())
@@ -283,8 +279,3 @@ class Sqlite(unittest.TestCase):
         before, after = map(int, re.findall(r"Memory Used: +(\d+)", said))
         self.assertEqual(complaint, "")
         self.assertLess(after - before, 20_000)
-
-
-if __name__ == "__main__":
-    EXTENSION = sys.argv[1]
-    unittest.main(argv=[sys.argv[0], *sys.argv[2:]])

@@ -11,6 +11,16 @@ static const char *named(const char *const *names, size_t count, uint32_t number
 }
 #define NAMED(names, number) named(names, sizeof(names) / sizeof *(names), number)
 
+/* The answer to a call of one argument, and of two. */
+#define OF_ONE(name, a)                                                                                                \
+    static void name##_of(text *to, text a);                                                                           \
+    static void answer_##name(text *to, const text *arguments) { name##_of(to, arguments[0]); }                        \
+    static void name##_of(text *to, text a)
+#define OF_TWO(name, a, b)                                                                                             \
+    static void name##_of(text *to, text a, text b);                                                                   \
+    static void answer_##name(text *to, const text *arguments) { name##_of(to, arguments[0], arguments[1]); }          \
+    static void name##_of(text *to, text a, text b)
+
 /* Writes bytes as the rows have them. */
 static void put_bytes(text *to, const char *bytes, size_t len) {
     char escaped[8];
@@ -71,8 +81,7 @@ static void put_repeats(text *to, text from) {
     }
 }
 
-static void answer_tag(text *to, const text *arguments) {
-    text a = arguments[0];
+OF_ONE(tag, a) {
     langtag_parts parts;
     langtag_span rest, extension;
     char hash[32];
@@ -94,7 +103,7 @@ static void answer_tag(text *to, const text *arguments) {
     put_word(to, hash);
 }
 
-static void answer_validity(text *to, const text *arguments) {
+OF_ONE(validity, a) {
     static const char *const names[] = {
         [LANGTAG_VALIDITY_NONE] = "none",
         [LANGTAG_VALID] = "valid",
@@ -107,7 +116,6 @@ static void answer_validity(text *to, const text *arguments) {
         [LANGTAG_INVALID_REPEATED_VARIANT] = "repeated-variant",
         [LANGTAG_INVALID_REPEATED_SINGLETON] = "repeated-singleton",
     };
-    text a = arguments[0];
     langtag_span invalid = {1, 2}; /* the call does not read an out argument */
     uint32_t answer = langtag_validity(a.at, a.len, &invalid);
     put_word(to, " "), put_word(to, NAMED(names, answer));
@@ -120,8 +128,7 @@ static void answer_validity(text *to, const text *arguments) {
 }
 
 /* The suggestion for the first invalid subtag, in a buffer of exactly its length. In a shorter buffer nothing is written. */
-static void answer_suggestion(text *to, const text *arguments) {
-    text a = arguments[0];
+OF_ONE(suggestion, a) {
     langtag_span invalid;
     char code[8] = "~~~~~~~";
     uint32_t fault = langtag_validity(a.at, a.len, &invalid);
@@ -168,20 +175,18 @@ static void put_form(text *to, text a, write_form *write) {
     if (put_written(to, &a, write_form_of_row, is_partly) == 0) put_word(to, " -");
 }
 
-static void answer_canonical(text *to, const text *arguments) {
-    text a = arguments[0];
+OF_ONE(canonical, a) {
     put_form(to, a, langtag_canonical);
     bool is_tag = langtag_kind(a.at, a.len) != LANGTAG_NONE;
     bool is_form = is_tag && to->len == a.len + 1 && langtag_eq(a.at, a.len, to->at + 1, a.len);
     if (langtag_is_canonical(a.at, a.len) != is_form) put_word(to, " but langtag_is_canonical says otherwise");
 }
 
-static void answer_maximized(text *to, const text *arguments) { put_form(to, arguments[0], langtag_maximized); }
-static void answer_minimized(text *to, const text *arguments) { put_form(to, arguments[0], langtag_minimized); }
+OF_ONE(maximized, a) { put_form(to, a, langtag_maximized); }
+OF_ONE(minimized, a) { put_form(to, a, langtag_minimized); }
 
 /* The tag and its parents. Each parent is asked of the one before it. */
-static void answer_parents(text *to, const text *arguments) {
-    text a = arguments[0];
+OF_ONE(parents, a) {
     if (langtag_kind(a.at, a.len) == LANGTAG_NONE) {
         put_form(to, a, langtag_parent);
         return;
@@ -197,17 +202,15 @@ static void answer_parents(text *to, const text *arguments) {
     }
 }
 
-static void answer_extensions_form(text *to, const text *arguments) { put_form(to, arguments[0], langtag_extensions_form); }
+OF_ONE(extensions_form, a) { put_form(to, a, langtag_extensions_form); }
 
-static void answer_base(text *to, const text *arguments) {
-    size_t len = langtag_base_len(arguments[0].at, arguments[0].len);
-    if (len > 0) put_bytes(to, arguments[0].at, len);
+OF_ONE(base, a) {
+    size_t len = langtag_base_len(a.at, a.len);
+    if (len > 0) put_bytes(to, a.at, len);
     else put_word(to, " -");
 }
 
-static void answer_is_locale(text *to, const text *arguments) {
-    put_word(to, langtag_is_locale(arguments[0].at, arguments[0].len) ? " yes" : " no");
-}
+OF_ONE(is_locale, a) { put_word(to, langtag_is_locale(a.at, a.len) ? " yes" : " no"); }
 
 static size_t write_version(const char *bytes, size_t len, char *buffer, size_t buffer_len) {
     (void)bytes, (void)len;
@@ -220,20 +223,18 @@ static void answer_cldr_version(text *to, const text *arguments) {
 }
 
 /* The form, which has to be a Unicode locale identifier. Each such identifier has a form. */
-static void answer_locale_form(text *to, const text *arguments) {
-    text a = arguments[0];
+OF_ONE(locale_form, a) {
     put_form(to, a, langtag_locale_form);
     bool has_form = to->len != 2 || to->at[1] != '-';
     if (has_form != langtag_is_locale(to->at + 1, to->len - 1)) put_word(to, " which langtag_is_locale refuses");
     if (!has_form && langtag_is_locale(a.at, a.len)) put_word(to, " but langtag_is_locale accepts the tag");
 }
 
-static void answer_posix(text *to, const text *arguments) { put_form(to, arguments[0], langtag_from_posix); }
+OF_ONE(posix, a) { put_form(to, a, langtag_from_posix); }
 
-static void answer_posix_name(text *to, const text *arguments) { put_form(to, arguments[0], langtag_to_posix); }
+OF_ONE(posix_name, a) { put_form(to, a, langtag_to_posix); }
 
-static void answer_unknown_modifier(text *to, const text *arguments) {
-    text name = arguments[0];
+OF_ONE(unknown_modifier, name) {
     langtag_span modifier = {1, 2};
     if (langtag_unknown_modifier(name.at, name.len, &modifier)) {
         put_bytes(to, name.at + modifier.start, modifier.len);
@@ -244,33 +245,29 @@ static void answer_unknown_modifier(text *to, const text *arguments) {
     if (modifier.start != 1 || modifier.len != 2) put_word(to, " and a modifier");
 }
 
-static void answer_right_to_left(text *to, const text *arguments) {
-    text a = arguments[0];
+OF_ONE(right_to_left, a) {
     bool is_tag = langtag_kind(a.at, a.len) != LANGTAG_NONE;
     put_word(to, langtag_is_right_to_left(a.at, a.len) ? " yes" : is_tag ? " no" : " -");
 }
 
-static void answer_distance(text *to, const text *arguments) {
-    text a = arguments[0], b = arguments[1];
+OF_TWO(distance, a, b) {
     uint32_t distance = langtag_distance(a.at, a.len, b.at, b.len);
     if (distance == LANGTAG_NO_DISTANCE) put_word(to, " -");
     else put_number(to, "", distance);
 }
 
-static void answer_grandfathered(text *to, const text *arguments) {
-    text a = arguments[0];
+OF_ONE(grandfathered, a) {
     put_number(to, "", langtag_grandfathered(a.at, a.len));
     put_word(to, " "), put_word(to, name_of_kind(langtag_kind(a.at, a.len)));
 }
 
-static void answer_refused(text *to, const text *arguments) {
+OF_ONE(refused, a) {
     static const char *const names[] = {
         [LANGTAG_REFUSED_NONE] = "none",
         [LANGTAG_REFUSED_SUBTAG] = "subtag",
         [LANGTAG_REFUSED_BYTE] = "byte",
         [LANGTAG_REFUSED_END] = "end",
     };
-    text a = arguments[0];
     langtag_span subtag = {1, 2}; /* the call does not read an out argument */
     size_t offset = 3;
     uint32_t answer = langtag_refused(a.at, a.len, &subtag, &offset);
@@ -280,8 +277,7 @@ static void answer_refused(text *to, const text *arguments) {
     put_number(to, "", offset);
 }
 
-static void answer_viable(text *to, const text *arguments) {
-    text a = arguments[0];
+OF_ONE(viable, a) {
     put_number(to, "", langtag_viable_len(a.at, a.len));
     put_number(to, "", langtag_stop_len(a.at, a.len));
 }
@@ -294,8 +290,7 @@ static void put_ends(text *to, langtag_parts parts) {
 }
 
 /* How many bytes have to be read, how many prefixes are tags, and the kind of the text. */
-static void answer_scan(text *to, const text *arguments) {
-    text a = arguments[0];
+OF_ONE(scan, a) {
     size_t tags = 0;
     langtag_parts parts;
     uint32_t kind = langtag_parse(a.at, a.len, &parts);
@@ -306,12 +301,9 @@ static void answer_scan(text *to, const text *arguments) {
     if (kind == LANGTAG_IRREGULAR) put_number(to, "", langtag_grandfathered(a.at, a.len));
 }
 
-static void answer_recommended(text *to, const text *arguments) {
-    put_changed(to, "", arguments[0], langtag_recommend);
-}
+OF_ONE(recommended, a) { put_changed(to, "", a, langtag_recommend); }
 
-static void answer_fallbacks(text *to, const text *arguments) {
-    text a = arguments[0];
+OF_ONE(fallbacks, a) {
     langtag_span rest = {0, a.len};
     if (langtag_range_kind(a.at, a.len) == LANGTAG_RANGE_NONE) {
         put_word(to, " refused");
@@ -340,8 +332,7 @@ static uint32_t put_elements(text *to, text a, uint32_t of) {
 }
 
 /* The message for the first malformed element, and the ranges by descending weight. */
-static void answer_elements(text *to, const text *arguments) {
-    text a = arguments[0];
+OF_ONE(elements, a) {
     langtag_span rest = {0, a.len}, range;
     uint32_t weight, answer;
     do answer = langtag_next_accepted(a.at, a.len, &rest, &range, &weight);
@@ -355,24 +346,22 @@ static void answer_elements(text *to, const text *arguments) {
     if (to->len == before) put_word(to, " -");
 }
 
-static void answer_range(text *to, const text *arguments) {
+OF_ONE(range, a) {
     static const char *const names[] = {
         [LANGTAG_RANGE_NONE] = "none",
         [LANGTAG_RANGE_BASIC] = "basic",
         [LANGTAG_RANGE_EXTENDED] = "extended",
     };
-    put_word(to, " "), put_word(to, NAMED(names, langtag_range_kind(arguments[0].at, arguments[0].len)));
+    put_word(to, " "), put_word(to, NAMED(names, langtag_range_kind(a.at, a.len)));
 }
 
-static void answer_match(text *to, const text *arguments) {
-    text a = arguments[0], b = arguments[1];
+OF_TWO(match, a, b) {
     bool basic = langtag_matches_basic(a.at, a.len, b.at, b.len);
     bool extended = langtag_matches_extended(a.at, a.len, b.at, b.len);
     put_word(to, basic ? extended ? " both" : " basic" : extended ? " extended" : " neither");
 }
 
-static void answer_order(text *to, const text *arguments) {
-    text a = arguments[0], b = arguments[1];
+OF_TWO(order, a, b) {
     int32_t order = langtag_cmp(a.at, a.len, b.at, b.len);
     bool is_equal = langtag_eq(a.at, a.len, b.at, b.len);
     put_word(to, order == -1 ? " before" : order == 0 ? " equal" : order == 1 ? " after" : " unknown");
@@ -458,29 +447,28 @@ static void put_strictly(text *to, text header, text words) {
         put_word(to, " and another element");
 }
 
-static void answer_header(text *to, const text *arguments) {
-    put_strictly(to, arguments[0], arguments[1]);
-    put_word(to, " |"), put_chosen(to, langtag_tag_for_header_lenient, arguments[0], arguments[1]);
+OF_TWO(header, header, words) {
+    put_strictly(to, header, words);
+    put_word(to, " |"), put_chosen(to, langtag_tag_for_header_lenient, header, words);
 }
 
 /* Makes a header from ranges: they are joined by commas, and each "-*" is removed. */
-static void answer_ranges(text *to, const text *arguments) {
+OF_TWO(ranges, a, b) {
     text header = {NULL, 0, 0};
     put(&header, "", 0);
-    for (size_t at = 0; at < arguments[0].len; at++) {
-        const char *here = arguments[0].at + at;
-        if (*here == '-' && at + 1 < arguments[0].len && here[1] == '*') at++;
+    for (size_t at = 0; at < a.len; at++) {
+        const char *here = a.at + at;
+        if (*here == '-' && at + 1 < a.len && here[1] == '*') at++;
         else put(&header, *here == ' ' ? "," : here, 1);
     }
-    put_chosen(to, langtag_tag_for_header_lenient, header, arguments[1]);
+    put_chosen(to, langtag_tag_for_header_lenient, header, b);
     free(header.at);
 }
 
 typedef bool find_value(const char *, size_t, const char *, size_t, langtag_span *);
 typedef bool next_pair(const char *, size_t, size_t *, langtag_span *, langtag_span *);
 
-static void answer_keyword(text *to, const text *arguments) {
-    text tag = arguments[0], key = arguments[1];
+OF_TWO(keyword, tag, key) {
     langtag_span value = {1, 2};
     if (langtag_keyword(tag.at, tag.len, key.at, key.len, &value)) put_bytes(to, tag.at + value.start, value.len);
     else put_word(to, value.start == 1 && value.len == 2 ? " -" : " - with a span");
@@ -517,13 +505,10 @@ static int put_pairs(text *to, text tag, next_pair *next, find_value *find) {
     return count;
 }
 
-static void answer_keywords(text *to, const text *arguments) {
-    if (put_pairs(to, arguments[0], langtag_next_keyword, langtag_keyword) == 0) put_word(to, " -");
-}
+OF_ONE(keywords, a) { if (put_pairs(to, a, langtag_next_keyword, langtag_keyword) == 0) put_word(to, " -"); }
 
 /* Writes each attribute once: an attribute that equals an earlier one is left out. */
-static void answer_attributes(text *to, const text *arguments) {
-    text tag = arguments[0];
+OF_ONE(attributes, tag) {
     langtag_span rest, one, earlier, before, all;
     if (!langtag_attributes(tag.at, tag.len, &all)) put_word(to, all.len == 0 ? " -" : " - with a span");
     for (rest = all; langtag_next_subtag(tag.at, tag.len, &rest, &one);) {
@@ -534,8 +519,7 @@ static void answer_attributes(text *to, const text *arguments) {
     }
 }
 
-static void answer_transform(text *to, const text *arguments) {
-    text tag = arguments[0];
+OF_ONE(transform, tag) {
     langtag_span language = {1, 2};
     if (!langtag_transform(tag.at, tag.len, &language)) {
         put_word(to, language.start == 1 && language.len == 2 ? " -" : " - with a span");
@@ -565,36 +549,33 @@ static bool is_current(size_t index) {
 }
 
 /* The choice of a site is that of the tags, and no tag is chosen for which it was not prepared. */
-static void answer_best(text *to, const text *arguments) {
-    const text *header = &arguments[0], *words = &arguments[1];
+OF_TWO(best, header, words) {
     text by_site = {NULL, 0, 0};
-    put_chosen(to, langtag_best_for_header, *header, *words);
+    put_chosen(to, langtag_best_for_header, header, words);
     put(&by_site, "", 0);
-    size_t count = prepare_tags(*words), index = langtag_site_best_for_header(header->at, header->len, words->at, words->len, site, count + 1);
-    if (index < count) put_bytes(&by_site, words->at + site[index].tag.start, site[index].tag.len);
+    size_t count = prepare_tags(words), index = langtag_site_best_for_header(header.at, header.len, words.at, words.len, site, count + 1);
+    if (index < count) put_bytes(&by_site, words.at + site[index].tag.start, site[index].tag.len);
     else put_word(&by_site, index == count + 1 ? " -" : " beyond the tags");
     if (by_site.len > to->len || memcmp(to->at + to->len - by_site.len, by_site.at, by_site.len) != 0) put_word(to, " but another of a site");
-    size_t wrong = langtag_site_best_for_header(header->at, header->len, words->at, words->len, stale, count);
+    size_t wrong = langtag_site_best_for_header(header.at, header.len, words.at, words.len, stale, count);
     if (wrong > count || (wrong < count && !is_current(wrong))) put_word(to, " but a stale tag of a site");
     free(by_site.at);
 }
 
 /* Also with spans that reach beyond the texts. */
-static void answer_best_ranges(text *to, const text *arguments) {
-    const text *from = &arguments[0], *words = &arguments[1];
-    size_t wanted = find_tags(*from, ranges), count = find_tags(*words, tags);
-    size_t index = langtag_best_for_ranges(from->at, from->len, ranges, wanted, words->at, words->len, tags, count);
-    put_tag(to, *words, count, index);
-    size_t again = langtag_best_for_ranges(from->at, from->len, ranges, wanted + 1, words->at, words->len, tags, count + 1);
+OF_TWO(best_ranges, from, words) {
+    size_t wanted = find_tags(from, ranges), count = find_tags(words, tags);
+    size_t index = langtag_best_for_ranges(from.at, from.len, ranges, wanted, words.at, words.len, tags, count);
+    put_tag(to, words, count, index);
+    size_t again = langtag_best_for_ranges(from.at, from.len, ranges, wanted + 1, words.at, words.len, tags, count + 1);
     if (again != (index < count ? index : count + 1)) put_word(to, " but another beside spans out of the texts");
-    prepare_tags(*words);
-    if (langtag_site_best_for_ranges(from->at, from->len, ranges, wanted, words->at, words->len, site, count) != index)
+    prepare_tags(words);
+    if (langtag_site_best_for_ranges(from.at, from.len, ranges, wanted, words.at, words.len, site, count) != index)
         put_word(to, " but another of a site");
 }
 
 /* The index, the distance and the range. All out arguments are written even if no tag is suitable. */
-static void answer_best_match(text *to, const text *arguments) {
-    text header = arguments[0], words = arguments[1];
+OF_TWO(best_match, header, words) {
     size_t count = find_tags(words, tags);
     langtag_best_match match = {{1, 2}, 3};
     size_t index = langtag_match_for_header(header.at, header.len, words.at, words.len, tags, count, &match);
@@ -623,9 +604,8 @@ static void put_tags(text *to, text words, size_t count, const size_t *found, si
 }
 
 /* All suitable tags. An array that is too short has to get the first of them. */
-static void answer_suitable(text *to, const text *arguments) {
+OF_TWO(suitable, header, words) {
     static size_t found[MOST_TAGS], some[MOST_TAGS];
-    const text header = arguments[0], words = arguments[1];
     size_t count = find_tags(words, tags);
     memset(found, 0xff, sizeof found);
     size_t found_len = langtag_suitable_for_header(header.at, header.len, words.at, words.len, tags, count + 1, found, count + 1);
@@ -637,13 +617,12 @@ static void answer_suitable(text *to, const text *arguments) {
     }
 }
 
-static void answer_suitable_ranges(text *to, const text *arguments) {
+OF_TWO(suitable_ranges, from, words) {
     static size_t found[MOST_TAGS];
-    const text *from = &arguments[0], *words = &arguments[1];
-    size_t wanted = find_tags(*from, ranges), count = find_tags(*words, tags);
+    size_t wanted = find_tags(from, ranges), count = find_tags(words, tags);
     memset(found, 0xff, sizeof found);
-    size_t found_len = langtag_suitable_for_ranges(from->at, from->len, ranges, wanted + 1, words->at, words->len, tags, count + 1, found, count + 1);
-    put_tags(to, *words, count, found, found_len);
+    size_t found_len = langtag_suitable_for_ranges(from.at, from.len, ranges, wanted + 1, words.at, words.len, tags, count + 1, found, count + 1);
+    put_tags(to, words, count, found, found_len);
 }
 
 call calls[] = {

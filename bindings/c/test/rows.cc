@@ -148,10 +148,6 @@ static std::string grandfathered_of(const strings &asked) {
     return std::to_string(at - langtag::grandfathered_tags) + " " + kind_of(asked[0]);
 }
 
-static std::string viable_of(const strings &asked) {
-    return std::to_string(langtag::viable_len(asked[0])) + " " + std::to_string(langtag::stop_len(asked[0]));
-}
-
 /* Returns how many bytes have to be read, how many prefixes are tags, and the kind of the text with the ends of its parts. */
 static std::string scan_of(const strings &asked) {
     const std::string_view text = asked[0];
@@ -166,16 +162,6 @@ static std::string scan_of(const strings &asked) {
          {one->language(), one->script(), one->region(), one->variants(), one->extensions(), one->private_use()})
         out += " " + std::to_string(part.data() + part.size() - text.data());
     return out;
-}
-
-static std::string recommended_of(const strings &asked) {
-    const std::string text = escaped(langtag::recommended(asked[0]), '!');
-    return text.empty() ? "''" : text;
-}
-
-static std::string range_of(const strings &asked) {
-    const auto one = langtag::range::parse(asked[0]);
-    return !one ? "none" : one->is_basic() ? "basic" : "extended";
 }
 
 static std::string match_of(const strings &asked) {
@@ -249,12 +235,6 @@ static std::string elements_of(const strings &asked) {
     return out.substr(bad ? 0 : 1);
 }
 
-static std::string fallbacks_of(const strings &asked) {
-    std::string out;
-    for (auto it = langtag::range::parse(asked[0]); it; it = it->fallback()) out.append(out.empty() ? "" : " ").append(it->text());
-    return out.empty() ? "refused" : out;
-}
-
 static std::string ranges_of(const strings &asked) {
     const strings texts = split(asked[1], " "), words = split(asked[0], " ");
     std::vector<langtag::range> ranges;
@@ -305,18 +285,11 @@ static std::string with_keyword_of(const strings &asked) {
     return tag::parse(*made) ? *made : "not a tag: " + *made;
 }
 
-static std::string is_locale_of(const strings &asked) {
-    const auto one = tag::parse(asked[0]);
-    return one && one->is_locale() ? "yes" : "no";
-}
-
 static std::string locale_form_of(const tag &one) {
     const auto form = one.locale_form();
     if (langtag::owned_tag(one).locale_form() != form) return "an owned tag has another";
     return shown(form);
 }
-
-static std::string cldr_version_of(const strings &) { return langtag::cldr_version(); }
 
 static std::string refused_of(const strings &asked) {
     const auto found = langtag::refused(asked[0]);
@@ -330,13 +303,6 @@ static std::string refused_of(const strings &asked) {
            std::to_string(found->offset);
 }
 
-static std::string message_of(const strings &asked) {
-    const auto found = langtag::refused(asked[0]);
-    return escaped("invalid language tag " + langtag::quoted(asked[0]) + ": " + (found ? found->message() : "none"));
-}
-
-static std::string range_message_of(const strings &asked) { return escaped("invalid language range " + langtag::quoted(asked[0])); }
-
 /* The parents of a tag. The second one is the parent of the first. */
 static std::string parents_of(const tag &one) {
     const std::vector<std::string> chain = one.parents();
@@ -345,23 +311,12 @@ static std::string parents_of(const tag &one) {
     return one.parent().value_or("") == (chain.size() > 1 ? chain[1] : "") ? line : line + ", and parent says otherwise";
 }
 
-static std::string distance_of(const strings &asked) {
-    const auto desired = tag::parse(asked[0]), supported = tag::parse(asked[1]);
-    return desired && supported ? std::to_string(langtag::distance(*desired, *supported)) : "-";
-}
-
-static std::string posix_of(const strings &asked) { return shown(langtag::from_posix(asked[0])); }
-
 /* The name for a tag. If the tag has no script, the name is read as the tag. */
 static std::string posix_name_of(const tag &one) {
     const auto name = one.to_posix();
     if (!name) return "-";
     const std::string read = langtag::from_posix(*name).value_or("");
     return !one.script().empty() || one == tag::parse(read) ? *name : *name + ", which is another tag";
-}
-
-static std::string unknown_modifier_of(const strings &asked) {
-    return shown(langtag::unknown_modifier(asked[0]));
 }
 
 static std::string best_of(const strings &asked) {
@@ -390,11 +345,6 @@ static std::string best_of_ranges(const strings &asked) {
     const langtag::site site(texts);
     if (site.best_for_ranges(ranges) != best) return "another of a site";
     return found_or_default(best);
-}
-
-static std::string keyword_of(const strings &asked) {
-    const auto one = tag::parse(asked[0]);
-    return shown(one ? one->keyword(asked[1]) : std::nullopt);
 }
 
 /* Returns KEY=VALUE for each, and checks that each is found by its key. */
@@ -459,49 +409,70 @@ static std::string suitable_of(const strings &asked) {
     return joined_of(langtag::suitable_for_header(asked[0], tags)) == found ? found : "others of tags";
 }
 
-static std::string suitable_of_ranges(const strings &asked) {
-    const strings texts = split(asked[1], " ");
-    return joined_of(langtag::suitable_for_ranges(split(asked[0], " "), texts));
-}
-
 using answer = std::string (*)(const strings &asked); /* returns an empty text if C++ has no answer */
 static const std::map<std::string, answer> answers = {
     {"tag", tag_of},
     {"validity", validity_of},
     {"suggestion", of_tag<suggestion_of>},
     {"canonical", of_tag<canonical_of>},
-    {"viable", viable_of},
-    {"range", range_of},
+    {"viable", [](const strings &asked) {
+         return std::to_string(langtag::viable_len(asked[0])) + " " + std::to_string(langtag::stop_len(asked[0]));
+     }},
+    {"range", [](const strings &asked) {
+         const auto one = langtag::range::parse(asked[0]);
+         return std::string(!one ? "none" : one->is_basic() ? "basic" : "extended");
+     }},
     {"grandfathered", grandfathered_of},
     {"scan", scan_of},
-    {"recommended", recommended_of},
+    {"recommended", [](const strings &asked) {
+         const std::string text = escaped(langtag::recommended(asked[0]), '!');
+         return text.empty() ? "''" : text;
+     }},
     {"match", match_of},
     {"order", order_of},
     {"edit", edit_of},
     {"header", header_of},
     {"ranges", ranges_of},
     {"elements", elements_of},
-    {"fallbacks", fallbacks_of},
+    {"fallbacks", [](const strings &asked) {
+         std::string out;
+         for (auto it = langtag::range::parse(asked[0]); it; it = it->fallback()) out.append(out.empty() ? "" : " ").append(it->text());
+         return out.empty() ? "refused" : out;
+     }},
     {"refused", refused_of},
     {"fault", of_tag<fault_of>},
-    {"message", message_of},
-    {"range-message", range_message_of},
+    {"message", [](const strings &asked) {
+         const auto found = langtag::refused(asked[0]);
+         return escaped("invalid language tag " + langtag::quoted(asked[0]) + ": " + (found ? found->message() : "none"));
+     }},
+    {"range-message", [](const strings &asked) {
+         return escaped("invalid language range " + langtag::quoted(asked[0]));
+     }},
     {"maximized", of_tag<&tag::maximized>},
     {"parents", of_tag<parents_of>},
     {"describe", of_tag<langtag::describe>},
     {"autonym", of_tag<langtag::autonym>},
     {"minimized", of_tag<&tag::minimized>},
     {"right-to-left", of_tag<&tag::is_right_to_left>},
-    {"distance", distance_of},
-    {"posix", posix_of},
+    {"distance", [](const strings &asked) {
+         const auto desired = tag::parse(asked[0]), supported = tag::parse(asked[1]);
+         return desired && supported ? std::to_string(langtag::distance(*desired, *supported)) : "-";
+     }},
+    {"posix", [](const strings &asked) { return shown(langtag::from_posix(asked[0])); }},
     {"posix-name", of_tag<posix_name_of>},
-    {"unknown-modifier", unknown_modifier_of},
+    {"unknown-modifier", [](const strings &asked) { return shown(langtag::unknown_modifier(asked[0])); }},
     {"best", best_of},
     {"best-ranges", best_of_ranges},
     {"suitable", suitable_of},
-    {"suitable-ranges", suitable_of_ranges},
+    {"suitable-ranges", [](const strings &asked) {
+         const strings texts = split(asked[1], " ");
+         return joined_of(langtag::suitable_for_ranges(split(asked[0], " "), texts));
+     }},
     {"best-accepted", best_of_accepted},
-    {"keyword", keyword_of},
+    {"keyword", [](const strings &asked) {
+         const auto one = tag::parse(asked[0]);
+         return shown(one ? one->keyword(asked[1]) : std::nullopt);
+     }},
     {"keywords", of_tag<keywords_of>},
     {"attributes", of_tag<attributes_of>},
     {"transform", of_tag<transform_of>},
@@ -509,9 +480,12 @@ static const std::map<std::string, answer> answers = {
     {"with-keyword", with_keyword_of},
     {"extensions-form", of_tag<&tag::extensions_form>},
     {"base", of_tag<&tag::base>},
-    {"is-locale", is_locale_of},
+    {"is-locale", [](const strings &asked) {
+         const auto one = tag::parse(asked[0]);
+         return shown(one && one->is_locale());
+     }},
     {"locale-form", of_tag<locale_form_of>},
-    {"cldr-version", cldr_version_of},
+    {"cldr-version", [](const strings &) { return langtag::cldr_version(); }},
 };
 
 /* Answers the row that rows.c reads. */

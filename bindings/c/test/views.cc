@@ -54,6 +54,14 @@ template <class Header>
 struct is_matched<Header, std::void_t<decltype(langtag::match_for_header(std::declval<Header>(), {"de"}))>> : std::true_type {};
 static_assert(is_matched<const char *>::value && is_matched<std::string &>::value && !is_matched<std::string>::value);
 
+/* The tags that a site returns are views of it, so a temporary site returns none. */
+template <class Site, class = void> struct is_asked : std::false_type {};
+template <class Site> struct is_asked<Site, std::void_t<decltype(std::declval<Site>().best_for_header("de"))>> : std::true_type {};
+template <class Site, class = void> struct is_indexed : std::false_type {};
+template <class Site> struct is_indexed<Site, std::void_t<decltype(std::declval<Site>()[0])>> : std::true_type {};
+static_assert(is_asked<const langtag::site &>::value && !is_asked<langtag::site>::value);
+static_assert(is_indexed<const langtag::site &>::value && !is_indexed<langtag::site>::value);
+
 static void check_views() {
     CHECK(!tag::parse({}) && !langtag::range::parse({}) && langtag::viable_len({}) == 0 && langtag::stop_len({}) == 0);
     CHECK(langtag::recommended({}).empty() && langtag::folded({}).empty() &&

@@ -13,17 +13,25 @@ function assert(holds, what) {
     if (!holds) throw new Error(`not so: ${what}`);
 }
 
+/** Returns the error of a type that a call throws, or undefined. */
+function refusal(type, call) {
+    try {
+        call();
+    } catch (error) {
+        if (error instanceof type && error instanceof RangeError) return error;
+        throw error;
+    }
+    return undefined;
+}
+
 /** Returns what a constructor makes of a text, or undefined if it refuses the text. The error has to contain the text. */
 function made(type, text) {
-    try {
-        const value = type.parse(text);
-        assert(type.canParse(text) && String(value) === text && JSON.stringify({ value }) === JSON.stringify({ value: text }), "a text");
-        return value;
-    } catch (error) {
-        if (!(error instanceof InvalidTag || error instanceof InvalidRange)) throw error;
-        assert(error instanceof RangeError && error.text === text && !type.canParse(text), "a refusal");
-        return undefined;
-    }
+    const error = refusal(type === LanguageTag ? InvalidTag : InvalidRange, () => type.parse(text));
+    assert(type.canParse(text) === !error && (!error || error.text === text), "a refusal");
+    if (error) return undefined;
+    const value = type.parse(text);
+    assert(String(value) === text && JSON.stringify({ value }) === JSON.stringify({ value: text }), "a text");
+    return value;
 }
 
 /** Returns a function that answers a row about a tag. For a string that is not a tag, it answers `otherwise`. */
@@ -141,14 +149,9 @@ function answerOrder(one, other) {
 
 function answerHeader(header, list) {
     const texts = wordsOf(list), tags = tagsOf(list);
-    let strict;
-    try {
-        strict = String(tagForHeader(header, tags, DEFAULT));
-    } catch (error) {
-        if (!(error instanceof AcceptLanguageError)) throw error;
-        assert(error.header === header && error.message === `element ${error.index} has a bad ${error.part}`, "the error");
-        strict = `bad ${error.index} ${error.offset} ${{ "language range": "range", weight: "weight" }[error.part]}`;
-    }
+    const error = refusal(AcceptLanguageError, () => tagForHeader(header, tags, DEFAULT));
+    assert(!error || (error.header === header && error.message === `element ${error.index} has a bad ${error.part}`), "the error");
+    const strict = error ? `bad ${error.index} ${error.offset} ${error.part.replace("language ", "")}` : String(tagForHeader(header, tags, DEFAULT));
     const lenient = String(tagForHeaderLenient(header, tags, DEFAULT));
     assert(tagForHeaderLenient(header, new Set(texts), DEFAULT) === lenient, "the tag of texts");
     assert(String(lookUp(AcceptLanguage.lenient(header).ranges.map((it) => it.range), tags, DEFAULT)) === lenient, "the tag of its ranges");
@@ -158,25 +161,15 @@ function answerHeader(header, list) {
 /** Returns the ranges of a header by descending weight and, if an element is malformed, before them the error. */
 function answerElements(header) {
     const said = ({ ranges }) => ranges.map(({ range, weight }) => `${range} ${weight}`).join(" ") || "-";
-    const lenient = said(AcceptLanguage.lenient(header));
-    try {
-        assert(said(AcceptLanguage.parse(header)) === lenient, "the ranges of a header without errors");
-        return lenient;
-    } catch (error) {
-        if (!(error instanceof AcceptLanguageError)) throw error;
-        return `${error.message} | ${lenient}`;
-    }
+    const lenient = said(AcceptLanguage.lenient(header)), error = refusal(AcceptLanguageError, () => AcceptLanguage.parse(header));
+    assert(error || said(AcceptLanguage.parse(header)) === lenient, "the ranges of a header without errors");
+    return error ? `${error.message} | ${lenient}` : lenient;
 }
 
 function answerRefused(text) {
     const [answer, start, length, offset] = calls.refused(text);
     if (answer > 0) {
-        let error;
-        try {
-            LanguageTag.parse(text);
-        } catch (thrown) {
-            error = thrown;
-        }
+        const error = refusal(InvalidTag, () => LanguageTag.parse(text));
         assert(error.message.endsWith(`: ${error.reason}`) && error.start === start && error.offset === offset && error.subtag === (answer < 3 ? text.slice(start, start + length) : undefined), "the error");
     }
     return `${["none", "subtag", "byte", "end"][answer]} ${start} ${length} ${offset}`;
@@ -196,12 +189,8 @@ const escaped = (text) => [...new TextEncoder().encode(text)].map((byte) => (byt
 
 /** Returns a function that returns the message with which a type refuses a string, or undefined for bytes that are no string. */
 const messageOf = (type) => (bytes) => {
-    const text = decoded(bytes);
-    try {
-        return text === undefined ? undefined : String(type.parse(text));
-    } catch (error) {
-        return escaped(error.message).replace(/[\\{}](?!x[89a-f])/g, (it) => `\\x${it.charCodeAt(0).toString(16)}`);
-    }
+    const text = decoded(bytes), error = text === undefined ? undefined : refusal(RangeError, () => type.parse(text));
+    return error && escaped(error.message).replace(/[\\{}](?!x[89a-f])/g, (it) => `\\x${it.charCodeAt(0).toString(16)}`);
 };
 
 function answerUnknownModifier(bytes) {
@@ -245,14 +234,10 @@ function answerSuitable(header, list) {
 }
 
 function edited(tag, part, value) {
-    try {
-        return String(tag.with({ [part]: value }));
-    } catch (error) {
-        if (!(error instanceof EditError)) throw error;
-        assert(error.part === part && error instanceof RangeError, "the error");
-        assert((error.text === undefined) === (tag.kind !== "normal"), "its text");
-        return error.text === undefined ? "no parts" : "refused";
-    }
+    const error = refusal(EditError, () => tag.with({ [part]: value }));
+    if (!error) return String(tag.with({ [part]: value }));
+    assert(error.part === part && (error.text === undefined) === (tag.kind !== "normal"), "the error");
+    return error.text === undefined ? "no parts" : "refused";
 }
 
 /** Sets the part by a text, and variants also by a list. */
@@ -265,14 +250,11 @@ function answerEdit(text, name, given) {
 }
 
 function withKeywords(tag, keywords) {
-    try {
-        return String(tag.with({ keywords }));
-    } catch (error) {
-        if (!(error instanceof EditError)) throw error;
-        assert(error.text === undefined || error.message.includes(`\` is not a ${error.part} of `), error.message);
-        assert((error.part === "keywords") === (error.text === undefined), "its text");
-        return { key: "bad key", value: "bad value", keywords: "no parts" }[error.part];
-    }
+    const error = refusal(EditError, () => tag.with({ keywords }));
+    if (!error) return String(tag.with({ keywords }));
+    assert(error.text === undefined || error.message.includes(`\` is not a ${error.part} of `), error.message);
+    assert((error.part === "keywords") === (error.text === undefined), "its text");
+    return { key: "bad key", value: "bad value", keywords: "no parts" }[error.part];
 }
 
 /** Sets the keyword by a Map, and by an object together with two other keywords, which must not change what is refused. */
@@ -373,5 +355,3 @@ export const answers = {
     ranges: (ranges, list) => String(lookUp(wordsOf(ranges), tagsOf(list), DEFAULT)),
     edit: answerEdit,
 };
-
-export const FLOORS = { "table.txt": 360, "texts.txt": 710, "negotiation.txt": 102, "ranges.txt": 55, "edits.txt": 125, "likely.txt": 200, "parents.txt": 330, "posix.txt": 240, "direction.txt": 300, "distance.txt": 130, "choices.txt": 275, "lists.txt": 28, "suitable.txt": 32, "lengths.txt": 180, "refused.txt": 120, "unicode.txt": 400, "keywords.txt": 380, "extensions.txt": 630, "locale.txt": 750, "cldr.txt": 1774, "names.txt": 430 };

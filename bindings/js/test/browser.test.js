@@ -8,7 +8,7 @@ import { createServer } from "node:http";
 import { after, before, test } from "node:test";
 import { pathToFileURL } from "node:url";
 import { Chromium, program } from "./chromium.js";
-import { FLOORS } from "./answers.js";
+import { floors } from "./rows.js";
 
 const ROOT = new URL("../../../", import.meta.url);
 const PACKAGE = process.env.PACKAGE === undefined ? new URL("../", import.meta.url) : pathToFileURL(`${process.env.PACKAGE}/`);
@@ -55,7 +55,7 @@ after(async () => {
 
 const skip = program === undefined && "CHROMIUM names no program";
 
-for (const [name, floor] of Object.entries(FLOORS)) {
+for (const [name, floor] of floors(readFileSync(new URL("rows/floors.txt", ROOT), "latin1"))) {
     test(`${name} in a page`, { skip }, async () => {
         const found = await browser.value(`(async () => {
             const [{ ask, counts }, { adapted, answers }, response, calls] = await Promise.all([

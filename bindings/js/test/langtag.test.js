@@ -1,6 +1,6 @@
 /* Tests what only JavaScript has: values, errors, texts of any code units, and the memory of the module. */
 import assert from "node:assert/strict";
-import { cpSync, mkdtempSync, readFileSync, rmSync } from "node:fs";
+import { cpSync, mkdtempSync, rmSync } from "node:fs";
 import { tmpdir } from "node:os";
 import { join } from "node:path";
 import test from "node:test";
@@ -38,27 +38,6 @@ function thrown(call) {
     }
     return undefined;
 }
-
-test("index.d.ts declares what there is", () => {
-    const declared = readFileSync(new URL("../index.d.ts", import.meta.url), "utf8");
-    const named = (names) => [...new Set(names)].sort(); // an overload has its name more than once
-    assert.deepEqual(named(declared.match(/(?<=^export (?:const|function|class) )\w+/gm)), Object.keys(langtag).sort());
-    const values = [
-        LanguageTag.parse("en"), LanguageRange.parse("en"), AcceptLanguage.parse(""), thrown(() => LanguageTag.parse("")),
-        thrown(() => LanguageRange.parse("")), thrown(() => LanguageTag.parse("en").with({ script: "x" })), thrown(() => AcceptLanguage.parse("_")),
-        new Site(["en"]),
-    ];
-    const classes = [...declared.matchAll(/^export class (\w+).*\{\n([^]*?)^\}/gm)];
-    assert.equal(classes.length, values.length);
-    for (const [, name, body] of classes) {
-        const type = langtag[name], value = values.find((it) => it instanceof type);
-        const members = (pattern) => named([...body.matchAll(pattern)].map((found) => found[1]));
-        const statics = Object.getOwnPropertyNames(type).filter((it) => !["length", "name", "prototype"].includes(it));
-        assert.deepEqual(members(/^    static (\w+)[(<]/gm), statics.sort(), name);
-        const own = [...Object.keys(value), ...Object.getOwnPropertyNames(type.prototype)].filter((it) => !["constructor", "name"].includes(it));
-        assert.deepEqual(members(/^    (?!static|private|constructor)(?:readonly |get )?(\w+)[(<:]/gm), own.sort(), name);
-    }
-});
 
 test("parts that are absent", () => {
     const tag = LanguageTag.parse("de");

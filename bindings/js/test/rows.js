@@ -6,6 +6,9 @@
 /** Returns the number of arguments of each call, from the content of rows/calls.txt. */
 export const counts = (content) => Object.fromEntries(content.match(/^[\w-]+ \d$/gm).map((line) => [line.split(" ")[0], Number(line.at(-1))]));
 
+/** Returns [file, the least number of rows to be run] for each file of rows, from the content of rows/floors.txt. */
+export const floors = (content) => content.match(/^\w+\.txt.*/gm).map((line) => line.split(/ +/)).map((words) => [words[0], Number(words[4])]);
+
 const expand = (line) => line.replace(/\{(\d+):([^}]*)\}/g, (_, count, piece) => piece.repeat(Number(count)));
 
 /** Returns the text of a word. Each byte becomes the character with its number. */

@@ -2,8 +2,8 @@
 import assert from "node:assert/strict";
 import { readFileSync } from "node:fs";
 import test from "node:test";
-import { adapted, answers, FLOORS } from "./answers.js";
-import { ask, counts } from "./rows.js";
+import { adapted, answers } from "./answers.js";
+import { ask, counts, floors } from "./rows.js";
 
 const FOLDER = new URL("../../../rows/", import.meta.url);
 const calls = counts(readFileSync(new URL("calls.txt", FOLDER), "latin1"));
@@ -16,7 +16,7 @@ function askFile(name, content, floor) {
     assert.ok(found.differing.length === 0, `${found.differing.slice(0, 3).join("\n")}\n${found.differing.length} differ`);
 }
 
-for (const [name, floor] of Object.entries(FLOORS)) {
+for (const [name, floor] of floors(readFileSync(new URL("floors.txt", FOLDER), "latin1"))) {
     test(name, () => askFile(name, readFileSync(new URL(name, FOLDER), "latin1"), floor));
 }
 

@@ -1,4 +1,3 @@
-#!/usr/bin/env python3
 """Tests wrong, long and deeply nested input: each statement ends with the expected error, and the server still runs. Also tests
 dump and restore. PGHOST and similar variables name the server."""
 import os
@@ -190,7 +189,3 @@ class Dump(unittest.TestCase):
             self.assertEqual(dumped(name), plain)
         self.assertIn("zh-Hant", plain)
         self.assertEqual(server.lines(f"SET search_path = public, {schema}; SELECT tag, form FROM t ORDER BY tag", "by_custom"), ["iw|he", "x-a|x-a", "zh-Hant|zh-Hant"])
-
-
-if __name__ == "__main__":
-    unittest.main()

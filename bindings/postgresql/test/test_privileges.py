@@ -1,4 +1,3 @@
-#!/usr/bin/env python3
 """Tests that the scripts of the extension, which run as a superuser because the extension is trusted, call nothing that an owner of the
 schema can define. `later` of cluster.sh installed the release to which the extension is updated."""
 import unittest
@@ -75,7 +74,3 @@ class Privileges(unittest.TestCase):
 
     def tearDown(self):
         server.lines("DROP DATABASE IF EXISTS owned; DROP ROLE IF EXISTS mallory; DROP DATABASE IF EXISTS settings")
-
-
-if __name__ == "__main__":
-    unittest.main()

@@ -1,4 +1,3 @@
-#!/usr/bin/env python3
 """Filters by a sequential scan, an index scan, an index-only scan, a bitmap scan, and by the index for ranges of a table. The
 results are compared with each other and with a second implementation of RFC 4647 section 3.3 (random_rows.py). The order of a sort
 and of an index is compared with Python's order of the lowercase texts."""
@@ -104,7 +103,3 @@ class Ranges(unittest.TestCase):
         self.assertEqual(server.lines(by_sort + "SELECT tag FROM t ORDER BY tag", "ranges"), wanted)
         self.assertEqual(server.lines(by_sort + "SELECT tag FROM t ORDER BY tag DESC", "ranges"), wanted[::-1])
         self.assertEqual(server.lines("SET enable_seqscan = off; SET enable_sort = off; SELECT tag FROM t ORDER BY tag", "ranges"), wanted)
-
-
-if __name__ == "__main__":
-    unittest.main()

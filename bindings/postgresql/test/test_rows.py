@@ -1,7 +1,7 @@
-#!/usr/bin/env python3
 """Runs the rows that the tests of all languages read in SQL, and compares answers about tags of the registry's subtags with
-registry/oracle.py: test_rows.py ROOT, where ROOT is the repository. In SQL a tag has its recommended case, and so have the answers
+registry/oracle.py. LANGTAG_ROOT is the repository, if these tests run in a copy. In SQL a tag has its recommended case, and so have the answers
 that are tags. So they are compared in lowercase."""
+import os
 import pathlib
 import subprocess
 import sys
@@ -9,9 +9,7 @@ import unittest
 
 import server
 
-ROOT = pathlib.Path(sys.argv[1] if len(sys.argv) > 1 else __file__).resolve()
-if len(sys.argv) == 1:
-    ROOT = ROOT.parent.parent.parent.parent
+ROOT = pathlib.Path(os.environ.get("LANGTAG_ROOT") or pathlib.Path(__file__).resolve().parents[3])
 sys.path.insert(0, str(ROOT / "bindings/python"))
 import rows  # noqa: E402
 
@@ -163,12 +161,6 @@ QUERIES = {
     "is-locale": lambda tag: f"SELECT CASE WHEN is_locale({text(tag)}::langtag) THEN 'yes' ELSE 'no' END",
     "cldr-version": lambda: "SELECT langtag_cldr_version()",
 }
-# The files of rows, and the least number of rows of each that SQL answers.
-FLOORS = {
-    "table.txt": 300, "lengths.txt": 140, "texts.txt": 500, "refused.txt": 28, "negotiation.txt": 95, "edits.txt": 110,
-    "likely.txt": 280, "parents.txt": 330, "names.txt": 430, "distance.txt": 100, "posix.txt": 230, "choices.txt": 275, "suitable.txt": 25, "unicode.txt": 150,
-    "keywords.txt": 375, "extensions.txt": 630, "locale.txt": 780, "cldr.txt": 1774,
-}
 NO_TAG = "22P02"
 # What a row has for a string that is not a tag, and SQL's other answers that rows write in another way.
 REFUSED = {"tag": "none", "validity": "none", "range": "none", "match": "neither",
@@ -256,7 +248,7 @@ class Rows(unittest.TestCase):
             self.fail("\n" + asker.failures())
 
     def test_files(self):
-        for name, floor in FLOORS.items():
+        for name, floor in rows.floors("PostgreSQL").items():
             with self.subTest(name):
                 self.ask(name, floor)
 
@@ -282,7 +274,3 @@ class Registry(unittest.TestCase):
               f"formed")
         self.assertGreater(len(said), 40_000)
         self.assertEqual(differ[:3], [])
-
-
-if __name__ == "__main__":
-    unittest.main(argv=sys.argv[:1])

@@ -1,4 +1,3 @@
-#!/usr/bin/env python3
 """Tests two shards and a hub, by postgres_fdw with `extensions 'langtag'`. The answers have to be those of one table with the same
 rows, and the shards have to get the expected statements. PGPORT names the hub, and SHARDS the ports of two more servers."""
 import os
@@ -113,7 +112,3 @@ class Shards(unittest.TestCase):
         """A shard uses its index for the statement that it gets."""
         plan = server.lines("SET enable_seqscan = off; EXPLAIN SELECT id FROM part WHERE tag OPERATOR(public.<@) 'DE'::public.langtag_range", "shard", SHARDS[0])
         self.assertIn("Index Cond: ((tag >= 'de'::langtag) AND (tag < 'de.'::langtag))", " ".join(plan))
-
-
-if __name__ == "__main__":
-    unittest.main()

@@ -1,4 +1,3 @@
-#!/usr/bin/env python3
 """Tests the update to a release with another registry and another CLDR, which `later` of cluster.sh installed: its warnings, the
 objects with old values afterwards, and the commands that renew them."""
 import re
@@ -100,7 +99,3 @@ class Update(unittest.TestCase):
     def test_a_new_database_has_the_first(self):
         server.fresh("first")
         self.assertEqual(server.lines("SELECT canonical('de')", "first"), ["de"])
-
-
-if __name__ == "__main__":
-    unittest.main()

@@ -5,7 +5,7 @@ import os
 import sys
 from typing import Callable, Iterable, Iterator, List, NamedTuple, NoReturn
 
-from . import (CLDR_VERSION, REGISTRY_DATE, InvalidRange, InvalidSubtag, InvalidTag, Kind, Range, Tag, __version__, _backend,
+from . import (CLDR_VERSION, REGISTRY_DATE, InvalidRange, InvalidSubtag, InvalidTag, Kind, Range, Tag, __version__,
                best_for_header, distance)
 
 HELP = """\

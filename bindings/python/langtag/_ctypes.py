@@ -4,14 +4,25 @@ from __future__ import annotations
 
 import ctypes
 import functools
-from typing import Any, Callable, Iterable, Iterator
+from typing import TYPE_CHECKING, Any, Callable, ClassVar, Iterable, Iterator, TypeVar
 
 from ._declarations import FUNCTIONS, BestMatch, Parts, PreparedTag, Repeated, Span
 from ._library import opened
 from ._texts import Text, bytes_of, unchangeable, uninitialized, wrong_type
 
+if TYPE_CHECKING:
+    from . import Tag
+
 _c = opened()
-registry_date = _c.langtag_registry_date
+_Listed = TypeVar("_Listed")
+_Default = TypeVar("_Default")
+
+registry_date: Callable[[], int] = _c.langtag_registry_date
+kind: Callable[[Text], int]
+base_len: Callable[[Text], int]
+viable_len: Callable[[Text], int]
+stop_len: Callable[[Text], int]
+is_right_to_left: Callable[[Text], bool]
 
 
 def _ask(call: Callable[..., Any], text: Text, *more: Any) -> Any:
@@ -102,7 +113,7 @@ def _index(choose: Callable[..., int], wanted: tuple[Any, ...], listed: list[Any
     return choose(*wanted, *_joined([_tag(it, tag_class)._data for it in listed]), *out)
 
 
-def _chosen(choose: Callable[..., int], wanted: tuple[Any, ...], tags: Iterable[Any], default: Any, tag_class: Any) -> Any:
+def _chosen(choose: Callable[..., int], wanted: tuple[Any, ...], tags: Iterable[_Listed], default: _Default, tag_class: Any) -> _Listed | _Default:
     listed = list(tags)
     index = _index(choose, wanted, listed, tag_class)
     return listed[index] if index < len(listed) else default
@@ -112,19 +123,19 @@ def _header(header: Text) -> tuple[bytes, int]:
     return bytes_of(header), len(bytes_of(header))
 
 
-def best_for_header(header: Text, *more: Any) -> Any:
-    return _chosen(_c.langtag_best_for_header, _header(header), *more)
+def best_for_header(header: Text, tags: Iterable[_Listed], default: _Default, tag_class: type[Tag]) -> _Listed | _Default:
+    return _chosen(_c.langtag_best_for_header, _header(header), tags, default, tag_class)
 
 
-def tag_for_header(header: Text, *more: Any) -> Any:
-    return _chosen(_c.langtag_tag_for_header_lenient, _header(header), *more)
+def tag_for_header(header: Text, tags: Iterable[_Listed], default: _Default, tag_class: type[Tag]) -> _Listed | _Default:
+    return _chosen(_c.langtag_tag_for_header_lenient, _header(header), tags, default, tag_class)
 
 
-def best_for_ranges(ranges: list[bytes], *more: Any) -> Any:
-    return _chosen(_c.langtag_best_for_ranges, _joined(ranges), *more)
+def best_for_ranges(ranges: list[bytes], tags: Iterable[_Listed], default: _Default, tag_class: type[Tag]) -> _Listed | _Default:
+    return _chosen(_c.langtag_best_for_ranges, _joined(ranges), tags, default, tag_class)
 
 
-def match_for_header(header: Text, tags: Iterable[Any], tag_class: Any) -> tuple[int, Any, int, bytes] | None:
+def match_for_header(header: Text, tags: Iterable[_Listed], tag_class: type[Tag]) -> tuple[int, _Listed, int, bytes] | None:
     listed, match = list(tags), BestMatch()
     index = _index(_c.langtag_match_for_header, _header(header), listed, tag_class, match)
     if index == len(listed):
@@ -132,19 +143,19 @@ def match_for_header(header: Text, tags: Iterable[Any], tag_class: Any) -> tuple
     return index, listed[index], match.distance, bytes_of(header)[match.range.start : match.range.start + match.range.len]
 
 
-def _suitable(choose: Callable[..., int], wanted: tuple[Any, ...], tags: Iterable[Any], tag_class: Any) -> list[Any]:
+def _suitable(choose: Callable[..., int], wanted: tuple[Any, ...], tags: Iterable[_Listed], tag_class: type[Tag]) -> list[_Listed]:
     listed = list(tags)
     found = (ctypes.c_size_t * max(len(listed), 1))()
     count = _index(choose, wanted, listed, tag_class, found, len(listed))
     return [listed[index] for index in found[:count]]
 
 
-def suitable_for_header(header: Text, *more: Any) -> list[Any]:
-    return _suitable(_c.langtag_suitable_for_header, _header(header), *more)
+def suitable_for_header(header: Text, tags: Iterable[_Listed], tag_class: type[Tag]) -> list[_Listed]:
+    return _suitable(_c.langtag_suitable_for_header, _header(header), tags, tag_class)
 
 
-def suitable_for_ranges(ranges: list[bytes], *more: Any) -> list[Any]:
-    return _suitable(_c.langtag_suitable_for_ranges, _joined(ranges), *more)
+def suitable_for_ranges(ranges: list[bytes], tags: Iterable[_Listed], tag_class: type[Tag]) -> list[_Listed]:
+    return _suitable(_c.langtag_suitable_for_ranges, _joined(ranges), tags, tag_class)
 
 
 def prepare(texts: list[bytes]) -> tuple[bytes, bytes]:
@@ -181,8 +192,8 @@ class _Value:
     for a wrong text."""
 
     __slots__ = ("_text", "_kind", "_parts", "__weakref__")
-    _base: Any
-    _error: Any
+    _base: ClassVar[Any]
+    _error: ClassVar[Any]
 
     def __init__(self, text: Any):
         if hasattr(self, "_text"):
@@ -233,6 +244,9 @@ class _Value:
 class TagBase(_Value):
     __slots__ = ()
 
+    def __init__(self, text: Text | TagBase):
+        super().__init__(text)
+
     def _cut(self, span: Span) -> str | None:
         return str(self._data[span.start : span.start + span.len], "ascii") if span.len else None
 
@@ -241,28 +255,78 @@ class TagBase(_Value):
         self._ask(_c.langtag_repeats, found)
         return self._cut(getattr(found, which))
 
-    def _form(self, write: Callable[..., int], *more: Any) -> Any:
-        made = _written(write, self._data, *more)
-        return self._base(made) if made else None
+    def _made(self, data: bytes) -> Tag:
+        tag: Tag = self._base(data)
+        return tag
 
-    language = property(lambda self: self._cut(self._parts.language))
-    script = property(lambda self: self._cut(self._parts.script))
-    region = property(lambda self: self._cut(self._parts.region))
-    _variants = property(lambda self: self._cut(self._parts.variants))
-    _extensions = property(lambda self: self._cut(self._parts.extensions))
-    private_use = property(lambda self: self._cut(self._parts.private_use))
-    repeated_variant = property(lambda self: self._repeated("variant"))
-    repeated_singleton = property(lambda self: self._repeated("singleton"))
-    is_valid = property(lambda self: self._validity()[0] == 1)
-    is_canonical = property(lambda self: self._ask(_c.langtag_is_canonical))
-    is_locale = property(lambda self: self._ask(_c.langtag_is_locale))
-    canonical = functools.partialmethod(_form, _c.langtag_canonical)
-    maximized = functools.partialmethod(_form, _c.langtag_maximized)
-    minimized = functools.partialmethod(_form, _c.langtag_minimized)
-    extensions_form = functools.partialmethod(_form, _c.langtag_extensions_form)
-    locale_form = functools.partialmethod(_form, _c.langtag_locale_form)
-    _parent = functools.partialmethod(_form, _c.langtag_parent)
-    _grandfathered = functools.partialmethod(_Value._ask, _c.langtag_grandfathered)
+    def _form(self, write: Callable[..., int], *more: Any) -> Tag | None:
+        made = _written(write, self._data, *more)
+        return self._made(made) if made else None
+
+    @property
+    def language(self) -> str | None:
+        return self._cut(self._parts.language)
+
+    @property
+    def script(self) -> str | None:
+        return self._cut(self._parts.script)
+
+    @property
+    def region(self) -> str | None:
+        return self._cut(self._parts.region)
+
+    @property
+    def _variants(self) -> str | None:
+        return self._cut(self._parts.variants)
+
+    @property
+    def _extensions(self) -> str | None:
+        return self._cut(self._parts.extensions)
+
+    @property
+    def private_use(self) -> str | None:
+        return self._cut(self._parts.private_use)
+
+    @property
+    def repeated_variant(self) -> str | None:
+        return self._repeated("variant")
+
+    @property
+    def repeated_singleton(self) -> str | None:
+        return self._repeated("singleton")
+
+    @property
+    def is_valid(self) -> bool:
+        return self._validity()[0] == 1
+
+    @property
+    def is_canonical(self) -> bool:
+        return bool(self._ask(_c.langtag_is_canonical))
+
+    @property
+    def is_locale(self) -> bool:
+        return bool(self._ask(_c.langtag_is_locale))
+
+    def canonical(self) -> Tag:
+        return self._made(_written(_c.langtag_canonical, self._data))
+
+    def maximized(self) -> Tag:
+        return self._made(_written(_c.langtag_maximized, self._data))
+
+    def minimized(self) -> Tag:
+        return self._made(_written(_c.langtag_minimized, self._data))
+
+    def extensions_form(self) -> Tag:
+        return self._made(_written(_c.langtag_extensions_form, self._data))
+
+    def locale_form(self) -> Tag | None:
+        return self._form(_c.langtag_locale_form)
+
+    def _parent(self) -> Tag | None:
+        return self._form(_c.langtag_parent)
+
+    def _grandfathered(self) -> int:
+        return int(self._ask(_c.langtag_grandfathered))
 
     def to_posix(self) -> str | None:
         name = ctypes.create_string_buffer(28)
@@ -273,10 +337,10 @@ class TagBase(_Value):
         span = Span()
         return self._ask(_c.langtag_validity, span), self._cut(span), span.start
 
-    def _set(self, part: int, text: Text) -> Any:
+    def _set(self, part: int, text: Text) -> Tag | None:
         return self._form(_c.langtag_with_part, part, bytes_of(text), len(bytes_of(text)))
 
-    def _set_keyword(self, key: Text, value: Text | None) -> Any:
+    def _set_keyword(self, key: Text, value: Text | None) -> Tag | None:
         texts = [bytes_of(text) for text in (key, value) if text is not None]
         write = _c.langtag_without_keyword if value is None else _c.langtag_with_keyword
         return self._form(write, *(it for text in texts for it in (text, len(text))))
@@ -297,8 +361,8 @@ class TagBase(_Value):
         found, call = Span(), (_c.langtag_attributes, _c.langtag_transform)[which]
         return self._at(found) if self._ask(call, found) else None
 
-    def recommended(self) -> Any:
-        return self._base(_changed(_c.langtag_recommend, self._data))
+    def recommended(self) -> Tag:
+        return self._made(_changed(_c.langtag_recommend, self._data))
 
     def folded(self) -> str:
         return str(_changed(_c.langtag_fold, self._data), "ascii")
@@ -309,14 +373,19 @@ class TagBase(_Value):
 
 class RangeBase(_Value):
     __slots__ = ()
-    is_basic = property(lambda self: self._kind == 1)
 
-    def _matched(self, call: Callable[..., bool], tag: Any) -> bool:
+    def __init__(self, text: Text | RangeBase | TagBase):
+        super().__init__(text)
+    @property
+    def is_basic(self) -> bool:
+        return bool(self._kind == 1)
+
+    def _matched(self, call: Callable[..., bool], tag: TagBase | Text) -> bool:
         data = tag._data if isinstance(tag, TagBase) else bytes_of(tag, "tag")
         return bool(self._ask(call, data, len(data)))
 
-    def matches_basic(self, tag: Any) -> bool:
+    def matches_basic(self, tag: TagBase | Text) -> bool:
         return self._matched(_c.langtag_matches_basic, tag)
 
-    def matches_extended(self, tag: Any) -> bool:
+    def matches_extended(self, tag: TagBase | Text) -> bool:
         return self._matched(_c.langtag_matches_extended, tag)

@@ -7,8 +7,7 @@ pub mod RegisteredLaws
 pub mod KeptFound
 mod PartOfLaws
 pub mod OrderLaws
-pub mod RepeatLaws
-pub mod VariantBlockLaws
+pub mod SingletonRepeats
 pub mod AlikeFound
 pub mod IrregularTests
 mod RefusalLaws
@@ -17,3 +16,4 @@ pub mod FieldClasses
 pub mod FormLaws
 -- what the crates above cite with the others
 pub use Rattle.langtag_scan.proofs.TagLaws
+pub use Rattle.langtag_place.proofs.RepeatLaws

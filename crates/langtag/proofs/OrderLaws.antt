@@ -1,5 +1,5 @@
 -- The derived comparisons of the grandfathered tags, and the order of tags of which one begins the other.
-use Rattle.std.proofs.Common.{◌≡◌, ◌==◌, ℕ, List, refl, ap, ◌∙◌, arith, map, nat_cmp}
+use Rattle.std.proofs.Common.{◌≡◌, ◌==◌, ℕ, List, refl, ap, ◌∙◌, arith, nat_cmp}
 use Rattle.std.proofs.Math.Facts.{Fits-of_lt}
 use Rattle.std.proofs.lemmas.Grind.{common_steps}
 use denote.Enum.Declared.{tag_of}
@@ -28,9 +28,7 @@ pub equal : (a b : GrandfatheredLangTag) → tag_equality.eq-value.it a b ≡ (i
 equal a b = ap (λ n. n == tag_of the_type b) (tag_of-index a) ∙ ap (λ n. index_of a == n) (tag_of-index b)
 
 ordered : (a b : GrandfatheredLangTag) → tag_order.cmp-value.it a b ≡ nat_cmp (index_of a) (index_of b)
-ordered a b =
-    at_member (tag_order.cmp-value.it a) (λ d. nat_cmp (index_of a) (index_of d)) GRANDFATHERED (index_of b) b (listed b)
-    (at_member (λ c. map (tag_order.cmp-value.it c) GRANDFATHERED) (λ c. map (λ d. nat_cmp (index_of c) (index_of d)) GRANDFATHERED) GRANDFATHERED (index_of a) a (listed a) refl)
+ordered a b = grind (arith, common_steps, at_member, listed)
 
 -- and what it feeds to a hasher
 hashed : (tag : GrandfatheredLangTag) → tag_hash.hash_input-value.it tag ≡ usize (index_of tag)

@@ -2,8 +2,6 @@ pub mod Edit
 pub mod Lengths
 pub mod PartPlaces
 pub mod Offsets
-pub mod Repeat
-pub mod VariantBlocks
 pub mod Text
 pub mod Registered
 pub mod Recognised
@@ -38,6 +36,7 @@ pub use Rattle.langtag_language.specs.Compared as LanguageCompared
 pub use Rattle.langtag_language.specs.Language
 pub use Rattle.langtag_language.specs.Text as LanguageText
 pub use Rattle.langtag_place.specs.Compared as PlaceCompared
+pub use Rattle.langtag_place.specs.Repeat
 pub use Rattle.langtag_place.specs.Text as PlaceText
 pub use Rattle.langtag_place.specs.Variants
 pub use Rattle.langtag_extension.specs.Compared as ExtensionCompared

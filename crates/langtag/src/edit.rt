@@ -41,12 +41,13 @@ fn replace(text: &mut String, alloc: Global, new: Replacement<'_>) -> Result<(),
     requires within { new.end ≤ length (string_bytes text.old) }
     requires ascii { IsAscii (string_bytes text.old) }
     requires one { length new.hyphen.now ≤ 1 }
+    requires empty { new.part.now ≡ [] → new.hyphen.now ≡ [] }
     ensures replaced { OnOk result (string_bytes text.new ≡ replace_range (string_bytes text.old) new.entry.start new.entry.end (new.entry.hyphen.now ++ new.entry.part.now)) }
     ensures unchanged { OnErr result (text.new ≡ text.old) }
     ensures taken_out { new.entry.hyphen.now ++ new.entry.part.now ≡ [] → IsOk result }
     ensures room_kept { new.entry.hyphen.now ++ new.entry.part.now ≡ [] → string_capacity text.old ≤ string_capacity text.new }
 {
-    if new.hyphen.is_empty() && new.part.is_empty() {
+    if new.part.is_empty() {
         return text.replace_range(new.start..new.end, "");
     }
     *text = join(alloc, text.as_str(), new)?;

@@ -54,7 +54,6 @@ mod refusal;
 mod repeats;
 mod text_of_parts;
 mod typed_lang_tag;
-mod variant_blocks;
 mod written;
 
 pub use edit_error::EditError;
@@ -75,7 +74,7 @@ pub use langtag_language::{
 };
 pub use langtag_place::{
     InvalidRegion, InvalidScript, InvalidVariant, InvalidVariants, Region, RegionBuf, Script,
-    ScriptBuf, Variant, VariantBuf, Variants, VariantsBuf, VariantsIter,
+    ScriptBuf, Variant, VariantBuf, Variants, VariantsBuf, VariantsIter, is_among_first,
 };
 pub use langtag_private::{
     InvalidPrivateUse, InvalidPrivateUseSubtag, PrivateUse, PrivateUseBuf, PrivateUseIter,
@@ -92,7 +91,6 @@ pub use normal_lang_tag_buf::NormalLangTagBuf;
 pub use part::{Part, Replacement, put_part};
 pub use private_use_lang_tag::{PrivateUseLangTag, PrivateUseLangTagBuf};
 pub use refusal::{Refusal, RefusalKind};
-pub use repeats::is_among_first;
 pub use typed_lang_tag::TypedLangTag;
 
 // For langtag_registry, langtag_likely, langtag_unicode, langtag_locale and langtag_c.

@@ -11,17 +11,17 @@ ghost use Rattle.langtag_scan.specs.Subtags.{join, subtags};
 ghost use Rattle.langtag_scan.specs.Tag.{IsNormal};
 ghost use Rattle.langtag.specs.Edit.{base_record};
 ghost use Rattle.langtag.specs.Offsets.{PartsStandIn};
-ghost use Rattle.langtag.specs.Repeat.{repeat, repeat_index, IsFirstRepeat, IsFirstRepeatAt, are_alike_bytes};
+ghost use Rattle.langtag_place.specs.Repeat.{repeat, repeat_index, IsFirstRepeat, IsFirstRepeatAt, are_alike_bytes};
 
 use crate::lang_tag::LangTag;
 use crate::normal_lang_tag_buf::NormalLangTagBuf;
 use crate::recognise_text::normal_ends;
 use crate::recognised::Recognised;
-use crate::repeats::{first_repeated_singleton, first_repeated_variant};
+use crate::repeats::first_repeated_singleton;
 use langtag_case::{InRecommendedCase, is_in_recommended_case};
 use langtag_extension::{Extensions, Singleton};
 use langtag_language::Language;
-use langtag_place::{Region, Script, Variant, Variants};
+use langtag_place::{Region, Script, Variant, Variants, first_repeated_variant};
 use langtag_private::{PrivateUse, PrivateUseIter};
 use langtag_scan::{Caseless, Ends, Subtags};
 use std::alloc::{AllocError, Global};
@@ -386,7 +386,7 @@ impl<'a> NormalLangTag<'a> {
     /// tag.repeated_variant().map(|variant| variant.as_str()); // Some("1996")
     /// NormalLangTag::new("de-1996")?.repeated_variant(); // None
     /// ```
-    #[tactic(auto, using(crate::proofs::RepeatLaws::repeat_laws, langtag_scan::proofs::SpelledTexts::offsets_kept))]
+    #[tactic(auto, using(langtag_place::proofs::RepeatLaws::repeat_laws, langtag_scan::proofs::SpelledTexts::offsets_kept))]
     pub fn repeated_variant(&self) -> Option<Variant<'a>>
         ensures repeated { EachRecord (normal_lang_tag_text self.now) (λ r. option_map variant_text result ≡ repeat are_alike r.variants) }
         // law: `repeat` finds the first element that equals an earlier one
@@ -404,7 +404,7 @@ impl<'a> NormalLangTag<'a> {
     ///
     /// NormalLangTag::new("de-1996-1996")?.repeated_variant_index(); // Some(1)
     /// ```
-    #[tactic(auto, using(crate::proofs::RepeatLaws::repeat_laws, langtag_scan::proofs::SpelledTexts::offsets_kept))]
+    #[tactic(auto, using(langtag_place::proofs::RepeatLaws::repeat_laws, langtag_scan::proofs::SpelledTexts::offsets_kept))]
     pub fn repeated_variant_index(&self) -> Option<usize>
         ensures repeated { EachRecord (normal_lang_tag_text self.now) (λ r. result ≡ repeat_index are_alike r.variants) }
         // law: `repeat` finds the first element that equals an earlier one
@@ -424,7 +424,7 @@ impl<'a> NormalLangTag<'a> {
     /// let tag = NormalLangTag::new("fr-a-bb-A-cc")?;
     /// tag.repeated_singleton().map(|singleton| singleton.unwrap()); // Some(b'A')
     /// ```
-    #[tactic(auto, using(crate::proofs::RepeatLaws::repeat_laws, langtag_scan::proofs::SpelledTexts::offsets_kept))]
+    #[tactic(auto, using(langtag_place::proofs::RepeatLaws::repeat_laws, langtag_scan::proofs::SpelledTexts::offsets_kept))]
     pub fn repeated_singleton(&self) -> Option<Singleton>
         ensures repeated { EachRecord (normal_lang_tag_text self.now) (λ r.
             option_map singleton_byte result ≡ repeat are_alike_bytes (map (λ e. e.singleton) r.extensions)) }
@@ -443,7 +443,7 @@ impl<'a> NormalLangTag<'a> {
     ///
     /// NormalLangTag::new("fr-a-bb-A-cc")?.repeated_singleton_index(); // Some(1)
     /// ```
-    #[tactic(auto, using(crate::proofs::RepeatLaws::repeat_laws, langtag_scan::proofs::SpelledTexts::offsets_kept))]
+    #[tactic(auto, using(langtag_place::proofs::RepeatLaws::repeat_laws, langtag_scan::proofs::SpelledTexts::offsets_kept))]
     pub fn repeated_singleton_index(&self) -> Option<usize>
         ensures repeated { EachRecord (normal_lang_tag_text self.now) (λ r.
             result ≡ repeat_index are_alike_bytes (map (λ e. e.singleton) r.extensions)) }

@@ -10,10 +10,29 @@ ghost use Rattle.langtag_span.specs.Spans.{HasBytes, span_text};
 use langtag_match::element_at;
 use langtag_span::{Span, next_item, number_of};
 
-/// Removes the first element that is not empty from a header, with the comma after it. Returns 1 for a language range
-/// with its weight in thousandths, 2 for an element with a malformed language range, and 3 for an element with a
-/// malformed weight. For a malformed element, the range is the whole element and the weight is 0. Returns 0 and changes
-/// nothing if no element is left, or if the span reaches beyond the bytes.
+/// Removes the first element from `rest`, which is the value of an Accept-Language header or the rest of it (RFC 9110
+/// section 12.5.4). Returns an enum `langtag_accepted_answer`. Empty elements are skipped.
+///
+/// ```c
+/// const char *header = "fr;q=0.3, de_CH, de;q=0.9";
+/// size_t len = strlen(header);
+/// langtag_span rest = {0, len}, range;
+/// uint32_t answer, weight;
+/// while ((answer = langtag_next_accepted(header, len, &rest, &range, &weight)) != LANGTAG_ACCEPTED_END)
+///     if (answer == LANGTAG_ACCEPTED_RANGE)
+///         printf("%.*s %u ", (int)range.len, header + range.start, (unsigned)weight); // fr 300 de 900
+/// ```
+///
+/// `range` (out) is where the range is, and `weight` (out) its weight in thousandths: 1000 if none is given, and 0 for
+/// "not acceptable". For a malformed element, `range` is everything between the commas, and `weight` is 0. The next
+/// call continues after that element. So the loop above skips malformed elements. A strict program stops at a malformed
+/// element, and refuses the header.
+///
+/// The elements are returned in the order of the header. A lookup tries the greatest weight first, and ranges of equal
+/// weight in the order of the header. So collect the ranges, and sort them by descending weight with a stable sort.
+///
+/// Returns `LANGTAG_ACCEPTED_END` if and only if only empty elements are left, or `rest` reaches beyond the string, and
+/// then writes nothing.
 #[tactic(auto, using(langtag_span::proofs::ReadingLaws::same_elements, langtag_span::proofs::ReadingLaws::same_good))]
 #[unsafe(no_mangle)]
 pub extern "C" fn langtag_next_accepted(

@@ -7,8 +7,9 @@ ghost use Rattle.langtag_scan.specs.Tag.{IsTag};
 
 use langtag_span::tag_of;
 
-/// Returns the length of a tag without its extensions and private use: 10 for `de-CH-1996-u-co-phonebk`. A private-use
-/// tag and an irregular tag have no extensions, so this is their whole length. Returns 0 if the bytes are not a tag.
+/// Returns the length of a tag without its extensions and private use, which is 10 for de-CH-1996-u-co-phonebk-x-mine.
+/// A private-use tag and an irregular tag have no extensions, so this is their length. Returns 0 for bytes that are not
+/// a tag.
 #[tactic(auto, using(langtag_span::proofs::TagLengths::some_tag))]
 #[unsafe(no_mangle)]
 pub extern "C" fn langtag_base_len(bytes: &[u8]) -> usize

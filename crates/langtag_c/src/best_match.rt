@@ -7,20 +7,29 @@ use crate::spanned_tags::SpannedTags;
 use langtag_choice::match_among;
 use langtag_span::{Span, range_at};
 
-/// The range that the best tag serves, and the distance from the range to the tag.
+/// The range of a header that the best tag serves, and the distance from the range to the tag.
 #[repr(C)]
 #[derive(Clone, Copy)]
 pub struct BestMatch {
-    /// The span of the range in the header.
+    /// in the header, as it is written: de_CH in "de_CH.UTF-8;q=0.5"
     pub range: Span,
-    /// The distance from the range to the tag.
+    /// from that range to the tag, as `langtag_distance` returns it
     pub distance: u32,
 }
 
-/// Returns the index of the best tag for an Accept-Language header, as `langtag_best_for_header` does, and writes the
-/// range that the tag serves and the distance from that range. For `tlh, gsw` and the tags `en` and `de`, the index is
-/// 1, the range is `gsw`, and the distance is 8. If no tag is suitable, it returns the number of tags and writes an
-/// empty range at the end of the header. `found` is always written.
+/// Returns what `langtag_best_for_header` returns, and writes the range that the tag serves and the distance from that
+/// range to the tag (out). If the distance is 50 or more, only lookup found the tag.
+///
+/// ```c
+/// const char *header = "tlh, gsw;q=0.5", *have = "en de";
+/// const langtag_span tags[] = {{0, 2}, {3, 2}};
+/// langtag_best_match match;
+/// size_t best = langtag_match_for_header(header, strlen(header), have, strlen(have), tags, 2, &match);
+/// printf("%zu, for %.*s at %u\n", best, (int)match.range.len, header + match.range.start, match.distance); // 1, for gsw at 8
+/// ```
+///
+/// If no tag is suitable, the range is empty, at the end of the header, and the distance is `LANGTAG_NO_DISTANCE`.
+/// `found` is always written.
 #[unsafe(no_mangle)]
 pub extern "C" fn langtag_match_for_header(
     header: &[u8],

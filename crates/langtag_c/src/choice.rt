@@ -14,9 +14,15 @@ use langtag_span::{Span, tag_of};
 /// The result if one of the two strings is not a tag.
 const NO_DISTANCE: u32 = u32::MAX;
 
-/// Returns the distance from a desired tag to a supported tag (UTS #35, Language Matching): 0 from `zh-TW` to
-/// `zh-Hant`, 4 from `de-AT` to `de`, and at most 134. It is 255 if the tags differ and one of them has no known
-/// language, and [`NO_DISTANCE`] if one of the strings is not a tag.
+/// Returns the distance from the tag that a reader desires to a supported tag (UTS #35, part 1, Language Matching): 0
+/// from zh-TW to zh-Hant, 4 from de-AT to de, 10 from yue to zh-HK, 84 from de to en, and at most 134.
+///
+/// Up to 15 the languages are nearly the same. Below 50 most readers of the desired language understand the supported
+/// one. Languages and regions that CLDR replaces count as their replacements: iw counts as he, and ger and deu count as
+/// de. Everything after the region is ignored, such as variants, extensions and private use: en-GB-oed counts as en-GB.
+/// The distance is 255 if the tags differ and either of them is only und, is a private-use tag, or begins with i-.
+///
+/// Returns `LANGTAG_NO_DISTANCE` if one of the strings is not a tag.
 #[unsafe(no_mangle)]
 pub extern "C" fn langtag_distance(desired: &[u8], supported: &[u8]) -> u32
     ensures distance { IsTag desired.now → IsTag supported.now → result ≡ distance_of_texts desired.now supported.now }
@@ -28,9 +34,28 @@ pub extern "C" fn langtag_distance(desired: &[u8], supported: &[u8]) -> u32
     }
 }
 
-/// Returns the index of the best tag for an Accept-Language header, or the number of tags if none is suitable: 2 for
-/// `zh-TW,zh;q=0.9,en;q=0.8` and the tags `en`, `zh-Hans` and `zh-Hant`. The tags are spans of a string. A span that is
-/// not a tag, or reaches beyond the string, is skipped.
+/// Returns the index of the best tag for an Accept-Language header, or `tags_len` if none is suitable. The tags are
+/// spans of one string. A span that is not a tag, or reaches beyond the string, is skipped.
+///
+/// ```c
+/// const char *header = "zh-TW,zh;q=0.9,en;q=0.8", *have = "en zh-Hans zh-Hant";
+/// const langtag_span tags[] = {{0, 2}, {3, 7}, {11, 7}};
+/// size_t best = langtag_best_for_header(header, strlen(header), have, strlen(have), tags, 3);
+/// printf("%zu\n", best); // 2
+/// ```
+///
+/// Ranges are tried in order of weight. The first range with a tag at a distance below 16 wins, and its nearest tag is
+/// chosen (`langtag_distance`). If there is no such range, the limit is 50, and after that, lookup is tried (RFC 4647
+/// section 3.4). A tag whose longest matching range has the weight 0 is not chosen. A range "*" chooses nothing, so the
+/// program's default is used. Among tags at the same distance, the best is the tag for which lookup removes the fewest
+/// subtags from the range, then a tag with the most likely region of its language, then one of CLDR's paradigm locales,
+/// such as es-419, then the first in the list. So list the tags in the order that you prefer.
+///
+/// Malformed elements are read leniently: _ is read as a hyphen, everything after ., @ or _# is dropped, and a weight
+/// that is not a number counts as 1.
+///
+/// Time is at most proportional to the length of the header times the length of the tags. Limit the header to 8 KiB, as
+/// most servers do.
 #[unsafe(no_mangle)]
 pub extern "C" fn langtag_best_for_header(header: &[u8], bytes: &[u8], tags: &[Span]) -> usize
     ensures best { IsBest (wanted_elements header.now) bytes.now tags.now result }
@@ -43,12 +68,13 @@ pub extern "C" fn langtag_best_for_header(header: &[u8], bytes: &[u8], tags: &[S
     best_among(header, &spanned).unwrap_or(tags.len())
 }
 
-/// Returns the index of the best tag for a list of language ranges, in order of preference, or the number of tags if
-/// none is suitable. For the ranges `nn` and `de`, and the tags `en` and `nb`, it is 1. Ranges and tags are spans of
-/// strings.
+/// Returns the index of the best tag for a list of language ranges, in order of preference, or `tags_len` if none is
+/// suitable. The ranges are spans of one string, and the tags are spans of another. The choice is that of
+/// `langtag_best_for_header` if all ranges have the same weight.
 ///
-/// A range is read as in a header: `zh_TW.UTF-8` is read as `zh-TW`. An extended range is read without its `*`. A
-/// span that is not a range or a tag, or reaches beyond its text, is skipped.
+/// A range is read as in a header: zh_TW.UTF-8 is read as zh-TW, and sr_RS@latin as sr-RS. Call `langtag_from_posix`
+/// first for the names in LANG and LANGUAGE. An extended range is read without its *: zh-*-Hant is read as zh-Hant. A
+/// span is skipped if it is not a range, such as de;q=0, or not a tag, or reaches beyond its text.
 #[unsafe(no_mangle)]
 pub extern "C" fn langtag_best_for_ranges(
     text: &[u8],

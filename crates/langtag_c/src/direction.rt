@@ -6,8 +6,8 @@ ghost use Rattle.langtag_likely.specs.Direction as spec;
 use langtag_likely::is_right_to_left;
 use langtag_span::tag_of;
 
-/// Returns whether the bytes are a tag that is written from right to left: `true` for `he`, `pa-PK` and `az-Arab`,
-/// `false` for `ar-Latn`, and for bytes that are not a tag.
+/// Returns whether a tag is written from right to left, by its script or, if it has none, by its likely script: true
+/// for he, pa-PK and az-Arab, false for ar-Latn, for und, for a private-use tag, and for a string that is not a tag.
 #[unsafe(no_mangle)]
 pub extern "C" fn langtag_is_right_to_left(bytes: &[u8]) -> bool
     ensures tag { IsTag bytes.now → result ≡ spec.is_right_to_left bytes.now }

@@ -9,11 +9,22 @@ use langtag_likely::{CLDR_VERSION, write_maximized, write_minimized};
 use langtag_output::write_text;
 use langtag_span::tag_of;
 
-/// Writes a tag with its likely subtags (UTS #35, Add Likely Subtags), and returns its length in bytes: `zh-TW`
-/// becomes `zh-Hant-TW`. If the buffer is too short, it stays unchanged, and the length says how long a buffer must
-/// be.
+/// Writes a tag with its likely subtags to `buffer` (UTS #35, part 1, Add Likely Subtags), and returns its length:
+/// zh-TW becomes zh-Hant-TW, and en and und become en-Latn-US. The data are those of `langtag_cldr_version`. As with
+/// `langtag_canonical`, nothing is written if the buffer is too short.
 ///
-/// Returns 0 and writes nothing if the bytes are not a tag.
+/// ```c
+/// char buffer[64];
+/// size_t len = langtag_maximized("zh-TW", 5, buffer, sizeof buffer);
+/// if (len > 0 && len <= sizeof buffer) printf("%.*s\n", (int)len, buffer); // zh-Hant-TW
+/// ```
+///
+/// The tag's own subtags stay, with their case. Only und, Zzzz and ZZ, which mean that something is unknown, are
+/// replaced. Deprecated subtags stay, too, and get the likely subtags of their replacements: iw becomes iw-Hebr-IL, and
+/// und-SU becomes ru-Cyrl-SU. To replace them, call `langtag_locale_form` first. A tag without likely subtags, such as
+/// x-a or qaa, stays as it is.
+///
+/// Returns 0 and writes nothing if the string is not a tag.
 #[tactic(auto, using(crate::proofs::LikelyForms::some_maximal))]
 #[unsafe(no_mangle)]
 pub extern "C" fn langtag_maximized(bytes: &[u8], buffer: &mut [u8]) -> usize
@@ -27,11 +38,9 @@ pub extern "C" fn langtag_maximized(bytes: &[u8], buffer: &mut [u8]) -> usize
     }
 }
 
-/// Writes a tag without its likely subtags (UTS #35, Remove Likely Subtags), and returns its length in bytes:
-/// `zh-Hant-TW` becomes `zh-TW`. If the buffer is too short, it stays unchanged, and the length says how long a
-/// buffer must be.
-///
-/// Returns 0 and writes nothing if the bytes are not a tag.
+/// Writes a tag without its likely subtags to `buffer` (UTS #35, part 1, Remove Likely Subtags), and returns its
+/// length, as `langtag_maximized` does: zh-Hant-TW becomes zh-TW, en-Latn-US becomes en, and iw-Hebr-IL becomes iw. If it
+/// is enough to keep either the script or the region, the region is kept.
 #[tactic(auto, using(crate::proofs::LikelyForms::some_minimal))]
 #[unsafe(no_mangle)]
 pub extern "C" fn langtag_minimized(bytes: &[u8], buffer: &mut [u8]) -> usize
@@ -45,8 +54,9 @@ pub extern "C" fn langtag_minimized(bytes: &[u8], buffer: &mut [u8]) -> usize
     }
 }
 
-/// Writes the version of Unicode's CLDR whose data are in this library, and returns its length in bytes: `48.2`. If the
-/// buffer is too short, it stays unchanged, and the length says how long a buffer must be.
+/// Writes the version of Unicode's CLDR inside this library to `buffer`, such as 48.2, and returns its length. Likely
+/// subtags, distances and aliases come from that version. As with `langtag_canonical`, nothing is written if the buffer
+/// is too short.
 #[unsafe(no_mangle)]
 pub extern "C" fn langtag_cldr_version(buffer: &mut [u8]) -> usize
     ensures { Writes (λ new. new ≡ CLDR_VERSION.now) buffer.old buffer.new result }

@@ -9,10 +9,13 @@ ghost use Rattle.langtag_span.specs.Spans.{empty_at};
 
 use langtag_span::{Span, first_bad, index_for_header, number_of};
 
-/// Looks up a tag for an Accept-Language header, and refuses a header with a malformed element. The tags are spans of a
-/// string. Returns 0 if no element is malformed: `index` is then the index of the tag, or the number of spans if lookup
-/// finds none. Returns 2 if the first malformed element has a malformed language range, and 3 if only its weight is
-/// malformed. `bad` is then the span between the commas around that element.
+/// Looks up a tag as `langtag_tag_for_header_lenient` does, but refuses a header with a malformed element. Returns an
+/// enum `langtag_accepted_answer`.
+///
+/// - `LANGTAG_ACCEPTED_END`: no element is malformed. `index` (out) is what `langtag_tag_for_header_lenient` returns, and
+///   `bad` (out) is empty, at the end of the header.
+/// - Otherwise: the answer says what is wrong with the first malformed element. `index` is `tags_len`, and `bad` is the
+///   string of that element between its commas.
 #[unsafe(no_mangle)]
 pub extern "C" fn langtag_tag_for_header(
     header: &[u8],
@@ -45,9 +48,24 @@ pub extern "C" fn langtag_tag_for_header(
     0
 }
 
-/// Looks up a tag for an Accept-Language header, and skips malformed elements. Returns the index of the tag, or the
-/// number of spans if lookup finds none. The tags are spans of a string. A span that is not a tag, or reaches beyond
-/// the string, is skipped.
+/// Returns the index of the tag that lookup finds for an Accept-Language header (RFC 4647 section 3.4), or `tags_len`
+/// if it finds none. The tags are spans of one string, as for `langtag_best_for_header`. Malformed elements are skipped.
+///
+/// ```c
+/// const char *header = "fr;q=0.3, DE-ch-1996;q=0.9", *have = "en de-CH fr";
+/// const langtag_span tags[] = {{0, 2}, {3, 5}, {9, 2}};
+/// size_t index = langtag_tag_for_header_lenient(header, strlen(header), have, strlen(have), tags, 3);
+/// printf("%zu\n", index); // 1
+/// ```
+///
+/// The ranges are looked up by descending weight, and ranges of equal weight in the order of the header. Ranges of
+/// weight 0 are not looked up. A range finds the first tag that equals it, ignoring case. If there is none, its
+/// fallbacks are tried, the longest first (`langtag_next_fallback`). So zh-TW does not find zh-Hant, though
+/// `langtag_best_for_header` chooses it.
+///
+/// To look up a list of ranges, in order of preference, remove each "-*" from them, and join them with commas.
+///
+/// Time is at most proportional to the length of the header times the length of the tags.
 #[unsafe(no_mangle)]
 pub extern "C" fn langtag_tag_for_header_lenient(
     header: &[u8],

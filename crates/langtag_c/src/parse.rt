@@ -13,15 +13,21 @@ ghost use Rattle.langtag_c.specs.PartSpans.{AreWithin, ArePartsOf, spans_at, no_
 use langtag_scan::{Ends, Found, Metered, recognise};
 use langtag_span::Span;
 
-/// Where the parts of a tag are in its text.
+/// Where each part of a tag is, for example in "zh-yue-Hant-HK-rozaj-1994-u-co-pinyin-x-mine":
 #[repr(C)]
 #[derive(Clone, Copy)]
 pub struct Parts {
+    /// zh-yue: the primary subtag and up to three extended ones
     pub language: Span,
+    /// Hant
     pub script: Span,
+    /// HK
     pub region: Span,
+    /// rozaj-1994
     pub variants: Span,
+    /// u-co-pinyin
     pub extensions: Span,
+    /// x-mine
     pub private_use: Span,
 }
 
@@ -77,8 +83,7 @@ fn found_of(bytes: &[u8]) -> Option<Found>
     recognise(&mut Metered::of_bytes(bytes))
 }
 
-/// Returns the kind of a tag: 1 for a normal tag, 2 for private use, 3 for an irregular tag, and 0 if the bytes are
-/// not a tag.
+/// Returns what `langtag_parse` returns, without the parts.
 #[unsafe(no_mangle)]
 pub extern "C" fn langtag_kind(bytes: &[u8]) -> u32
     ensures { IsKind bytes.now result }
@@ -95,8 +100,13 @@ pub extern "C" fn langtag_kind(bytes: &[u8]) -> u32
     }
 }
 
-/// Returns the kind, as [`langtag_kind`] returns it, and writes where the parts are. A private-use tag is its own
-/// private use part, and an irregular tag has no parts. All of `parts` is written, even if the result is 0.
+/// Parses a tag (RFC 5646 section 2.1): returns an enum `langtag_kind_answer`, and writes where the parts are (out).
+///
+/// All of `parts` is written, even if the result is `LANGTAG_NONE`. No span reaches beyond the string.
+///
+/// - For a normal tag, an absent part has the length 0, and starts at the end of the part before it.
+/// - For a private-use tag such as x-fr-CH, `private_use` is the whole string, and all other members are 0.
+/// - For an irregular tag, and for a string that is not a tag, all members are 0.
 #[unsafe(no_mangle)]
 pub extern "C" fn langtag_parse(bytes: &[u8], parts: &mut Parts) -> u32
     ensures kind { IsKind bytes.now result }

@@ -7,18 +7,30 @@ use langtag::LangTag;
 use langtag_choice::{PreparedForm, TagList};
 use langtag_span::{Span, bytes_in, tag_in};
 
-/// A tag of a site, with what the choice computes of it.
+/// A tag of a site, with what a choice computes of it. It is plain data without pointers: it may be copied, stored, and
+/// shared by threads. Set `tag`, and let `langtag_prepare` write the rest.
 #[repr(C)]
 #[derive(Clone, Copy)]
 pub struct PreparedTag {
-    /// The span of the tag in the string of the site.
+    /// in the string of the site
     pub tag: Span,
-    /// What `langtag_prepare` writes.
     pub form: PreparedForm,
 }
 
-/// Computes what a choice needs of a tag: of its span in the string, which the caller sets. A span that is not a tag, or
-/// reaches beyond the string, is never chosen.
+/// Prepares a tag for many choices. The caller sets `tag->tag`, a span of the string.
+///
+/// ```c
+/// const char *have = "en zh-Hans zh-Hant";
+/// langtag_prepared_tag site[] = {{{0, 2}, {0}}, {{3, 7}, {0}}, {{11, 7}, {0}}};
+/// for (size_t i = 0; i < 3; i++)
+///     langtag_prepare(have, strlen(have), &site[i]);
+/// const char *header = "zh-TW,zh;q=0.9,en;q=0.8";
+/// size_t best = langtag_site_best_for_header(header, strlen(header), have, strlen(have), site, 3);
+/// printf("%zu\n", best); // 2
+/// ```
+///
+/// Prepare the tags again if the string changes, or the version of the library. A span that is not a tag, or reaches
+/// beyond the string, is never chosen.
 #[unsafe(no_mangle)]
 pub extern "C" fn langtag_prepare(bytes: &[u8], tag: &mut PreparedTag)
     ensures same_span { tag.new.tag ≡ tag.old.tag }

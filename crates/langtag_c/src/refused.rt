@@ -7,12 +7,20 @@ ghost use Rattle.langtag_span.specs.Spans.{empty_at, end_of};
 use langtag::{Refusal, RefusalKind};
 use langtag_span::Span;
 
-/// Returns 0 if the bytes are a tag, and otherwise what is wrong. The result is 1 for a subtag that is not allowed at
-/// its position, such as `DE` in `de-419-DE`. It is 2 for a subtag with a byte that is neither a letter nor a digit,
-/// such as `_` in `de_CH`. It is 3 if the bytes end too soon, as `en-` and `en-a` do. `subtag` is the first wrong
-/// subtag: no tag begins with all subtags up to and including this subtag. `offset` is the offset of its first byte, or
-/// of its first byte that is neither a letter nor a digit. If the result is 0 or 3, `subtag` is empty, and `subtag` and
-/// `offset` are at the end of the bytes.
+/// Returns why a string is not a tag, as an enum `langtag_refused_answer`. Writes the wrong subtag (out) and the offset
+/// to point at (out).
+///
+/// ```c
+/// langtag_span subtag;
+/// size_t offset;
+/// langtag_refused("de-419-DE", 9, &subtag, &offset);
+/// printf("%.*s %zu\n", (int)subtag.len, "de-419-DE" + subtag.start, offset); // DE 7
+/// ```
+///
+/// The subtag is the first wrong one: no tag begins with the whole subtags up to and including this one. The offset is
+/// the start of the subtag, or for `LANGTAG_REFUSED_BYTE` its first byte that is neither a letter nor a digit. For
+/// `LANGTAG_REFUSED_NONE` and `LANGTAG_REFUSED_END` the subtag is empty, and subtag and offset are at the end of the
+/// string.
 #[unsafe(no_mangle)]
 pub extern "C" fn langtag_refused(bytes: &[u8], subtag: &mut Span, offset: &mut usize) -> u32
     ensures few { result ≤ 3 }

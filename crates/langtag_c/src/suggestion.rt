@@ -7,11 +7,22 @@ ghost use Rattle.langtag_c.specs.Validity.{suggested};
 use langtag_likely::{suggested_language, suggested_region};
 use langtag_output::write_text;
 
-/// Writes the code by which CLDR replaces a subtag that is not registered, and returns its length in bytes: `de` for
-/// the language `deu`, `GB` for the region `UK`. `fault` is the result of `langtag_validity`, and `subtag` is the
-/// invalid subtag. If the buffer is too short, it stays unchanged, and the length says how long a buffer must be.
+/// Writes the registered code that is probably meant by a subtag that is not registered, and returns its length, which
+/// is 2 or 3: de for the language deu or ger, GB for the region UK, US for 840. `fault` is what `langtag_validity`
+/// returned, and `subtag` the invalid subtag.
 ///
-/// Returns 0 and writes nothing if there is no such code.
+/// ```c
+/// langtag_span invalid;
+/// uint32_t fault = langtag_validity("ger-AT", 6, &invalid);
+/// char code[3];
+/// size_t len = langtag_suggestion(fault, "ger-AT" + invalid.start, invalid.len, code, sizeof code);
+/// if (len > 0) printf("did you mean %.*s?\n", (int)len, code); // did you mean de?
+/// ```
+///
+/// The codes are from the aliases of Unicode's CLDR. Returns 0 and writes nothing if the aliases have no code for the
+/// subtag, or more than one region, or if a script or a region comes with the language. Also returns 0 if `fault` is
+/// neither `LANGTAG_INVALID_LANGUAGE` nor `LANGTAG_INVALID_REGION`. If `buffer` is too short, nothing is written, and the
+/// result is the size that is needed. No NUL is written.
 #[unsafe(no_mangle)]
 pub extern "C" fn langtag_suggestion(fault: u32, subtag: &[u8], buffer: &mut [u8]) -> usize
     // law: the code that `suggested_language` or `suggested_region` returns

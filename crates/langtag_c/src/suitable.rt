@@ -9,10 +9,19 @@ use crate::spanned_tags::SpannedTags;
 use langtag_choice::write_suitable;
 use langtag_span::Span;
 
-/// Writes the indices of the suitable tags for an Accept-Language header to an array, best first, and returns their
-/// number: the tag that `langtag_best_for_header` chooses, the tag that it chooses among the others, and so on. For
-/// `de-CH,fr;q=0.7` and the tags `en`, `fr`, `de` and `de-AT`, it writes 2, 3 and 1, and returns 3. If the array is too
-/// short, it gets the best.
+/// Writes the indices of the suitable tags for an Accept-Language header to `found` (out), best first, and returns
+/// their number: the tag that `langtag_best_for_header` chooses, the tag that it chooses among the other tags, and so on,
+/// as long as one is suitable. If there are more than `found_len`, it writes the best.
+///
+/// ```c
+/// const char *header = "de-CH,fr;q=0.7", *have = "en fr de de-AT";
+/// const langtag_span tags[] = {{0, 2}, {3, 2}, {6, 2}, {9, 5}};
+/// size_t found[4], count = langtag_suitable_for_header(header, strlen(header), have, strlen(have), tags, 4, found, 4);
+/// for (size_t i = 0; i < count; i++) printf("%zu ", found[i]); // 2 3 1
+/// ```
+///
+/// The rest of the array stays unchanged. The time is that of `langtag_best_for_header` for each index, and of a
+/// comparison with each earlier index for each tag, so `found_len` limits the time.
 #[unsafe(no_mangle)]
 pub extern "C" fn langtag_suitable_for_header(
     header: &[u8],
@@ -31,9 +40,8 @@ pub extern "C" fn langtag_suitable_for_header(
     write_suitable(header, &spanned, found)
 }
 
-/// Writes the indices of the suitable tags for a list of language ranges, in order of preference, to an array, best
-/// first, and returns their number, as `langtag_suitable_for_header` does. Ranges and tags are read as by
-/// `langtag_best_for_ranges`.
+/// Writes the indices of the suitable tags for a list of language ranges, as `langtag_suitable_for_header` does for a
+/// header. Ranges and tags are read as by `langtag_best_for_ranges`.
 #[unsafe(no_mangle)]
 pub extern "C" fn langtag_suitable_for_ranges(
     text: &[u8],

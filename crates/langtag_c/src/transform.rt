@@ -15,11 +15,11 @@ ghost use Rattle.langtag_span.specs.Spans.{IsWithin, span_text};
 use langtag_keyword::Keys;
 use langtag_span::{Span, before_key, extension_subtags, next_key, value_of};
 
-/// Returns whether a tag has the extension `t` (RFC 6497 section 2.2), and writes the span of its language, which
-/// precedes its first field: `ja-latn` in `und-t-ja-latn-m0-hepburn`. The language is empty if there is none, as in
-/// `und-t-m0-hepburn`.
+/// Returns whether a tag has the extension t (RFC 6497 section 2.2), and writes where the language of t is (out),
+/// before its first field: ja-latn in und-t-ja-latn-m0-hepburn. The language is empty if there is none, and it need not
+/// be a tag.
 ///
-/// If it returns `false`, `language` is unchanged.
+/// Returns false and leaves `language` unchanged if there is no t.
 #[unsafe(no_mangle)]
 pub extern "C" fn langtag_transform(bytes: &[u8], language: &mut Span) -> bool
     ensures language { PartOf bytes.now (λ r. option_map (λ e. join (spec.before_key is_field_key e.subtags)) (find_extension 116 r.extensions)) None (answered result (span_text bytes.now language.new)) }
@@ -34,10 +34,7 @@ pub extern "C" fn langtag_transform(bytes: &[u8], language: &mut Span) -> bool
     true
 }
 
-/// Returns whether the extension `t` has a field (RFC 6497 section 2.2), ignoring case, and writes its value: `hepburn`
-/// for `m0` in `und-t-ja-m0-hepburn`. If a field is repeated, its first value counts.
-///
-/// If it returns `false`, `value` is unchanged.
+/// Finds the value of a field of the extension t, as `langtag_keyword` does for u: hepburn for m0 in und-t-ja-m0-hepburn.
 #[unsafe(no_mangle)]
 pub extern "C" fn langtag_field(bytes: &[u8], key: &[u8], value: &mut Span) -> bool
     // law: the value that `field` returns, as a span of the tag
@@ -53,10 +50,7 @@ pub extern "C" fn langtag_field(bytes: &[u8], key: &[u8], value: &mut Span) -> b
     true
 }
 
-/// Writes the next field of the extension `t` (RFC 6497 section 2.2). `passed` counts the subtags of `t` that a walk
-/// has passed, and is 0 at the start. Each key is returned once, with its first value.
-///
-/// Returns `false` and changes nothing if no field is left.
+/// Writes the next field of the extension t, as `langtag_next_keyword` does for the keywords of u.
 #[unsafe(no_mangle)]
 pub extern "C" fn langtag_next_field(
     bytes: &[u8],

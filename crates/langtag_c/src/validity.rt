@@ -12,10 +12,18 @@ use langtag::NormalLangTag;
 use langtag_registry::{InvalidSubtag, fault_at};
 use langtag_span::{Span, singleton_at, tag_of, variant_at};
 
-/// Returns 1 for a valid tag, 0 if the bytes are not a tag, and otherwise the first fault. The result is 2 for a
-/// language, 3 for an extended language, 5 for a script, 6 for a region and 7 for a variant that is not registered. It
-/// is 4 for a second extended language, 8 for a repeated variant and 9 for a repeated singleton. `invalid` is the span
-/// of that subtag, or empty if the result is 0 or 1.
+/// Returns whether a tag is valid (RFC 5646 section 2.2.9), as an enum `langtag_validity_answer`, and writes where its
+/// first invalid subtag is (out), which is empty if there is none.
+///
+/// ```c
+/// langtag_span invalid;
+/// langtag_validity("qt-FR", 5, &invalid);
+/// printf("%.*s\n", (int)invalid.len, "qt-FR" + invalid.start); // qt
+/// ```
+///
+/// A tag is valid if it is grandfathered, or if its language, extended language, script, region and variants are
+/// registered, it has at most one extended language, and no variant or singleton is repeated. The registry is that of
+/// `langtag_registry_date`. Deprecated subtags are valid. Whether a variant follows one of its prefixes is not checked.
 #[tactic(auto, using(langtag_scan::proofs::SpelledTexts::normal_spelled, langtag_scan::proofs::TagLaws::tag_normal, langtag_registry::proofs::ValidLaws::valid_of_other, langtag_registry::proofs::ValidLaws::valid_of_none))]
 #[unsafe(no_mangle)]
 pub extern "C" fn langtag_validity(bytes: &[u8], invalid: &mut Span) -> u32

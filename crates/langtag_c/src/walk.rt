@@ -9,8 +9,22 @@ use langtag_extension::first_extension_end;
 use langtag_scan::segment_end;
 use langtag_span::Span;
 
-/// Removes the first subtag from a span, with the hyphen after it. Returns `false` and changes nothing if nothing is
-/// left, or if the span reaches beyond the bytes.
+/// Removes the first subtag from `rest`, and writes it to `subtag` (out). `rest` then begins after the next hyphen.
+/// Begin with a copy of the span of a part:
+///
+/// ```c
+/// const char *text = "sl-rozaj-1994";
+/// size_t len = strlen(text);
+/// langtag_parts parts;
+/// langtag_parse(text, len, &parts);
+/// langtag_span rest = parts.variants, variant;
+/// while (langtag_next_subtag(text, len, &rest, &variant))
+///     printf("%.*s ", (int)variant.len, text + variant.start); // rozaj 1994
+/// ```
+///
+/// Returns false if and only if `rest` is empty or reaches beyond the string, and then leaves both spans unchanged. So
+/// an empty subtag after the last hyphen is not returned: "a-" has one subtag. In "a--b", the second of three subtags
+/// is empty.
 #[unsafe(no_mangle)]
 pub extern "C" fn langtag_next_subtag(bytes: &[u8], rest: &mut Span, subtag: &mut Span) -> bool
     ensures some { IsTrue result ↔ HasBytes bytes.now rest.old }
@@ -24,8 +38,9 @@ pub extern "C" fn langtag_next_subtag(bytes: &[u8], rest: &mut Span, subtag: &mu
     true
 }
 
-/// Removes the first extension from a span (RFC 5646 section 2.2.6), with the hyphen after it. An extension is a
-/// singleton and the subtags after it. Returns `false` when [`langtag_next_subtag`] would return `false`.
+/// Removes the first extension, such as u-co-pinyin, from `rest`, as `langtag_next_subtag` removes a subtag. Begin with
+/// `parts.extensions`. From any other span, the bytes before the first hyphen that is followed by a subtag of one byte
+/// are removed.
 #[unsafe(no_mangle)]
 pub extern "C" fn langtag_next_extension(
     bytes: &[u8],

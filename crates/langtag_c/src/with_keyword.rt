@@ -9,11 +9,28 @@ ghost use Rattle.langtag_c.specs.Setting.{CanRemoveKeyword, CanSetKeyword, keywo
 use langtag_span::tag_of;
 use langtag_unicode::{write_with_keyword, write_without_keyword};
 
-/// Writes a tag with a value of a key of the extension `u`, and returns its length in bytes: with `buddhist` for `ca`,
-/// `th-u-ca-gregory` becomes `th-u-ca-buddhist`. With an empty value, the key has no value, which means `true`. If the
-/// buffer is too short, it stays unchanged, and the length says how long a buffer must be.
+/// Writes a normal tag with a value of a key of the extension u to `buffer` (RFC 6067 section 2.1), and returns the
+/// length of the new tag. An empty value means true: the key then has no value. `langtag_without_keyword` removes a key.
 ///
-/// Returns 0 and writes nothing if the tag is not a normal tag, or if the key or the value cannot be in a keyword.
+/// ```c
+/// char buffer[64];
+/// size_t len = langtag_with_keyword("th-u-ca-gregory-nu-thai", 23, "ca", 2, "buddhist", 8, buffer, sizeof buffer);
+/// if (len > 0 && len <= sizeof buffer) printf("%.*s\n", (int)len, buffer); // th-u-ca-buddhist-nu-thai
+/// ```
+///
+/// A key that the tag already has keeps its position and its case, and its repetitions are removed. A new key is put
+/// before the first greater key, and a new extension u before the first greater singleton. All other bytes stay.
+///
+/// As with snprintf, the result may be greater than `buffer_len`. It is then the size that is needed, and nothing is
+/// written. A size of tag_len + key_len + value_len + 4 is always enough. This sum must fit into a size_t. No NUL is
+/// written, and bytes after the new tag are left unchanged.
+///
+/// Returns 0 and writes nothing in three cases. To find out which, ask in this order:
+///
+/// 1. The key, such as c4, does not consist of a letter or digit and then a letter: `langtag_without_keyword`("und", 3,
+///    key, key_len, buffer, 0) returns 0.
+/// 2. A subtag of the value does not have three to eight letters or digits: this call with the tag "und" returns 0.
+/// 3. Otherwise the tag is not `LANGTAG_NORMAL`, and has no place for a keyword.
 #[tactic(auto, using(crate::proofs::KeywordTexts::keyword_texts))]
 #[unsafe(no_mangle)]
 pub extern "C" fn langtag_with_keyword(
@@ -45,12 +62,12 @@ pub extern "C" fn langtag_with_keyword(
     }
 }
 
-/// Writes a tag without a key of the extension `u`, and returns its length in bytes: without `ca`,
-/// `th-u-ca-gregory-nu-thai` becomes `th-u-nu-thai`. The extension is removed if nothing else is in it. If the buffer
-/// is too short, it stays unchanged, and the length says how long a buffer must be. The length is at most that of the
-/// tag.
+/// Writes a normal tag without a key of the extension u to `buffer`, and returns its length, as `langtag_with_keyword`
+/// does: without ca, th-u-ca-gregory-nu-thai becomes th-u-nu-thai. Each keyword of the key is removed from the first u,
+/// and so is this u if nothing else is in it. All other bytes stay. A size of tag_len is always enough.
 ///
-/// Returns 0 and writes nothing if the tag is not a normal tag, or if the key cannot be in a keyword.
+/// Returns 0 and writes nothing if the tag is not `LANGTAG_NORMAL`, or if the key does not consist of a letter or digit
+/// and then a letter.
 #[tactic(auto, using(crate::proofs::KeywordTexts::keyword_texts))]
 #[unsafe(no_mangle)]
 pub extern "C" fn langtag_without_keyword(tag: &[u8], key: &[u8], buffer: &mut [u8]) -> usize

@@ -7,12 +7,21 @@ ghost use Rattle.langtag_span.specs.NumberedParts.{SetsNamedPart, part_numbered}
 use langtag::write_part;
 use langtag_span::{normal_tag_of, part_of};
 
-/// Writes a normal tag with one part set to a string, and returns its length in bytes. The empty string removes the
-/// part. The parts are numbered in their order, from 0 for the language. If the buffer is too short, it stays
-/// unchanged, and the length says how long a buffer must be.
+/// Writes a normal tag with one part changed to `buffer`, and returns the length of the new tag. `part` is an enum
+/// `langtag_part`. An empty string removes the part. All other parts stay, and the new part keeps its case.
 ///
-/// Returns 0 and writes nothing if the tag is not a normal tag, or if the string is not a string of this part. A
-/// language cannot be removed.
+/// ```c
+/// char buffer[64];
+/// size_t len = langtag_with_part("sl-IT-rozaj", 11, LANGTAG_PART_SCRIPT, "Latn", 4, buffer, sizeof buffer);
+/// if (len > 0 && len <= sizeof buffer) printf("%.*s\n", (int)len, buffer); // sl-Latn-IT-rozaj
+/// ```
+///
+/// As with snprintf, the result may be greater than `buffer_len`. It is then the size that is needed, and nothing is
+/// written. A size of tag_len + text_len + 1 is always enough. No NUL is written, and bytes after the new tag are left
+/// unchanged.
+///
+/// Returns 0 and writes nothing if the tag is not `LANGTAG_NORMAL`, if `part` is not a value of enum `langtag_part`, or if
+/// the string is not such a part: Latin is not a script. The language cannot be removed.
 #[unsafe(no_mangle)]
 pub extern "C" fn langtag_with_part(tag: &[u8], part: u32, text: &[u8], buffer: &mut [u8]) -> usize
     // law: the call does what the setters do

@@ -1,17 +1,18 @@
 -- What loops over ranges and over tags have found, and that it is the choice.
-use Rattle.std.proofs.Common.{◌≡◌, ℕ, true, List, get_or, Option, Some, None, option_map, ap, refl, sym, subst, ◌∙◌, ◌-◌, ◌==◌, ◌≤◌, false, ◌&&◌, ◌||◌, nat_lt, arith, Bool, [], ◌∷◌, ◌⊎◌, ◌+◌, ◌<◌, zero, suc, length, below_more, inl, inr, true≢false, slice_get, replicate, set, ◌↔◌}
+use Rattle.std.proofs.Common.{◌≡◌, ℕ, true, List, get_or, Option, Some, None, option_map, ap, refl, sym, subst, ◌∙◌, ◌-◌, ◌==◌, ◌≤◌, false, not, ◌&&◌, ◌||◌, nat_lt, arith, Bool, [], ◌∷◌, ◌+◌, ◌<◌, zero, suc, length, min, inl, inr, true≢false, slice_get, replicate}
+use Rattle.std.proofs.Math.Bool.{or-true}
 use Rattle.std.proofs.lemmas.Bool.Decides.{eqb_tells, nat_tests}
-use Rattle.std.proofs.lemmas.Bool.{and_parts, eqb-true, ltb-false, ltb-true, or_cases, cases_lt}
-use Rattle.std.proofs.lemmas.Grind.{common_steps, get_or-set_at}
-use Rattle.std.proofs.lemmas.List.{get_or-set_other, get_or-set_same}
-use Rattle.std.proofs.lemmas.Option.{get_or_from_slice_get, slice_get-get_or, slice_get_within}
+use Rattle.std.proofs.lemmas.Bool.{and_parts, eq-eqb, eqb-true, ltb-false, ltb-true, not-true, or_cases, cases_lt}
+use Rattle.std.proofs.lemmas.Grind.{common_steps}
+use Rattle.std.proofs.lemmas.List.{get_or_past}
+use Rattle.std.proofs.lemmas.Option.{get_or_from_slice_get, slice_get-get_or, slice_get_cases, slice_get_within}
 use Rattle.std.specs.List.{list_any}
-use Rattle.std.specs.Option.{ForSome, MatchOption}
+use Rattle.std.specs.Option.{ForSome, option_map_or}
 use Rattle.langtag_range.specs.Element.{Element}
 use Rattle.langtag_range.specs.Listed.{basic_text}
 use Rattle.langtag_choice.specs.Best.{IsAtMost, IsChoice, IsMatchOf, Pair, rank, rank_of_pair, serves, reach, service, is_excluded, is_refused, longest}
 use Rattle.langtag_choice.specs.Distance.{distance_of_texts}
-use Rattle.langtag_choice.specs.Found.{IsBestFound, IsBestOf, IsFor, IsUnrefusedAt, rank_of, service_number, AreOpen, AreOpenAt, Covers, CoversOpen, CoversRanges, CoversTags, ImprovesAt, ImprovesFor, IsAt, IsOf, IsOfKnown, IsReal, IsNotAfter, Keeps, Takes, TakesAt, wish_element}
+use Rattle.langtag_choice.specs.Found.{IsBestFound, IsBestOf, IsNotAfter, Takes, Tries, TriesRange, is_flagged, is_unrefused_at, rank_of, service_number, wish_element}
 use Rattle.langtag_choice.specs.KnownTexts.{is_known, known_text}
 use Rattle.langtag_choice.specs.Nearness.{kept}
 use Rattle.langtag_choice.specs.declared.best_match.BestMatch.{BestMatch}
@@ -44,30 +45,95 @@ pub cannot_serve : (element : Element) (tag : List ℕ) → 50 ≤ distance_of_t
 unfolding serves reach
 cannot_serve element tag far none = grind (arith, nat_tests)
 
--- ---- it is the choice
+-- ---- pairs that were tried
 
 module _ (elements : List Element) (tags : List (Option (List ℕ))) where
-  -- a candidate that is open and at most all pairs is the choice
-  pub least_chosen : (c : Candidate) → IsFor elements tags c → IsUnrefusedAt elements tags c.index → ((pair : Pair elements tags) → IsAtMost (rank_of c) (rank_of_pair elements tags pair)) → IsBestOf elements tags c
-  least_chosen c for chosen least =
-      let at = for.there chosen.0 chosen.1 in
-      record {
-        pair = record {
-          place = c.rank.place;
-          element = at.element;
-          wanted = at.wanted;
-          index = c.index;
-          tag = chosen.0;
-          there = chosen.1;
-          served = at.served;
-          unrefused = chosen.2;
-        };
-        place = refl;
-        range = at.range;
-        index = refl;
-        tag = sym at.tag;
-        least = λ other. subst (λ ranks. IsAtMost ranks (rank_of_pair elements tags other)) at.same_rank (least other);
-      }
+  -- no pair was tried
+  pub tries_none : (is_tried : ℕ → ℕ → Bool) (found : Option Candidate) → ((place index : ℕ) → is_tried place index ≡ false) → Tries elements tags is_tried found found
+  tries_none is_tried found none = record {
+    keeps = λ r is. is;
+    covers = λ place element index tag tried. absurd (true≢false (sym tried ∙ none place index));
+    from = λ c is. inl is;
+  }
+
+  -- some pairs were tried, and then others
+  pub tries_both :
+      (first second both : ℕ → ℕ → Bool) (old middle new : Option Candidate) → Tries elements tags first old middle → Tries elements tags second middle new →
+      ((place index : ℕ) → place < length elements → index < length tags → both place index ≡ (first place index || second place index)) → Tries elements tags both old new
+  tries_both first second both old middle new one other same = record {
+    keeps = λ r is. other.keeps r (one.keeps r is);
+    covers = λ place element index tag tried wanted there served.
+        elim (or_cases (first place index) (second place index) (sym (same place index (slice_get_within elements place element wanted) (slice_get_within tags index (Some tag) there)) ∙ tried)) [
+          | inl before ↦ other.keeps (rank place element index tag) (one.covers place element index tag before wanted there served)
+          | inr after ↦ other.covers place element index tag after wanted there served
+        ];
+    from = λ c is. elim (other.from c is) [
+      | inl was ↦ elim (one.from c was) [
+        | inl old ↦ inl old
+        | inr at ↦ inr (same c.rank.place c.index at.1.among at.1.inside ∙ ap (λ b. b || second c.rank.place c.index) at.0, at.1)
+      ]
+      | inr at ↦ inr (same c.rank.place c.index at.1.among at.1.inside ∙ ap (λ b. first c.rank.place c.index || b) at.0 ∙ or-true (first c.rank.place c.index), at.1)
+    ];
+  }
+
+  -- the same pairs
+  pub tries_same :
+      (some same : ℕ → ℕ → Bool) (old new : Option Candidate) → Tries elements tags some old new →
+      ((place index : ℕ) → place < length elements → index < length tags → same place index ≡ some place index) → Tries elements tags same old new
+  tries_same some same old new tries is = record {
+    keeps = tries.keeps;
+    covers = λ place element index tag tried wanted there.
+        tries.covers place element index tag (sym (is place index (slice_get_within elements place element wanted) (slice_get_within tags index (Some tag) there)) ∙ tried) wanted there;
+    from = λ c found. elim (tries.from c found) [
+      | inl old ↦ inl old
+      | inr at ↦ inr (is c.rank.place c.index at.1.among at.1.inside ∙ at.0, at.1)
+    ];
+  }
+
+-- ---- it is the choice
+
+-- the entry at an index is a tag that is not refused
+unrefused_tag :
+    (elements : List Element) (tags : List (Option (List ℕ))) (index : ℕ) → index < length tags → is_unrefused_at elements tags index ≡ true →
+    (tag : List ℕ) × (slice_get tags index ≡ Some (Some tag)) × (is_refused elements tag ≡ false)
+unrefused_tag elements tags index inside is = by_entry (get_or tags index None) refl is
+  where
+    by_entry : (o : Option (List ℕ)) → get_or tags index None ≡ o → option_map_or (λ tag. not (is_refused elements tag)) o false ≡ true → (tag : List ℕ) × (slice_get tags index ≡ Some (Some tag)) × (is_refused elements tag ≡ false)
+    by_entry None here is = absurd cc
+    by_entry (Some tag) here is = (tag, slice_get-get_or tags index None inside ∙ ap Some here, not-true (is_refused elements tag) is)
+
+pub unrefused_entry :
+    (elements : List Element) (tags : List (Option (List ℕ))) (index : ℕ) (tag : List ℕ) → get_or tags index None ≡ Some tag → is_refused elements tag ≡ false → is_unrefused_at elements tags index ≡ true
+unrefused_entry elements tags index tag here free = rw (here, free) refl
+
+module _ (elements : List Element) (tags : List (Option (List ℕ))) where
+  -- the candidate is the choice if it is found among all pairs whose tags are not refused, and its tag is not refused
+  pub best_found :
+      (is_tried : ℕ → ℕ → Bool) (found : Option Candidate) → Tries elements tags is_tried None found → ((place index : ℕ) → is_unrefused_at elements tags index ≡ true → is_tried place index ≡ true) →
+      ForSome found (λ c. is_tried c.rank.place c.index ≡ true → is_unrefused_at elements tags c.index ≡ true) → IsBestFound elements tags found
+  best_found is_tried found tries all free = by_found found refl
+    where
+      covers : (pair : Pair elements tags) → IsNotAfter found (rank_of_pair elements tags pair)
+      covers pair =
+          tries.covers pair.place pair.element pair.index pair.tag
+          (all pair.place pair.index (unrefused_entry elements tags pair.index pair.tag (get_or_from_slice_get tags pair.index (Some pair.tag) None pair.there) pair.unrefused)) pair.wanted pair.there pair.served
+
+      by_found : (o : Option Candidate) → found ≡ o → IsBestFound elements tags o
+      by_found None is = λ pair. subst (λ o. IsNotAfter o (rank_of_pair elements tags pair)) is (covers pair)
+      by_found (Some c) is = elim (tries.from c is) [
+        | inl none ↦ absurd cc
+        | inr for ↦
+            let entry = unrefused_tag elements tags c.index for.1.inside (free c is for.0) in
+            let at = for.1.there entry.0 entry.1 in
+            record {
+              pair = record { place = c.rank.place; element = at.element; wanted = at.wanted; index = c.index; tag = entry.0; there = entry.1; served = at.served; unrefused = entry.2 };
+              place = refl;
+              range = at.range;
+              index = refl;
+              tag = sym at.tag;
+              least = λ other. subst (λ ranks. IsAtMost ranks (rank_of_pair elements tags other)) at.same_rank (subst (λ o. IsNotAfter o (rank_of_pair elements tags other)) is (covers other));
+            }
+      ]
 
   -- what was found has the index of the choice
   pub found_chosen : (found : Option Candidate) → IsBestFound elements tags found → IsChoice elements tags (option_map (λ c. c.index) found)
@@ -99,97 +165,11 @@ pub none_refused : (elements : List Element) (tag : List ℕ) → list_any is_ex
 unfolding is_refused
 none_refused elements tag none = let zero = longest_none is_excluded elements tag none in rw zero (grind (arith, nat_tests))
 
--- ---- what was found
+-- ---- one entry
 
 -- a tag of a list is what is read at its index, and what was kept of it is true
 abbrev pub IsKnownAt : List (Option (List ℕ)) → ℕ → KnownTag → Type 0
 IsKnownAt tags index known = ForSome (get_or tags index None) (λ text. (known_text known ≡ text) × (is_known known ≡ true))
-
-pub known_there :
-    (tags : List (Option (List ℕ))) (index : ℕ) (known : KnownTag) → IsKnownAt tags index known → (tag : List ℕ) → slice_get tags index ≡ Some (Some tag) →
-    (known_text known ≡ tag) × (is_known known ≡ true)
-known_there tags index known at tag there = at tag (get_or_from_slice_get tags index (Some tag) None there)
-
--- the text of a tag is the tag, where there is one
-pub text_at : (tags : List (Option (List ℕ))) (index : ℕ) (text : List ℕ) → ForSome (get_or tags index None) (λ found. text ≡ found) → (tag : List ℕ) → slice_get tags index ≡ Some (Some tag) → text ≡ tag
-text_at tags index text same tag there = same tag (get_or_from_slice_get tags index (Some tag) None there)
-
-flag_within : (flags : List Bool) (k : ℕ) → get_or flags k false ≡ true → k < length flags
-flag_within [] k is = absurd (true≢false (sym is))
-flag_within (flag ∷ flags) zero is = grind arith
-flag_within (flag ∷ flags) (suc k) is = omega (arith, flag_within flags k is)
-
-none_flagged : (n k : ℕ) → get_or (replicate n false) k false ≡ false
-none_flagged zero k = refl
-none_flagged (suc n) zero = refl
-none_flagged (suc n) (suc k) = none_flagged n k
-
-pub all_closed : (elements : List Element) (tags : List (Option (List ℕ))) (start n : ℕ) → AreOpenAt elements tags start (replicate n false)
-all_closed elements tags start n = λ k is. absurd (true≢false (sym is ∙ none_flagged n k))
-
-flag_at :
-    (flags : List Bool) (k j : ℕ) (b : Bool) → k < length flags → (j < k) ⊎ (k ≤ j) → (k < j) ⊎ (j ≤ k) →
-    (get_or (set flags k b) j false ≡ get_or flags j false) ⊎ ((j ≡ k) × (get_or (set flags k b) j false ≡ b))
-flag_at flags k j b within (inl before) other = inl (get_or-set_other flags k j b false (λ same. omega (arith, before, same)))
-flag_at flags k j b within (inr least) (inl after) = inl (get_or-set_other flags k j b false (λ same. omega (arith, after, same)))
-flag_at flags k j b within (inr least) (inr most) =
-    let same : j ≡ k = omega (arith, least, most) in
-    inr (same, get_or-set_at flags k j b false same within)
-
--- ---- one more
-
-pub one_more_tag :
-    (element : Element) (place : ℕ) (tags : List (Option (List ℕ))) (index : ℕ) (old new : Option Candidate) → CoversTags element place tags index old → Keeps old new →
-    ((tag : List ℕ) → slice_get tags index ≡ Some (Some tag) → serves element tag ≡ true → IsNotAfter new (rank place element index tag)) → CoversTags element place tags (index + 1) new
-one_more_tag element place tags index old new so_far keeps here =
-    below_more _ _ (λ k below tag there served. keeps (rank place element k tag) (so_far k below tag there served)) here
-
-pub one_more_range :
-    (elements : List Element) (tags : List (Option (List ℕ))) (place : ℕ) (element : Element) (old new : Option Candidate) → Covers elements tags place old → Keeps old new →
-    slice_get elements place ≡ Some element → CoversTags element place tags (length tags) new → Covers elements tags (place + 1) new
-one_more_range elements tags place element old new so_far keeps wanted here =
-    below_more _ _ (λ k below other index tag at there served. keeps (rank k other index tag) (so_far k below other index tag at there served))
-    (λ other index tag at there served.
-    let same : element ≡ other = cc in
-    subst (λ e. IsNotAfter new (rank place e index tag)) same (here index (slice_get_within tags index (Some tag) there) tag there (subst (λ e. serves e tag ≡ true) (sym same) served)))
-
-pub one_more_range_for_tag :
-    (elements : List Element) (tag : List ℕ) (index place : ℕ) (element : Element) (old new : Option Candidate) → CoversRanges elements tag index place old → Keeps old new →
-    slice_get elements place ≡ Some element → (serves element tag ≡ true → IsNotAfter new (rank place element index tag)) → CoversRanges elements tag index (place + 1) new
-one_more_range_for_tag elements tag index place element old new so_far keeps wanted here =
-    below_more _ _ (λ k below other at served. keeps (rank k other index tag) (so_far k below other at served))
-    (λ other at served.
-    let same : element ≡ other = cc in
-    subst (λ e. IsNotAfter new (rank place e index tag)) same (here (subst (λ e. serves e tag ≡ true) (sym same) served)))
-
--- ---- where it comes from
-
-at_of :
-    (elements : List Element) (wish : Wish) (text : List ℕ) (index : ℕ) (c : Candidate) → slice_get elements wish.place ≡ Some (wish_element wish) → IsOf wish text index c → IsAt elements text index c
-at_of elements wish text index c wanted of = grind arith
-
--- an entry that was tried for a range
-pub real_from_known :
-    (elements : List Element) (tags : List (Option (List ℕ))) (wish : Wish) (known : KnownTag) (index : ℕ) (old new : Option Candidate) → index < length tags → IsKnownAt tags index known →
-    slice_get elements wish.place ≡ Some (wish_element wish) → IsReal elements tags old → (new ≡ old) ⊎ MatchOption new ⊥ (IsOfKnown wish known index) → IsReal elements tags new
-real_from_known elements tags wish known index old (Some c) inside at wanted real (inr of) =
-    record {
-      inside = subst (λ i. i < length tags) (sym of.0) inside;
-      there = λ tag there. known_at_index tag (subst (λ i. slice_get tags i ≡ Some (Some tag)) of.0 there);
-    }
-  where
-    known_at_index : (tag : List ℕ) → slice_get tags index ≡ Some (Some tag) → IsAt elements tag c.index c
-    known_at_index tag there =
-        let here = known_there tags index known at tag there in
-        subst (λ t. IsAt elements t c.index c) here.0 (subst (λ i. IsAt elements (known_text known) i c) (sym of.0) (at_of elements wish (known_text known) index c wanted (of.1 here.1)))
-real_from_known elements tags wish known index old None inside at wanted real (inr of) = absurd of
-real_from_known elements tags wish known index old new inside at wanted real (inl same) = subst (IsReal elements tags) (sym same) real
-
--- ---- of the tag at an index
-
-pub open_at :
-    (elements : List Element) (tags : List (Option (List ℕ))) (index : ℕ) (tag : List ℕ) → index < length tags → get_or tags index None ≡ Some tag → is_refused elements tag ≡ false → IsUnrefusedAt elements tags index
-open_at elements tags index tag inside at free = (tag, slice_get-get_or tags index None inside ∙ ap Some at, free)
 
 -- an entry that is far is not taken
 pub far_takes :
@@ -198,149 +178,110 @@ pub far_takes :
 far_takes wish known index found far none = record {
   keeps = λ r is. is;
   covers = λ is served. absurd (true≢false (sym served ∙ cannot_serve (wish_element wish) (known_text known) (far is) (none is)));
-  from = inl refl;
+  from = λ c is. inl is;
 }
-
-from_known : (wish : Wish) (known : KnownTag) (index : ℕ) (old new : Option Candidate) → (new ≡ old) ⊎ MatchOption new ⊥ (IsOfKnown wish known index) → (new ≡ old) ⊎ MatchOption new ⊥ (λ c. c.index ≡ index)
-from_known wish known index old (Some c) (inr of) = inr of.0
-from_known wish known index old None (inr of) = absurd of
-from_known wish known index old new (inl same) = inl same
 
 -- what is tried at an index is the entry there
 pub takes_at :
     (tags : List (Option (List ℕ))) (wish : Wish) (known : KnownTag) (index : ℕ) (old new : Option Candidate) → index < length tags → IsKnownAt tags index known →
-    Takes wish known index old new → TakesAt wish tags index old new
-takes_at tags wish known index old new inside at takes = record {
+    Takes wish known index old new → TriesRange (wish_element wish) wish.place tags (λ there. there == index) old new
+takes_at tags wish known index old new inside at takes elements wanted = record {
   keeps = takes.keeps;
-  covers = λ tag there served.
-      let here = known_there tags index known at tag there in
-      subst (λ t. IsNotAfter new (rank wish.place (wish_element wish) index t)) here.0 (takes.covers here.1 (subst (λ t. serves (wish_element wish) t ≡ true) (sym here.0) served));
-  real = λ elements wanted real. real_from_known elements tags wish known index old new inside at wanted real takes.from;
-  from = from_known wish known index old new takes.from;
+  covers = λ place element there tag tried asked found served.
+      let parts = and_parts (there == index) (place == wish.place) tried in
+      let same_index = eqb-true there index parts.0 in
+      let same_place = eqb-true place wish.place parts.1 in
+      let same_element : element ≡ wish_element wish = cc in
+      let here = at tag (get_or_from_slice_get tags index (Some tag) None (cc)) in
+      let ranks : rank wish.place (wish_element wish) index (known_text known) ≡ rank place element there tag = cc in
+      subst (IsNotAfter new) ranks (takes.covers here.1 (cc));
+  from = λ c is. elim (takes.from c is) [
+    | inl was ↦ inl was
+    | inr of ↦
+        inr (
+          rw (eq-eqb c.rank.place wish.place of.0, eq-eqb c.index index of.1) refl,
+          record {
+            among = subst (λ p. p < length elements) (sym of.0) (slice_get_within elements wish.place (wish_element wish) wanted);
+            inside = subst (λ i. i < length tags) (sym of.1) inside;
+            there = λ tag found.
+                let here = at tag (get_or_from_slice_get tags index (Some tag) None (ap (slice_get tags) (sym of.1) ∙ found)) in
+                let it = of.2 here.1 in
+                record { element = wish_element wish; wanted = ap (slice_get elements) of.0 ∙ wanted; range = it.range; tag = it.tag ∙ here.0; served = ap (serves (wish_element wish)) (sym here.0) ∙ it.served; same_rank = cc };
+          },
+        )
+  ];
 }
 
-pub entry_covers :
-    (tags : List (Option (List ℕ))) (element : Element) (place : ℕ) (wish : Wish) (index : ℕ) (old new : Option Candidate) → wish_element wish ≡ element → wish.place ≡ place →
-    TakesAt wish tags index old new → (tag : List ℕ) → slice_get tags index ≡ Some (Some tag) → serves element tag ≡ true → IsNotAfter new (rank place element index tag)
-entry_covers tags element place wish index old new same_element same_place takes tag there served =
-    subst (λ e. IsNotAfter new (rank place e index tag)) same_element
-    (subst (λ p. IsNotAfter new (rank p (wish_element wish) index tag)) same_place (takes.covers tag there (subst (λ e. serves e tag ≡ true) (sym same_element) served)))
+-- ---- one more
 
--- ---- some tags that are not refused
+-- no entry is better for a range than what was found
+pub range_settled :
+    (element : Element) (place : ℕ) (tags : List (Option (List ℕ))) (is_tried : ℕ → Bool) (found : Option Candidate) →
+    ((index : ℕ) (tag : List ℕ) → serves element tag ≡ true → IsNotAfter found (rank place element index tag)) → TriesRange element place tags is_tried found found
+range_settled element place tags is_tried found settled = λ elements wanted. record {
+  keeps = λ r is. is;
+  covers = λ p other index tag tried asked there served.
+      let at = eqb-true p place (and_parts (is_tried index) (p == place) tried).1 in
+      let same : element ≡ other = cc in
+      let ranks : rank place element index tag ≡ rank p other index tag = cc in
+      subst (IsNotAfter found) ranks (settled index tag (ap (λ e. serves e tag) same ∙ served));
+  from = λ c is. inl is;
+}
 
--- what was tried is still free
-still_open :
-    (elements : List Element) (tags : List (Option (List ℕ))) (index : ℕ) (old new : Option Candidate) → IsUnrefusedAt elements tags index →
-    (new ≡ old) ⊎ MatchOption new ⊥ (λ c. c.index ≡ index) → AreOpen elements tags old → AreOpen elements tags new
-still_open elements tags index old (Some c) free (inr at) are = subst (IsUnrefusedAt elements tags) (sym at) free
-still_open elements tags index old None free (inr at) are = absurd at
-still_open elements tags index old new free (inl same) are = subst (AreOpen elements tags) (sym same) are
+-- one more entry for a range
+pub one_more_entry :
+    (tags : List (Option (List ℕ))) (wish : Wish) (element : Element) (place : ℕ) (first second both : ℕ → Bool) (old middle new : Option Candidate) → wish_element wish ≡ element → wish.place ≡ place →
+    TriesRange element place tags first old middle → TriesRange (wish_element wish) wish.place tags second middle new → ((index : ℕ) → both index ≡ (first index || second index)) → TriesRange element place tags both old new
+one_more_entry tags wish element place first second both old middle new same_element same_place one other same = λ elements wanted.
+    tries_both elements tags _ _ _ old middle new (one elements wanted)
+    (subst (λ p. Tries elements tags (λ q index. second index && (q == p)) middle new) same_place (other elements (ap (slice_get elements) same_place ∙ wanted ∙ ap Some (sym same_element))))
+    (λ p index among inside. grind (arith, nat_tests, same index))
 
-module _ (tags : List (Option (List ℕ))) (start : ℕ) (flags : List Bool) where
-  pub improves_none : (element : Element) (place : ℕ) (found : Option Candidate) → ImprovesFor element place tags start flags 0 found found
-  improves_none element place found = record { keeps = λ r is. is; covers = λ k below. absurd (omega (arith, below)); real = λ elements wanted real. real; unrefused = λ elements free are. are }
+-- one more range
+pub one_more_range :
+    (elements : List Element) (tags : List (Option (List ℕ))) (entries : ℕ → Bool) (place : ℕ) (old middle new : Option Candidate) → Tries elements tags (λ p index. entries index && nat_lt p place) old middle →
+    Tries elements tags (λ p index. entries index && (p == place)) middle new → Tries elements tags (λ p index. entries index && nat_lt p (place + 1)) old new
+one_more_range elements tags entries place old middle new one other = tries_both elements tags _ _ _ old middle new one other (λ p index among inside. grind (arith, nat_tests))
 
-  -- an entry that is no free tag is passed over
-  pub improves_past :
-      (element : Element) (place k : ℕ) (old new : Option Candidate) → ImprovesFor element place tags start flags k old new → get_or flags k false ≡ false → ImprovesFor element place tags start flags (k + 1) old new
-  improves_past element place k old new so_far closed = record {
-    keeps = so_far.keeps;
-    covers = below_more _ _ so_far.covers (λ free. absurd (true≢false (sym free ∙ closed)));
-    real = so_far.real;
-    unrefused = so_far.unrefused;
-  }
+-- all ranges
+pub all_ranges :
+    (elements : List Element) (tags : List (Option (List ℕ))) (entries : ℕ → Bool) (place : ℕ) (old new : Option Candidate) → ((p : ℕ) → p < length elements → p < place) →
+    Tries elements tags (λ p index. entries index && nat_lt p place) old new → Tries elements tags (λ p index. entries index) old new
+all_ranges elements tags entries place old new all tries = tries_same elements tags _ _ old new tries (λ p index among inside. let below = all p among in grind (arith, nat_tests))
 
-  pub improves_next :
-      (element : Element) (place k : ℕ) (wish : Wish) (old middle new : Option Candidate) → wish_element wish ≡ element → wish.place ≡ place → ImprovesFor element place tags start flags k old middle →
-      get_or flags k false ≡ true → TakesAt wish tags (start + k) middle new → ImprovesFor element place tags start flags (k + 1) old new
-  improves_next element place k wish old middle new same_element same_place so_far free takes = record {
-    keeps = λ r is. takes.keeps r (so_far.keeps r is);
-    covers = below_more _ _ (λ j below flag tag there served. takes.keeps (rank place element (start + j) tag) (so_far.covers j below flag tag there served))
-        (λ flag. entry_covers tags element place wish (start + k) middle new same_element same_place takes);
-    real = λ elements wanted real.
-        takes.real elements (ap (slice_get elements) same_place ∙ wanted ∙ ap Some (sym same_element)) (so_far.real elements wanted real);
-    unrefused = λ elements are found. still_open elements tags (start + k) middle new (are k free) takes.from (so_far.unrefused elements are found);
-  }
+-- ---- flags
 
-  module _ (elements : List Element) where
-    pub improves_first : (found : Option Candidate) → ImprovesAt elements tags start flags 0 found found
-    improves_first found = record { keeps = λ r is. is; covers = λ k free tag there place below. absurd (omega (arith, below)); real = λ real. real; unrefused = λ are. are }
+-- at first no flag is set
+pub none_flagged : (n k : ℕ) (is : Bool) → get_or (replicate n false) k false ≡ (nat_lt k 0 && is)
+none_flagged zero k is = grind (arith, nat_tests)
+none_flagged (suc n) zero is = grind (arith, nat_tests)
+none_flagged (suc n) (suc k) is = none_flagged n k is ∙ grind (arith, nat_tests)
 
-    pub one_more_improves :
-        (place : ℕ) (element : Element) (old middle new : Option Candidate) → AreOpenAt elements tags start flags → ImprovesAt elements tags start flags place old middle →
-        slice_get elements place ≡ Some element → ImprovesFor element place tags start flags (length flags) middle new → ImprovesAt elements tags start flags (place + 1) old new
-    one_more_improves place element old middle new are so_far wanted step = record {
-      keeps = λ r is. step.keeps r (so_far.keeps r is);
-      covers = λ k free tag there.
-          one_more_range_for_tag elements tag (start + k) place element middle new (so_far.covers k free tag there) step.keeps wanted
-          (step.covers k (flag_within flags k free) free tag there);
-      real = λ real. step.real elements wanted (so_far.real real);
-      unrefused = λ found. step.unrefused elements are (so_far.unrefused found);
-    }
+-- the flag of the next entry
+pub flag_next :
+    (start : ℕ) (flags : List Bool) (offset index : ℕ) →
+    (is_flagged start flags index && nat_lt index (start + (offset + 1))) ≡ ((is_flagged start flags index && nat_lt index (start + offset)) || (get_or flags offset false && (index == (start + offset))))
+flag_next start flags offset index = elim (eqb_tells index (start + offset)) [
+  | inl same ↦ let at : index - start ≡ offset = omega (arith, same.1) in rw at (grind (arith, nat_tests))
+  | inr other ↦ let apart = other.1 in rw (other.0) (grind (arith, nat_tests))
+]
 
-    pub improves_all :
-        (place : ℕ) (old new : Option Candidate) → ((p : ℕ) (element : Element) → slice_get elements p ≡ Some element → p < place) → ImprovesAt elements tags start flags place old new →
-        ImprovesAt elements tags start flags (length elements) old new
-    improves_all place old new done so_far = record {
-      keeps = so_far.keeps;
-      covers = λ k free tag there p below element wanted. so_far.covers k free tag there p (done p element wanted) element wanted;
-      real = so_far.real;
-      unrefused = so_far.unrefused;
-    }
+-- there is no flag past the last
+pub all_flags : (start : ℕ) (flags : List Bool) (index : ℕ) → is_flagged start flags index ≡ (is_flagged start flags index && nat_lt index (start + length flags))
+all_flags start flags index = grind (arith, nat_tests, get_or_past flags (index - start) false)
 
-    -- the tags before these, and these
-    block_at :
-        (old new : Option Candidate) → ((k : ℕ) → k < 64 → IsUnrefusedAt elements tags (start + k) → get_or flags k false ≡ true) → CoversOpen elements tags start old →
-        ImprovesAt elements tags start flags (length elements) old new → (index : ℕ) → index < start + 64 → (index < start) ⊎ (start ≤ index) → (place : ℕ) (element : Element) (tag : List ℕ) →
-        slice_get elements place ≡ Some element → slice_get tags index ≡ Some (Some tag) → is_refused elements tag ≡ false → serves element tag ≡ true → IsNotAfter new (rank place element index tag)
-    block_at old new all so_far step index below (inl before) place element tag wanted there free served =
-        step.keeps (rank place element index tag) (so_far index before place element tag wanted there free served)
-    block_at old new all so_far step index below (inr after) place element tag wanted there free served =
-        let at : start + (index - start) ≡ index = omega (arith, after) in
-        let here : slice_get tags (start + (index - start)) ≡ Some (Some tag) = ap (slice_get tags) at ∙ there in
-        subst (λ i. IsNotAfter new (rank place element i tag)) at
-        (step.covers (index - start) (all (index - start) (omega (arith, after, below)) (tag, here, free)) tag here place (slice_get_within elements place element wanted) element wanted served)
-
-    pub more_open :
-        (count : ℕ) (old new : Option Candidate) → count ≤ 64 → ((k : ℕ) → k < 64 → IsUnrefusedAt elements tags (start + k) → get_or flags k false ≡ true) → CoversOpen elements tags start old →
-        ImprovesAt elements tags start flags (length elements) old new → CoversOpen elements tags (start + count) new
-    more_open count old new few all so_far step = λ index below. block_at old new all so_far step index (omega (arith, below, few)) (cases_lt index start)
-
-    -- a flag is stored
-    pub more_flagged :
-        (k : ℕ) (b : Bool) → k < length flags → ((b ≡ true) ↔ IsUnrefusedAt elements tags (start + k)) → AreOpenAt elements tags start flags → AreOpenAt elements tags start (set flags k b)
-    more_flagged k b within tells are = λ j is. flagged j is (flag_at flags k j b within (cases_lt j k) (cases_lt k j))
-      where
-        flagged :
-            (j : ℕ) → get_or (set flags k b) j false ≡ true → (get_or (set flags k b) j false ≡ get_or flags j false) ⊎ ((j ≡ k) × (get_or (set flags k b) j false ≡ b)) →
-            IsUnrefusedAt elements tags (start + j)
-        flagged j is (inl same) = are j (sym same ∙ is)
-        flagged j is (inr at) = subst (λ i. IsUnrefusedAt elements tags (start + i)) (sym at.0) (tells.0 (sym at.1 ∙ is))
-
-    pub all_flagged :
-        (k : ℕ) (b : Bool) → k < length flags → ((b ≡ true) ↔ IsUnrefusedAt elements tags (start + k)) → ((j : ℕ) → j < k → IsUnrefusedAt elements tags (start + j) → get_or flags j false ≡ true) →
-        (j : ℕ) → j < k + 1 → IsUnrefusedAt elements tags (start + j) → get_or (set flags k b) j false ≡ true
-    all_flagged k b within tells all =
-        below_more _ _ (λ j below is. get_or-set_other flags k j b false (λ same. omega (arith, below, same)) ∙ all j below is)
-        (λ is. get_or-set_same flags k b false within ∙ tells.1 is)
-
--- ---- what is first of all
-
-pub first_open :
-    (elements : List Element) (tags : List (Option (List ℕ))) (found : Option Candidate) → CoversOpen elements tags (length tags) found → IsReal elements tags found → AreOpen elements tags found →
-    IsBestFound elements tags found
-first_open elements tags None covers real here = λ pair. covers pair.index (slice_get_within tags _ _ pair.there) pair.place pair.element pair.tag pair.wanted pair.there pair.unrefused pair.served
-first_open elements tags (Some c) covers real here =
-    least_chosen elements tags c real here
-    (λ pair. covers pair.index (slice_get_within tags _ _ pair.there) pair.place pair.element pair.tag pair.wanted pair.there pair.unrefused pair.served)
-
--- a candidate that is at most all pairs is at most those of tags that are not refused
-pub first_best :
-    (elements : List Element) (tags : List (Option (List ℕ))) (found o : Option Candidate) → found ≡ o → Covers elements tags (length elements) found → IsReal elements tags found →
-    AreOpen elements tags o → IsBestFound elements tags o
-first_best elements tags found o is covers real here =
-    first_open elements tags o (λ index below place element tag wanted there free served. subst (λ o. IsNotAfter o (rank place element index tag)) is
-    (covers place (slice_get_within elements place element wanted) element index tag wanted there served)) (subst (IsReal elements tags) is real) here
+-- the entries before some, and these
+pub block_flags :
+    (elements : List Element) (tags : List (Option (List ℕ))) (start count : ℕ) (flags : List Bool) (index : ℕ) → ((k : ℕ) → get_or flags k false ≡ (nat_lt k 64 && is_unrefused_at elements tags (start + k))) →
+    count ≡ min 64 (length tags - start) → index < length tags →
+    (is_unrefused_at elements tags index && nat_lt index (start + count)) ≡ ((is_unrefused_at elements tags index && nat_lt index start) || is_flagged start flags index)
+block_flags elements tags start count flags index are few inside = elim (cases_lt index start) [
+  | inl before ↦ grind (arith, nat_tests)
+  | inr after ↦
+      let at : start + (index - start) ≡ index = omega (arith, after) in
+      let flag = are (index - start) ∙ ap (λ i. nat_lt (index - start) 64 && is_unrefused_at elements tags i) at in
+      rw flag (grind (arith, nat_tests))
+]
 
 -- ---- what a walk has left
 
@@ -354,5 +295,5 @@ rest_here all left rest element place is so_far = grind (arith, so_far 0)
 pub rest_next : (all left rest : List Element) (element : Element) (place : ℕ) → left ≡ element ∷ rest → IsRest all left place → IsRest all rest (place + 1)
 rest_next all left rest element place is so_far = λ k. grind (arith, so_far (suc k))
 
-pub rest_done : (all left : List Element) (place : ℕ) → left ≡ [] → IsRest all left place → (p : ℕ) (element : Element) → slice_get all p ≡ Some element → p < place
-rest_done all left place is so_far p element there = grind (arith, so_far (p - place), cases_lt p place)
+pub rest_done : (all left : List Element) (place : ℕ) → left ≡ [] → IsRest all left place → (p : ℕ) → p < length all → p < place
+rest_done all left place is so_far p among = grind (arith, so_far (p - place), cases_lt p place, slice_get_cases all p)

@@ -1,5 +1,5 @@
 -- The tables of language matching have the rows of the lists, by computation, and a rule is found by its number.
-use Rattle.std.proofs.Common.{◌≡◌, ℕ, ◌<◌, true, false, ◌==◌, Bool, ltb, List, [], ◌∷◌, length, get_or, map, refl, arith, rules, ◌&&◌, is_some, ◌+◌, ◌*◌, ap, ◌∙◌, cond, Option, sym}
+use Rattle.std.proofs.Common.{◌≡◌, ℕ, ◌<◌, true, false, ◌==◌, Bool, ltb, List, [], ◌∷◌, length, max, get_or, map, refl, arith, rules, ◌&&◌, is_some, ◌+◌, ◌*◌, ap, ◌∙◌, cond, Option, sym}
 use Rattle.std.proofs.lemmas.Bool.Decides.{nat_tests, eqb_tells}
 use Rattle.std.proofs.lemmas.Bool.{and_parts, ltb-true, eq-eqb, ne_eqb}
 use Rattle.std.proofs.lemmas.Grind.{common_steps}
@@ -41,15 +41,12 @@ module _ (number : Rule → ℕ) (is_good : Rule → Bool) (key : ℕ) (desired 
 abbrev pub is_short : Rule → Bool
 is_short rule = ltb (length rule.desired.language) 4 && ltb (length rule.supported.language) 4
 
-pub long_desired : (otherwise : ℕ) (rules : List Rule) (desired supported : Fields) → 3 < length desired.language → list_all is_short rules ≡ true → distance_by rules otherwise desired supported ≡ otherwise
-long_desired otherwise [] desired supported long all = refl
-long_desired otherwise (rule ∷ rules) desired supported long all =
-    grind (arith, nat_tests, and_parts, alike_length rule.desired.language desired.language, long_desired otherwise rules desired supported long)
-
-pub long_supported : (otherwise : ℕ) (rules : List Rule) (desired supported : Fields) → 3 < length supported.language → list_all is_short rules ≡ true → distance_by rules otherwise desired supported ≡ otherwise
-long_supported otherwise [] desired supported long all = refl
-long_supported otherwise (rule ∷ rules) desired supported long all =
-    grind (arith, nat_tests, and_parts, alike_length rule.supported.language supported.language, long_supported otherwise rules desired supported long)
+pub long_languages :
+    (otherwise : ℕ) (rules : List Rule) (desired supported : Fields) → 3 < max (length desired.language) (length supported.language) → list_all is_short rules ≡ true →
+    distance_by rules otherwise desired supported ≡ otherwise
+long_languages otherwise [] desired supported long all = refl
+long_languages otherwise (rule ∷ rules) desired supported long all =
+    grind (arith, nat_tests, and_parts, alike_length rule.desired.language desired.language, alike_length rule.supported.language supported.language, long_languages otherwise rules desired supported long)
 
 -- ---- a text among others
 
@@ -167,11 +164,8 @@ module _ (d s : Fields) where
   unfolding language_distance
   language_other n other is = is ∙ sym (ap (λ b. cond b 0 (distance_by language_rules 80 (language_alone d) (language_alone s))) other)
 
-  pub language_long_desired : are_alike d.language s.language ≡ false → 3 < length d.language → 80 ≡ language_distance d s
-  language_long_desired other long = language_other 80 other (sym (long_desired 80 language_rules (language_alone d) (language_alone s) long language_rules_listed.short))
-
-  pub language_long_supported : are_alike d.language s.language ≡ false → 3 < length s.language → 80 ≡ language_distance d s
-  language_long_supported other long = language_other 80 other (sym (long_supported 80 language_rules (language_alone d) (language_alone s) long language_rules_listed.short))
+  pub language_long : are_alike d.language s.language ≡ false → 3 < max (length d.language) (length s.language) → 80 ≡ language_distance d s
+  language_long other long = language_other 80 other (sym (long_languages 80 language_rules (language_alone d) (language_alone s) long language_rules_listed.short))
 
   pub language_found :
       (o : Option ℕ) (n : ℕ) (keys : List ℕ) (number : ℕ) → are_alike d.language s.language ≡ false → are_letters d.language ≡ true → are_letters s.language ≡ true →
@@ -187,11 +181,8 @@ module _ (d s : Fields) where
   unfolding script_distance
   script_other n other is = is ∙ sym (ap (λ b. cond b 0 (distance_by script_rules 50 (without_region d) (without_region s))) other)
 
-  pub script_long_desired : are_alike d.script s.script ≡ false → 3 < length d.language → 50 ≡ script_distance d s
-  script_long_desired other long = script_other 50 other (sym (long_desired 50 script_rules (without_region d) (without_region s) long script_rules_listed.short))
-
-  pub script_long_supported : are_alike d.script s.script ≡ false → 3 < length s.language → 50 ≡ script_distance d s
-  script_long_supported other long = script_other 50 other (sym (long_supported 50 script_rules (without_region d) (without_region s) long script_rules_listed.short))
+  pub script_long : are_alike d.script s.script ≡ false → 3 < max (length d.language) (length s.language) → 50 ≡ script_distance d s
+  script_long other long = script_other 50 other (sym (long_languages 50 script_rules (without_region d) (without_region s) long script_rules_listed.short))
 
   pub script_found :
       (o : Option ℕ) (n : ℕ) (keys : List ℕ) (number : ℕ) → are_alike d.script s.script ≡ false → are_plain (without_region d) ≡ true → are_plain (without_region s) ≡ true →

@@ -1,11 +1,11 @@
 -- The tags that are chosen in turn.
-use Rattle.std.proofs.Common.{◌≡◌, ◌≢◌, ◌⊎◌, inl, inr, ℕ, ◌<◌, ◌≤◌, ◌+◌, ◌-◌, ◌==◌, true, false, List, [], ◌∷◌, ◌++◌, Option, Some, None, is_some, cond, count_by, eqb, sum_by, length, get_or, slice_get, set, drop, refl, sym, subst, ap, ◌∙◌, arith, All, Contains}
-use Rattle.std.proofs.lemmas.Bool.Decides.{eqb_tells, leb_tells}
-use Rattle.std.proofs.lemmas.List.{append_assoc, append-nil, drop-drop, drop-set-lt, get_or-set_other, get_or-set_same, get_or_past, length-append, length-set}
+use Rattle.std.proofs.Common.{option_map, zero, suc, ◌≡◌, ◌≢◌, ◌⊎◌, inl, inr, ℕ, ◌<◌, ◌≤◌, ◌+◌, ◌-◌, ◌==◌, List, [], ◌∷◌, ◌++◌, Option, Some, None, is_some, cond, count_by, length, get_or, slice_get, set, drop, refl, sym, subst, ap, ◌∙◌, arith, All, Contains}
+use Rattle.std.proofs.lemmas.Bool.Decides.{eqb_tells}
+use Rattle.std.proofs.lemmas.List.{append_assoc, append-nil, drop-drop, drop-set-lt, length-append, length-set}
 use Rattle.std.proofs.lemmas.List.Elements.{All-cons, All-nil, Contains-append_right}
 use Rattle.std.proofs.lemmas.List.Kept.{AllPairs-cons}
-use Rattle.std.proofs.lemmas.List.Sums.{count_by-le-length, sum_by-set}
-use Rattle.std.proofs.lemmas.Option.{get_or_from_slice_get, slice_get-get_or, slice_get_within}
+use Rattle.std.proofs.lemmas.List.Sums.{count_by-le-length, sum_by-cons}
+use Rattle.std.proofs.lemmas.Option.{unwrap_or-slice_get}
 use Rattle.std.specs.List.{list_any}
 use Rattle.langtag_range.specs.Element.{Element}
 use Rattle.langtag_choice.specs.Best.{IsChoice}
@@ -18,31 +18,21 @@ pub without_count : (tags : List (Option (List ℕ))) (chosen : List ℕ) → le
 without_count tags [] = refl
 without_count tags (index ∷ chosen) = without_count (without tags index) chosen ∙ length-set tags index None
 
--- what was taken away is no tag
-taken : (tags : List (Option (List ℕ))) (index : ℕ) → get_or (without tags index) index None ≡ None
-taken tags index = elim (leb_tells (length tags) index) [
-  | inl past ↦ get_or_past (without tags index) index None (omega (arith, past.1, length-set tags index None))
-  | inr inside ↦ get_or-set_same tags index None None (omega (arith, inside.1))
-]
+-- the entry at an index, once another is taken away
+gone : (tags : List (Option (List ℕ))) (index other : ℕ) → slice_get (without tags index) other ≡ option_map (λ entry. cond (index == other) None entry) (slice_get tags other)
+gone [] index other = refl
+gone (tag ∷ tags) zero zero = refl
+gone (tag ∷ tags) zero (suc other) = grind arith
+gone (tag ∷ tags) (suc index) zero = grind arith
+gone (tag ∷ tags) (suc index) (suc other) = grind (arith, gone tags index other)
 
--- an entry that is no tag stays none
-none_stays : (tags : List (Option (List ℕ))) (chosen : List ℕ) (index : ℕ) → get_or tags index None ≡ None → get_or (without_all tags chosen) index None ≡ None
-none_stays tags [] index none = none
-none_stays tags (first ∷ chosen) index none = none_stays (without tags first) chosen index (gone (eqb_tells index first))
-  where
-    gone : ((eqb index first ≡ true) × (index ≡ first)) ⊎ ((eqb index first ≡ false) × (index ≢ first)) → get_or (without tags first) index None ≡ None
-    gone (inl same) = ap (λ i. get_or (without tags first) i None) same.1 ∙ taken tags first
-    gone (inr other) = get_or-set_other tags first index None None other.1 ∙ none
-
-pub at_chosen : (tags : List (Option (List ℕ))) (chosen : List ℕ) (index : ℕ) → list_any (λ other. other == index) chosen ≡ true → get_or (without_all tags chosen) index None ≡ None
-at_chosen tags [] index is = absurd cc
-at_chosen tags (first ∷ chosen) index is =
-    grind (arith, eqb_tells first index, taken tags first, none_stays (without tags first) chosen index, at_chosen (without tags first) chosen index)
-
-pub at_other : (tags : List (Option (List ℕ))) (chosen : List ℕ) (index : ℕ) → list_any (λ other. other == index) chosen ≡ false → get_or (without_all tags chosen) index None ≡ get_or tags index None
-at_other tags [] index is = refl
-at_other tags (first ∷ chosen) index is =
-    grind (arith, eqb_tells first index, get_or-set_other, at_other (without tags first) chosen index)
+-- an entry that was chosen is no tag, and the others stay
+pub entry_left :
+    (tags : List (Option (List ℕ))) (chosen : List ℕ) (index : ℕ) →
+    get_or (without_all tags chosen) index None ≡ cond (list_any (λ other. other == index) chosen) None (get_or tags index None)
+entry_left tags [] index = refl
+entry_left tags (first ∷ chosen) index =
+    grind (arith, entry_left (without tags first) chosen index, gone tags first index, unwrap_or-slice_get (without tags first) index None, unwrap_or-slice_get tags index None)
 
 without_one_more : (tags : List (Option (List ℕ))) (chosen : List ℕ) (index : ℕ) → without_all tags (chosen ++ index ∷ []) ≡ without (without_all tags chosen) index
 without_one_more tags [] index = refl
@@ -82,28 +72,11 @@ rest_after new old count index same =
 
 -- a tag that remains is another tag
 stays : (tags : List (Option (List ℕ))) (index other : ℕ) (tag : List ℕ) → slice_get (without tags index) other ≡ Some (Some tag) → (index ≢ other) × (slice_get tags other ≡ Some (Some tag))
-stays tags index other tag there = by_index (eqb_tells other index)
-  where
-    inside : other < length tags
-    inside = omega (arith, slice_get_within (without tags index) other (Some tag) there, length-set tags index None)
-
-    here : get_or (without tags index) other None ≡ Some tag
-    here = get_or_from_slice_get (without tags index) other (Some tag) None there
-
-    none_is_some : None ≡ Some tag → ⊥
-    none_is_some e = absurd cc
-
-    by_index : ((eqb other index ≡ true) × (other ≡ index)) ⊎ ((eqb other index ≡ false) × (other ≢ index)) → (index ≢ other) × (slice_get tags other ≡ Some (Some tag))
-    by_index (inl same) = absurd (none_is_some (sym (taken tags index) ∙ ap (λ i. get_or (without tags index) i None) (sym same.1) ∙ here))
-    by_index (inr differs) = (λ same. differs.1 (sym same), slice_get-get_or tags other None inside ∙ ap Some (sym (get_or-set_other tags index other None None differs.1) ∙ here))
+stays tags index other tag there = grind (arith, gone tags index other, eqb_tells index other)
 
 -- another tag remains
 remains : (tags : List (Option (List ℕ))) (index other : ℕ) (tag : List ℕ) → other ≢ index → slice_get tags other ≡ Some (Some tag) → slice_get (without tags index) other ≡ Some (Some tag)
-remains tags index other tag differs there =
-    let inside = slice_get_within tags other (Some tag) there in
-    let here = get_or_from_slice_get tags other (Some tag) None there in
-    let long = length-set tags index None in
-    slice_get-get_or (without tags index) other None (omega (arith, inside, long)) ∙ ap Some (get_or-set_other tags index other None None differs ∙ here)
+remains tags index other tag differs there = grind (arith, gone tags index other, eqb_tells index other)
 
 -- ---- what follows
 
@@ -114,10 +87,8 @@ module _ (elements : List Element) where
 
   serving_before : (tags : List (Option (List ℕ))) (index other : ℕ) → IsServing elements (without tags index) other → (index ≢ other) × IsServing elements tags other
   serving_before tags index other (pair, here) =
-      let kept = stays tags index pair.index pair.tag pair.there in (
-        λ same. kept.0 (same ∙ sym here),
-        (record { place = pair.place; element = pair.element; wanted = pair.wanted; index = pair.index; tag = pair.tag; there = kept.1; served = pair.served; unrefused = pair.unrefused }, here),
-      )
+      let kept = stays tags index pair.index pair.tag pair.there in
+      (λ same. kept.0 (same ∙ sym here), (record { place = pair.place; element = pair.element; wanted = pair.wanted; index = pair.index; tag = pair.tag; there = kept.1; served = pair.served; unrefused = pair.unrefused }, here))
 
   serving_after : (tags : List (Option (List ℕ))) (index other : ℕ) → other ≢ index → IsServing elements tags other → IsServing elements (without tags index) other
   serving_after tags index other differs (pair, here) =
@@ -147,13 +118,10 @@ number_of_tags tags = count_by is_some tags
 
 -- without a tag they are one fewer
 one_fewer : (tags : List (Option (List ℕ))) (index : ℕ) (tag : List ℕ) → slice_get tags index ≡ Some (Some tag) → number_of_tags (without tags index) + 1 ≡ number_of_tags tags
-one_fewer tags index tag there =
-    let here : one_if_tag (get_or tags index None) ≡ one_if_tag (Some tag) = ap one_if_tag (get_or_from_slice_get tags index (Some tag) None there) in
-    let sums = sum_by-set one_if_tag tags index None None (slice_get_within tags index (Some tag) there) in
-    sum_fewer (sum_by one_if_tag (without tags index)) (sum_by one_if_tag tags) (one_if_tag (get_or tags index None)) here sums
-  where
-    sum_fewer : (fewer all one : ℕ) → one ≡ 1 → fewer + one ≡ all + 0 → fewer + 1 ≡ all
-    sum_fewer fewer all one is sums = omega (arith, is, sums)
+one_fewer [] index tag there = absurd cc
+one_fewer (first ∷ tags) zero tag there = grind (arith, sum_by-cons one_if_tag None tags, sum_by-cons one_if_tag first tags)
+one_fewer (first ∷ tags) (suc index) tag there =
+    grind (arith, sum_by-cons one_if_tag first (without tags index), sum_by-cons one_if_tag first tags, one_fewer tags index tag there)
 
 module _ (elements : List Element) where
   none_left : (tags : List (Option (List ℕ))) (room : ℕ) (indices : List ℕ) → AreSuitable elements tags room indices → (length indices < room) ⊎ (number_of_tags tags ≤ room) →
@@ -162,19 +130,17 @@ module _ (elements : List Element) where
   none_left tags room [] suitable (inr enough) index serving =
       absurd (suitable (omega (arith, enough, one_fewer tags serving.0.index serving.0.tag serving.0.there)) serving.0)
   none_left tags room (first ∷ indices) suitable enough index serving =
-      by_index (λ differs. none_left (without tags first) (room - 1) indices suitable.2 (fewer enough) index (serving_after elements tags first index differs serving))
-      (eqb_tells index first)
+      elim (eqb_tells index first) [
+        | inl same ↦ (0, omega arith, sym same.1)
+        | inr other ↦ Contains-append_right (first ∷ []) indices index
+            (none_left (without tags first) (room - 1) indices suitable.2 fewer index (serving_after elements tags first index other.1 serving))
+      ]
     where
       here : number_of_tags (without tags first) + 1 ≡ number_of_tags tags
       here = subst (λ i. number_of_tags (without tags i) + 1 ≡ number_of_tags tags) suitable.1.here (one_fewer tags suitable.1.pair.index suitable.1.pair.tag suitable.1.pair.there)
 
-      fewer : (length (first ∷ indices) < room) ⊎ (number_of_tags tags ≤ room) → (length indices < room - 1) ⊎ (number_of_tags (without tags first) ≤ room - 1)
-      fewer (inl short) = inl (omega (arith, short))
-      fewer (inr enough) = inr (omega (arith, enough, here))
-
-      by_index : (index ≢ first → Contains indices index) → ((eqb index first ≡ true) × (index ≡ first)) ⊎ ((eqb index first ≡ false) × (index ≢ first)) → Contains (first ∷ indices) index
-      by_index among (inl same) = (0, omega arith, sym same.1)
-      by_index among (inr other) = Contains-append_right (first ∷ []) indices index (among other.1)
+      fewer : (length indices < room - 1) ⊎ (number_of_tags (without tags first) ≤ room - 1)
+      fewer = elim enough [ inl short ↦ inl (omega (arith, short)) | inr few ↦ inr (omega (arith, few, here)) ]
 
   pub none_left_out : (tags : List (Option (List ℕ))) (room : ℕ) (indices : List ℕ) → AreSuitable elements tags room indices → LeavesNoneOut elements tags room indices
   none_left_out tags room indices suitable (inl short) = none_left tags room indices suitable (inl short)

@@ -1,5 +1,6 @@
 -- The candidate that is found while the choice is made. Only contracts of private functions cite this page.
-use Rattle.std.specs.Prelude.{◌≡◌, ◌⊎◌, ℕ, ◌<◌, ◌+◌, ◌-◌, Bool, true, false, List, [], ◌∷◌, Option, Some, None, MatchOption, IfSome, length, slice_get, slice_index_or, option_map}
+use Rattle.std.specs.Prelude.{◌≡◌, ◌⊎◌, ◌==◌, ◌&&◌, ℕ, ◌<◌, ◌-◌, Bool, true, false, not, nat_le, List, [], ◌∷◌, Option, Some, None, MatchOption, length, slice_get, slice_index_or, option_map}
+use Rattle.std.specs.Option.{ForSome, option_map_or}
 use Rattle.langtag_range.specs.Element.{Element}
 use Rattle.langtag_range.specs.Listed.{basic_text}
 use Rattle.langtag_choice.specs.Best.{IsAtMost, Pair, is_refused, may_serve, rank, rank_of_pair, reach, serves}
@@ -61,90 +62,49 @@ pub record IsOf (wish : Wish) (text : List ℕ) (there : ℕ) (c : Candidate) : 
 
 -- the candidate is the entry at an index, and it is the tag there if what was kept of the tag is true
 abbrev pub IsOfKnown : Wish → KnownTag → ℕ → Candidate → Type 0
-IsOfKnown wish tag there c = (c.index ≡ there) × (is_known tag ≡ true → IsOf wish (known_text tag) there c)
+IsOfKnown wish tag there c = (c.rank.place ≡ wish.place) × (c.index ≡ there) × (is_known tag ≡ true → IsOf wish (known_text tag) there c)
 
 -- `old` and `new` are the candidates before and after the tag at an index was tried for a range
 pub record Takes (wish : Wish) (tag : KnownTag) (index : ℕ) (old new : Option Candidate) : Type 0 where
   pub keeps : Keeps old new
   pub covers : is_known tag ≡ true → serves (wish_element wish) (known_text tag) ≡ true → IsNotAfter new (rank wish.place (wish_element wish) index (known_text tag))
-  pub from : (new ≡ old) ⊎ MatchOption new ⊥ (IsOfKnown wish tag index)
+  pub from : ForSome new (λ c. (old ≡ Some c) ⊎ IsOfKnown wish tag index c)
 
--- the candidate is the text at an index, for one of the ranges
-pub record IsAt (elements : List Element) (text : List ℕ) (there : ℕ) (c : Candidate) : Type 0 where
+-- the candidate is a tag, for one of the ranges
+pub record IsAt (elements : List Element) (text : List ℕ) (c : Candidate) : Type 0 where
   pub element : Element
   pub wanted : slice_get elements c.rank.place ≡ Some element
   pub range : element.range ≡ basic_text c.range.now
-  pub index : c.index ≡ there
   pub tag : c.tag.now ≡ text
   pub served : serves element text ≡ true
-  pub same_rank : rank_of c ≡ rank c.rank.place element there text
+  pub same_rank : rank_of c ≡ rank c.rank.place element c.index text
 
--- the candidate is an entry of the list; if it is a tag, it is that tag for one of the ranges, and may be refused
+-- the candidate is a range and an entry of the lists; if the entry is a tag, it may serve the range, but may be refused
 pub record IsFor (elements : List Element) (tags : List (Option (List ℕ))) (c : Candidate) : Type 0 where
+  pub among : c.rank.place < length elements
   pub inside : c.index < length tags
-  pub there : (tag : List ℕ) → slice_get tags c.index ≡ Some (Some tag) → IsAt elements tag c.index c
+  pub there : (tag : List ℕ) → slice_get tags c.index ≡ Some (Some tag) → IsAt elements tag c
 
--- the entry at an index is a tag that is not refused
-abbrev pub IsUnrefusedAt : List Element → List (Option (List ℕ)) → ℕ → Type 0
-IsUnrefusedAt elements tags index = (tag : List ℕ) × (slice_get tags index ≡ Some (Some tag)) × (is_refused elements tag ≡ false)
-
--- the candidate, if there is one, serves one of the ranges
-abbrev pub IsReal : List Element → List (Option (List ℕ)) → Option Candidate → Type 0
-IsReal elements tags found = IfSome found (IsFor elements tags)
-
--- `old` and `new` are the candidates before and after the entry at an index of a list was tried for a range
-pub record TakesAt (wish : Wish) (tags : List (Option (List ℕ))) (index : ℕ) (old new : Option Candidate) : Type 0 where
+-- `old` and `new` are the candidates before and after some pairs of a range and an entry were tried, which are given by
+-- the place of the range and the index of the entry. No such pair has a lesser rank than `new`, which is `old` or a pair
+pub record Tries (elements : List Element) (tags : List (Option (List ℕ))) (is_tried : ℕ → ℕ → Bool) (old new : Option Candidate) : Type 0 where
   pub keeps : Keeps old new
-  pub covers : (tag : List ℕ) → slice_get tags index ≡ Some (Some tag) → serves (wish_element wish) tag ≡ true → IsNotAfter new (rank wish.place (wish_element wish) index tag)
-  pub real : (elements : List Element) → slice_get elements wish.place ≡ Some (wish_element wish) → IsReal elements tags old → IsReal elements tags new
-  pub from : (new ≡ old) ⊎ MatchOption new ⊥ (λ c. c.index ≡ index)
+  pub covers : (place : ℕ) (element : Element) (index : ℕ) (tag : List ℕ) → is_tried place index ≡ true → slice_get elements place ≡ Some element → slice_get tags index ≡ Some (Some tag) →
+      serves element tag ≡ true → IsNotAfter new (rank place element index tag)
+  pub from : ForSome new (λ c. (old ≡ Some c) ⊎ ((is_tried c.rank.place c.index ≡ true) × IsFor elements tags c))
 
--- no pair with one of the first ranges has a lesser rank than the candidate
-abbrev pub Covers : List Element → List (Option (List ℕ)) → ℕ → Option Candidate → Type 0
-Covers elements tags count found =
-    (place : ℕ) → place < count → (element : Element) (index : ℕ) (tag : List ℕ) → slice_get elements place ≡ Some element → slice_get tags index ≡ Some (Some tag) →
-    serves element tag ≡ true → IsNotAfter found (rank place element index tag)
+-- some entries were tried for the range at a place
+abbrev pub TriesRange : Element → ℕ → List (Option (List ℕ)) → (ℕ → Bool) → Option Candidate → Option Candidate → Type 0
+TriesRange element place tags is_tried old new =
+    (elements : List Element) → slice_get elements place ≡ Some element → Tries elements tags (λ p index. is_tried index && (p == place)) old new
 
--- no pair of this range and one of the first tags has a lesser rank than the candidate
-abbrev pub CoversTags : Element → ℕ → List (Option (List ℕ)) → ℕ → Option Candidate → Type 0
-CoversTags element place tags count found =
-    (index : ℕ) → index < count → (tag : List ℕ) → slice_get tags index ≡ Some (Some tag) → serves element tag ≡ true → IsNotAfter found (rank place element index tag)
+-- whether the entry at an index is a tag that is not refused
+abbrev pub is_unrefused_at : List Element → List (Option (List ℕ)) → ℕ → Bool
+is_unrefused_at elements tags index = option_map_or (λ tag. not (is_refused elements tag)) (slice_index_or tags index None) false
 
--- no pair of this tag and one of the first ranges has a lesser rank than the candidate
-abbrev pub CoversRanges : List Element → List ℕ → ℕ → ℕ → Option Candidate → Type 0
-CoversRanges elements tag index count found =
-    (place : ℕ) → place < count → (element : Element) → slice_get elements place ≡ Some element → serves element tag ≡ true → IsNotAfter found (rank place element index tag)
-
--- no pair with one of the first tags has a lesser rank than the candidate, apart from pairs with refused tags
-abbrev pub CoversOpen : List Element → List (Option (List ℕ)) → ℕ → Option Candidate → Type 0
-CoversOpen elements tags count found =
-    (index : ℕ) → index < count → (place : ℕ) (element : Element) (tag : List ℕ) → slice_get elements place ≡ Some element → slice_get tags index ≡ Some (Some tag) →
-    is_refused elements tag ≡ false → serves element tag ≡ true → IsNotAfter found (rank place element index tag)
-
--- the candidate, if there is one, is a tag that is not refused
-abbrev pub AreOpen : List Element → List (Option (List ℕ)) → Option Candidate → Type 0
-AreOpen elements tags found = IfSome found (λ c. IsUnrefusedAt elements tags c.index)
-
--- ---- some tags that are not refused
-
--- a flag is true only if its entry is a tag that is not refused; the first flag is that of the entry at an index
-abbrev pub AreOpenAt : List Element → List (Option (List ℕ)) → ℕ → List Bool → Type 0
-AreOpenAt elements tags start flags = (k : ℕ) → slice_index_or flags k false ≡ true → IsUnrefusedAt elements tags (start + k)
-
--- `old` and `new` are the candidates before and after the first of some entries were tried for a range
-pub record ImprovesFor (element : Element) (place : ℕ) (tags : List (Option (List ℕ))) (start : ℕ) (flags : List Bool) (count : ℕ) (old new : Option Candidate) : Type 0 where
-  pub keeps : Keeps old new
-  pub covers : (k : ℕ) → k < count → slice_index_or flags k false ≡ true → (tag : List ℕ) → slice_get tags (start + k) ≡ Some (Some tag) → serves element tag ≡ true →
-      IsNotAfter new (rank place element (start + k) tag)
-  pub real : (elements : List Element) → slice_get elements place ≡ Some element → IsReal elements tags old → IsReal elements tags new
-  pub unrefused : (elements : List Element) → AreOpenAt elements tags start flags → AreOpen elements tags old → AreOpen elements tags new
-
--- `old` and `new` are the candidates before and after some entries were tried for the first of the ranges
-pub record ImprovesAt (elements : List Element) (tags : List (Option (List ℕ))) (start : ℕ) (flags : List Bool) (count : ℕ) (old new : Option Candidate) : Type 0 where
-  pub keeps : Keeps old new
-  pub covers : (k : ℕ) → slice_index_or flags k false ≡ true → (tag : List ℕ) → slice_get tags (start + k) ≡ Some (Some tag) → CoversRanges elements tag (start + k) count new
-  pub real : IsReal elements tags old → IsReal elements tags new
-  pub unrefused : AreOpen elements tags old → AreOpen elements tags new
+-- whether the flag of the entry at an index is set; the first flag is that of the entry at `start`
+abbrev pub is_flagged : ℕ → List Bool → ℕ → Bool
+is_flagged start flags index = nat_le start index && slice_index_or flags (index - start) false
 
 -- the candidate is the pair with the least rank
 pub record IsBestOf (elements : List Element) (tags : List (Option (List ℕ))) (c : Candidate) : Type 0 where

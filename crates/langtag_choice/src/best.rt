@@ -7,7 +7,7 @@ ghost use Rattle.langtag_range.specs.Wanted.{wanted_elements};
 ghost use Rattle.langtag_choice.specs.Best as spec;
 ghost use Rattle.langtag_choice.specs.ChoiceLaws as laws;
 ghost use Rattle.langtag_choice.specs.Distance.{distance_of_texts};
-ghost use Rattle.langtag_choice.specs.Found.{IsBestFound, IsUnrefusedAt};
+ghost use Rattle.langtag_choice.specs.Found.{IsBestFound, is_unrefused_at};
 ghost use Rattle.langtag_choice.specs.ListTexts.{ordered_elements, tag_texts, weighted_elements};
 
 use crate::best_match::BestMatch;
@@ -201,7 +201,6 @@ fn best_index<'a, R: RangeList<'a>, T: TagList>(ranges: R, tags: &T) -> Option<u
 }
 
 /// Returns the chosen candidate. If the first candidate is refused or not a tag, the tags are tried one by one.
-#[tactic(auto, using(crate::proofs::FoundLaws::first_best, crate::proofs::FoundLaws::first_open))]
 fn best<'a, 't, R: RangeList<'a>, T: TagList>(ranges: R, tags: &'t T) -> Option<Candidate<'a, 't>>
     ensures { IsBestFound (R.elements ranges) (T.texts tags.now) result }
 {
@@ -216,7 +215,6 @@ fn best<'a, 't, R: RangeList<'a>, T: TagList>(ranges: R, tags: &'t T) -> Option<
 }
 
 /// Returns whether the entry at an index is a tag that is not refused. No tag is refused if no range has the weight 0.
-#[tactic(auto, using(crate::proofs::FoundLaws::none_refused, crate::proofs::FoundLaws::open_at))]
 fn is_chosen<'a, R: RangeList<'a>, T: TagList>(
     ranges: R,
     tags: &T,
@@ -225,7 +223,7 @@ fn is_chosen<'a, R: RangeList<'a>, T: TagList>(
 ) -> bool
     requires inside { index < length (T.texts tags.now) }
     requires zero { has_zero ≡ list_any spec.is_excluded (R.elements ranges) }
-    ensures { IsTrue result → IsUnrefusedAt (R.elements ranges) (T.texts tags.now) index }
+    ensures { IsTrue result → IsTrue (is_unrefused_at (R.elements ranges) (T.texts tags.now) index) }
 {
     match tags.tag_at(index) {
         Some(tag) => !has_zero || !is_refused(ranges, tag.as_bytes()),

@@ -1,12 +1,11 @@
 //! Making the choice range by range. Ranges of lower weight are skipped if a tag is near a range of higher weight.
-ghost use Rattle.std.specs.Prelude.{◌≡◌, ℕ, List, IsTrue, Some, length};
-ghost use Rattle.std.specs.List.{list_any, slice_get};
-ghost use Rattle.langtag_range.specs.Element.{Element};
+ghost use Rattle.std.specs.Prelude.{◌≡◌, IsTrue, None, true};
+ghost use Rattle.std.specs.List.{list_any};
 ghost use Rattle.langtag_range.specs.Listed.{listed_element};
 ghost use Rattle.langtag_range.specs.Range.{is_language_range};
 ghost use Rattle.langtag_range.specs.Wanted.{hyphened};
 ghost use Rattle.langtag_choice.specs.Best.{is_excluded};
-ghost use Rattle.langtag_choice.specs.Found.{Covers, CoversTags, IsReal, Keeps};
+ghost use Rattle.langtag_choice.specs.Found.{Tries, TriesRange};
 
 use crate::candidate::Candidate;
 use crate::improve::{improve_entry, limit};
@@ -20,8 +19,7 @@ pub(crate) fn first_by_ranges<'a, 't, R: RangeList<'a>, T: TagList>(
     ranges: R,
     tags: &'t T,
 ) -> (Option<Candidate<'a, 't>>, bool)
-    ensures least { Covers (R.elements ranges) (T.texts tags.now) (length (R.elements ranges)) result.0 }
-    ensures real { IsReal (R.elements ranges) (T.texts tags.now) result.0 }
+    ensures first { Tries (R.elements ranges) (T.texts tags.now) (λ place index. true) None result.0 }
     ensures zero { result.1 ≡ list_any is_excluded (R.elements ranges) }
 {
     let mut first = None;
@@ -45,9 +43,7 @@ fn improve_for_range<'a, 't, T: TagList>(
     tags: &'t T,
 )
     requires in_class { IsTrue (is_language_range (hyphened wanted.bytes.now)) }
-    ensures keeps { Keeps found.old found.new }
-    ensures covers { CoversTags (listed_element wanted.entry) place (T.texts tags.now) (length (T.texts tags.now)) found.new }
-    ensures real { (elements : List Element) → slice_get elements place ≡ Some (listed_element wanted.entry) → IsReal elements (T.texts tags.now) found.old → IsReal elements (T.texts tags.now) found.new }
+    ensures { TriesRange (listed_element wanted.entry) place (T.texts tags.now) (λ index. true) found.old found.new }
 {
     if limit(found, wanted.weight, place) == 0 {
         return;

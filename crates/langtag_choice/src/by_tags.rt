@@ -1,9 +1,9 @@
 //! Making the choice tag by tag. Each entry is checked once: whether it is a tag, and whether it is refused.
-ghost use Rattle.std.specs.Prelude.{◌≡◌, ◌<◌, ◌+◌, ◌^◌, ◌↔◌, ℕ, IsTrue, false, true, length, slice_index_or};
+ghost use Rattle.std.specs.Prelude.{◌≡◌, ◌<◌, ◌+◌, ◌^◌, ◌&&◌, ℕ, IsTrue, None, false, true, length, nat_lt, slice_index_or};
 ghost use Rattle.langtag_range.specs.Listed.{listed_element};
 ghost use Rattle.langtag_range.specs.Range.{is_language_range};
 ghost use Rattle.langtag_range.specs.Wanted.{hyphened};
-ghost use Rattle.langtag_choice.specs.Found.{AreOpen, AreOpenAt, CoversOpen, ImprovesAt, ImprovesFor, IsUnrefusedAt, IsReal};
+ghost use Rattle.langtag_choice.specs.Found.{Tries, TriesRange, is_flagged, is_unrefused_at};
 
 use crate::candidate::Candidate;
 use crate::improve::{improve_entry, limit};
@@ -21,9 +21,7 @@ pub(crate) fn first_by_tags<'a, 't, R: RangeList<'a>, T: TagList>(
     ranges: R,
     tags: &'t T,
 ) -> Option<Candidate<'a, 't>>
-    ensures least { CoversOpen (R.elements ranges) (T.texts tags.now) (length (T.texts tags.now)) result }
-    ensures real { IsReal (R.elements ranges) (T.texts tags.now) result }
-    ensures unrefused { AreOpen (R.elements ranges) (T.texts tags.now) result }
+    ensures { Tries (R.elements ranges) (T.texts tags.now) (λ place index. is_unrefused_at (R.elements ranges) (T.texts tags.now) index) None result }
 {
     let mut first = None;
     let mut start = 0;
@@ -42,8 +40,7 @@ fn unrefused_from<'a, R: RangeList<'a>, T: TagList>(
     start: usize,
 ) -> [bool; BLOCK]
     requires { start < length (T.texts tags.now) }
-    ensures unrefused { AreOpenAt (R.elements ranges) (T.texts tags.now) start result }
-    ensures all { (k : ℕ) → k < 64 → IsUnrefusedAt (R.elements ranges) (T.texts tags.now) (start + k) → slice_index_or result k false ≡ true }
+    ensures { (k : ℕ) → slice_index_or result k false ≡ (nat_lt k 64 && is_unrefused_at (R.elements ranges) (T.texts tags.now) (start + k)) }
 {
     let mut unrefused = [false; BLOCK];
     for offset in 0..BLOCK.min(tags.count() - start) {
@@ -55,7 +52,7 @@ fn unrefused_from<'a, R: RangeList<'a>, T: TagList>(
 /// Returns whether the entry at an index is a tag that is not refused.
 fn is_unrefused<'a, R: RangeList<'a>, T: TagList>(ranges: R, tags: &T, index: usize) -> bool
     requires { index < length (T.texts tags.now) }
-    ensures { IsTrue result ↔ IsUnrefusedAt (R.elements ranges) (T.texts tags.now) index }
+    ensures { result ≡ is_unrefused_at (R.elements ranges) (T.texts tags.now) index }
 {
     match tags.tag_at(index) {
         Some(tag) => !is_refused(ranges, tag.as_bytes()),
@@ -73,8 +70,8 @@ fn improve_at<'a, 't, R: RangeList<'a>, T: TagList>(
     unrefused: &[bool],
 )
     requires few { length (T.texts tags.now) < 2 ^ 64 }
-    requires unrefused { AreOpenAt (R.elements ranges) (T.texts tags.now) start unrefused.now }
-    ensures { ImprovesAt (R.elements ranges) (T.texts tags.now) start unrefused.now (length (R.elements ranges)) found.old found.new }
+    requires within { (k : ℕ) → slice_index_or unrefused.now k false ≡ true → start + k < length (T.texts tags.now) }
+    ensures { Tries (R.elements ranges) (T.texts tags.now) (λ place index. is_flagged start unrefused.now index) found.old found.new }
 {
     let mut place = 0;
     let mut left = ranges;
@@ -97,7 +94,7 @@ fn improve_for_range<'a, 't, T: TagList>(
     requires in_class { IsTrue (is_language_range (hyphened wanted.bytes.now)) }
     requires few { length (T.texts tags.now) < 2 ^ 64 }
     requires within { (k : ℕ) → slice_index_or unrefused.now k false ≡ true → start + k < length (T.texts tags.now) }
-    ensures { ImprovesFor (listed_element wanted.entry) place (T.texts tags.now) start unrefused.now (length unrefused.now) found.old found.new }
+    ensures { TriesRange (listed_element wanted.entry) place (T.texts tags.now) (is_flagged start unrefused.now) found.old found.new }
 {
     if limit(found, wanted.weight, place) == 0 {
         return;

@@ -1,9 +1,9 @@
 //! Improving the candidate by one more tag.
-ghost use Rattle.std.specs.Prelude.{◌≡◌, ◌-◌, ◌<◌, ◌≤◌, ℕ, List, IsTrue, MatchOption, Some, false, length};
+ghost use Rattle.std.specs.Prelude.{◌≡◌, ◌-◌, ◌<◌, ◌≤◌, ◌==◌, ℕ, List, IsTrue, MatchOption, Some, false, length};
 ghost use Rattle.std.specs.Option.{ForSome};
 ghost use Rattle.langtag_range.specs.Element.{Element};
 ghost use Rattle.langtag_choice.specs.Best as spec;
-ghost use Rattle.langtag_choice.specs.Found.{IsOf, IsNotAfter, Keeps, Takes, TakesAt, rank_of, service_number, wish_element};
+ghost use Rattle.langtag_choice.specs.Found.{IsOf, IsNotAfter, Keeps, Takes, TriesRange, rank_of, service_number, wish_element};
 ghost use Rattle.langtag_choice.specs.KnownTexts.{is_known, known_text};
 
 use crate::candidate::{Candidate, Rank, Service};
@@ -56,7 +56,7 @@ pub(crate) fn improve_entry<'a, 't, T: TagList>(
     index: usize,
 )
     requires { index < length (T.texts tags.now) }
-    ensures { TakesAt wish.now (T.texts tags.now) index found.old found.new }
+    ensures { TriesRange (wish_element wish.now) wish.now.place (T.texts tags.now) (λ there. there == index) found.old found.new }
 {
     if !known_at(tags, index).is_far_from(wish) {
         improve_near(found, wish, known_at(tags, index), index);
@@ -103,7 +103,7 @@ fn as_candidate<'a, 't>(
     tag: KnownTag<'t>,
     index: usize,
 ) -> Option<Candidate<'a, 't>>
-    ensures index { ForSome result (λ c. c.index ≡ index) }
+    ensures pair { ForSome result (λ c. (c.rank.place ≡ wish.now.place) × (c.index ≡ index)) }
     ensures candidate { IsTrue (is_known tag.entry) → MatchOption result (IsTrue (spec.serves (wish_element wish.now) (known_text tag.entry)) → limit ≤ spec.reach (wish_element wish.now).range (known_text tag.entry))
         (IsOf wish.now (known_text tag.entry) index) }
 {

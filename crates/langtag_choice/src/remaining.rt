@@ -13,7 +13,7 @@ pub(crate) struct Remaining<'l, T> {
 }
 
 /// An entry that was chosen is not a tag. Its bytes are empty, and serve no range.
-#[tactic(auto, using(crate::proofs::SuitableTags::at_chosen, crate::proofs::SuitableTags::at_other, crate::proofs::SuitableTags::without_count))]
+#[tactic(auto, using(crate::proofs::SuitableTags::entry_left, crate::proofs::SuitableTags::without_count))]
 impl<T: TagList> TagList for Remaining<'_, T> {
     ghost texts = { λ left. without_all (T.texts left.tags.now) left.chosen.now };
 

@@ -10,7 +10,7 @@ use Rattle.langtag_scan.specs.CaseLaws.{are_alike-decides}
 use Rattle.langtag_keyword.specs.Form.{in_alphabet, is_before, put_among}
 use Rattle.langtag_keyword.proofs.AlphabetLaws.{Rise, Under, before-back, before-itself, before-tie, before-trans}
 use Rattle.langtag_keyword.proofs.AlphabetTwice.{AreLower}
-use Rattle.langtag_keyword.proofs.Each.{each-back, each-put}
+use Rattle.langtag_keyword.proofs.Each.{any-put, each-back, each-put}
 
 -- whether a text is among others, ignoring case
 abbrev pub among : List ℕ → List (List ℕ) → Bool
@@ -34,8 +34,7 @@ each-among before (k ∷ ss) = (
 -- ---- in the order of the alphabet
 
 pub among-put : (k x : List ℕ) (ss : List (List ℕ)) → among k (put_among x ss) ≡ (are_alike x k || among k ss)
-among-put k x [] = refl
-among-put k x (s ∷ ss) = grind (arith, nat_tests, among-put k x ss, before-tie x s)
+among-put k = any-put (λ s. are_alike s k)
 
 pub among-alphabet : (k : List ℕ) (ss : List (List ℕ)) → among k (in_alphabet ss) ≡ among k ss
 among-alphabet k [] = refl
@@ -77,22 +76,16 @@ pub same-risen :
 same-risen [] [] lx ly rx ry same = refl
 same-risen [] (y ∷ ys) lx ly rx ry same = absurd (false≢true (same y ly.0 ∙ among-first y ys))
 same-risen (x ∷ xs) [] lx ly rx ry same = absurd (false≢true (sym (same x lx.0) ∙ among-first x xs))
-same-risen (x ∷ xs) (y ∷ ys) lx ly rx ry same = by_tests (is_before x y) (is_before y x) refl refl (same-risen xs ys lx.1 ly.1 rx.1 ry.1)
-  where
-    others : (k : List ℕ) → x ≡ y → fold_text k ≡ k → (b : Bool) → are_alike x k ≡ b → among k xs ≡ among k ys
-    others k one low true alike =
-        let same_x : fold_text x ≡ fold_text k = (are_alike-decides x k).0 alike in
-        not-among k x xs same_x lx.0 lx.1 (under-each x xs rx.0 rx.1) ∙ sym (not-among k y ys (ap fold_text (sym one) ∙ same_x) ly.0 ly.1 (under-each y ys ry.0 ry.1))
-    others k one low false apart =
-        ap (λ b. b || among k xs) (sym apart) ∙ same k low ∙ ap (λ t. are_alike t k || among k ys) (sym one) ∙ ap (λ b. b || among k ys) apart
-
-    by_tests : (a b : Bool) → is_before x y ≡ a → is_before y x ≡ b → (((k : List ℕ) → fold_text k ≡ k → among k xs ≡ among k ys) → xs ≡ ys) → x ∷ xs ≡ y ∷ ys
-    by_tests true b below other later =
-        absurd (false≢true (sym (not-among x x (y ∷ ys) refl lx.0 ly (under-each x (y ∷ ys) below ry)) ∙ sym (same x lx.0) ∙ among-first x xs))
-    by_tests false true other below later =
-        absurd (false≢true (sym (not-among y y (x ∷ xs) refl ly.0 lx (under-each y (x ∷ xs) below rx)) ∙ same y ly.0 ∙ among-first y ys))
-    by_tests false false one two later =
-        let tie : x ≡ y = before-tie x y one two in ap (λ t. t ∷ xs) tie ∙ ap (λ t. y ∷ t) (later (λ k low. others k tie low (are_alike x k) refl))
+same-risen (x ∷ xs) (y ∷ ys) lx ly rx ry same =
+    let apart_x : (k : List ℕ) → are_alike x k ≡ true → among k xs ≡ false =
+    λ k alike. not-among k x xs ((are_alike-decides x k).0 alike) lx.0 lx.1 (under-each x xs rx.0 rx.1) in
+    let apart_y : (k : List ℕ) → are_alike y k ≡ true → among k ys ≡ false =
+    λ k alike. not-among k y ys ((are_alike-decides y k).0 alike) ly.0 ly.1 (under-each y ys ry.0 ry.1) in
+    let before_x : is_before y x ≡ true → among y (x ∷ xs) ≡ false = λ below. not-among y y (x ∷ xs) refl ly.0 lx (under-each y (x ∷ xs) below rx) in
+    let before_y : is_before x y ≡ true → among x (y ∷ ys) ≡ false = λ below. not-among x x (y ∷ ys) refl lx.0 ly (under-each x (y ∷ ys) below ry) in
+    let tie : x ≡ y = grind (arith, nat_tests, before-tie x y, before_x, before_y, same x lx.0, same y ly.0, among-first) in
+    let rest : xs ≡ ys = same-risen xs ys lx.1 ly.1 rx.1 ry.1 (λ k low. grind (arith, nat_tests, tie, same k low, apart_x k, apart_y k)) in
+    cc
 
 -- ---- a text among others that rise: those before it, and those after it
 

@@ -1,6 +1,6 @@
 -- The keys that a walk has met, and the keywords that are left to it.
 use Rattle.std.proofs.lemmas.Grind.{common_steps}
-use Rattle.std.proofs.Common.{◌≡◌, ◌≢◌, ℕ, ◌*◌, ◌%◌, ◌^◌, ◌<◌, Bool, true, false, eqb, ◌==◌, ◌&&◌, ◌||◌, not, List, [], ◌∷◌, ◌++◌, bit_or, length, replicate, set, slice_index_or, append-nil, append_assoc, drop, IsTrue, eqb-true, refl, ap, sym, subst, ◌∙◌, arith, w64}
+use Rattle.std.proofs.Common.{◌≡◌, ◌≢◌, ℕ, ◌*◌, ◌%◌, ◌^◌, ◌<◌, Bool, true, false, eqb, ◌==◌, ◌&&◌, ◌||◌, not, List, [], ◌∷◌, ◌++◌, bit_or, length, replicate, set, slice_index_or, drop, IsTrue, eqb-true, refl, ap, sym, subst, ◌∙◌, arith, w64}
 use Rattle.std.specs.Int.{bit_at}
 use Rattle.std.specs.List.{AllByRecursion, filter, list_any}
 use Rattle.std.proofs.lemmas.Bool.{and_parts}
@@ -16,10 +16,10 @@ use Rattle.langtag_extension.specs.Spelling.{IsExtension}
 use Rattle.langtag_scan.proofs.SubtagFacts.{IsSubtag, of_extension_subtag}
 use Rattle.langtag_keyword.specs.Keys.{opens_keyword}
 use Rattle.langtag_keyword.specs.Keywords.{is_new_key, keywords_after, keywords_of}
-use Rattle.langtag_keyword.specs.KeyNumbers.{AreKeys, with_keys}
 use Rattle.langtag_keyword.specs.KeySets.{HasKeys, has_key, keywords_beyond, place_of, with_key}
 use Rattle.langtag_keyword.specs.declared.keys.Keys.{Keys}
 use Rattle.langtag_keyword.specs.declared.keys.Keys.TheVariants.{Unicode, Transform}
+use Rattle.langtag_keyword.proofs.LeastTexts.{AreKeys}
 use Rattle.langtag_keyword.proofs.SubtagTexts.{subtags-after_singleton}
 
 -- ---- places
@@ -158,20 +158,8 @@ after-singleton-fits text (e, spells) = subst (λ ss. IsTrue (are_extension_subt
 
 -- ---- the keys of an extension
 
-module _ (keys : Keys) where
-  pub are-keys : (ss : List (List ℕ)) → AllByRecursion IsSubtag ss → AreKeys (filter (opens_keyword keys) ss)
-  are-keys [] fits = tt
-  are-keys (s ∷ ss) fits = grind (arith, nat_tests, are-keys ss fits.1, key-two keys s)
-
-  keys-from : (rows : List ℕ) (before ks : List (List ℕ)) → AreKeys ks → HasKeys rows before → HasKeys (with_keys rows ks) (before ++ ks)
-  keys-from rows before [] are has = subst (HasKeys rows) (sym (append-nil before)) has
-  keys-from rows before (k ∷ ks) are has =
-      subst (HasKeys (with_keys (with_key rows k) ks)) (append_assoc before (k ∷ []) ks) (keys-from (with_key rows k) (before ++ k ∷ []) ks are.1 (met-more rows before k are.0.0 has))
-
-  pub keys-among :
-      (rows : List ℕ) (ss : List (List ℕ)) → rows ≡ with_keys (replicate 36 0) (filter (opens_keyword keys) ss) → AllByRecursion IsSubtag ss →
-      HasKeys rows (filter (opens_keyword keys) ss)
-  keys-among rows ss is fits =
-      subst (λ rs. HasKeys rs (filter (opens_keyword keys) ss)) (sym is) (keys-from (replicate 36 0) [] (filter (opens_keyword keys) ss) (are-keys ss fits) (met-none (replicate 36 0) refl))
+pub are-keys : (keys : Keys) (ss : List (List ℕ)) → AllByRecursion IsSubtag ss → AreKeys (filter (opens_keyword keys) ss)
+are-keys keys [] fits = tt
+are-keys keys (s ∷ ss) fits = grind (arith, nat_tests, are-keys keys ss fits.1, key-two keys s)
 
 pub ruleset keywords_left = (unmet-all)

@@ -1,11 +1,12 @@
 -- Numbers that rise, and the least of numbers in any order.
-use Rattle.std.proofs.Common.{◌≡◌, ℕ, zero, suc, ◌<◌, ◌≤◌, Bool, true, false, ◌==◌, ◌&&◌, ◌||◌, List, [], ◌∷◌, ◌++◌, length, get_or, take, refl, ap, subst, ◌∙◌, arith}
+use Rattle.std.proofs.Common.{◌≡◌, ℕ, zero, suc, ◌+◌, ◌<◌, ◌≤◌, Bool, true, false, ◌==◌, ◌&&◌, ◌||◌, List, [], ◌∷◌, ◌++◌, length, get_or, set, take, drop, refl, ap, sym, subst, ◌∙◌, arith, append_assoc}
 use Rattle.std.proofs.Math.Dec.{leb, ltb}
 use Rattle.std.specs.List.{filter}
 use Rattle.std.specs.List.Sorted.{IsNonDecreasing}
 use Rattle.std.proofs.lemmas.Bool.Decides.{nat_tests}
+use Rattle.std.proofs.lemmas.List.{at_drop_more, drop-drop, drop-set-lt, get_or-take, length-set, length-take, take-take, take_all, take_more_set}
 use Rattle.std.proofs.lemmas.List.Folds.{list_any_at, list_any-append}
-use Rattle.langtag_keyword.specs.Least.{HoldsLeast, IsOffered, Least, AscendsFrom, has, is_within, ascending_after}
+use Rattle.langtag_keyword.specs.Least.{HoldsLeast, IsOffered, IsSettled, Least, AscendsFrom, has, is_within, ascending_after}
 
 -- ---- numbers that rise
 
@@ -36,10 +37,6 @@ has-filter p n (m ∷ ms) = grind (arith, nat_tests, has-filter p n ms)
 rise-filter : (p : ℕ → Bool) (l : ℕ) (ns : List ℕ) → AscendsFrom l ns → AscendsFrom l (filter p ns)
 rise-filter p l [] rise = tt
 rise-filter p l (n ∷ ns) rise = grind (arith, nat_tests, rise-filter p n ns rise.1, rise-weaker l n (filter p ns))
-
-rise-within : (last limit l : ℕ) (ns : List ℕ) → AscendsFrom l ns → AscendsFrom last (filter (is_within last limit) ns)
-rise-within last limit l [] rise = tt
-rise-within last limit l (n ∷ ns) rise = grind (arith, nat_tests, rise-filter (is_within last limit) n ns rise.1, rise-within last limit n ns rise.1)
 
 -- ---- numbers above another one
 
@@ -90,19 +87,6 @@ low-sorted : (l n : ℕ) (ns : List ℕ) → NeverFalls l ns → n < l → has n
 low-sorted l n [] up below = refl
 low-sorted l n (m ∷ ms) up below = grind (arith, nat_tests, low-sorted m n ms up.1)
 
-least-first : (l k : ℕ) (ns : List ℕ) → NeverFalls l ns → k < length ns → l ≤ get_or ns k 0
-least-first l k [] up inside = absurd (omega arith)
-least-first l zero (n ∷ ns) up inside = up.0
-least-first l (suc k) (n ∷ ns) up inside = omega (arith, up.0, least-first n k ns up.1 (omega (arith, inside)))
-
--- those up to an index are those up to the number at that index
-pub has-take : (n k l : ℕ) (ns : List ℕ) → NeverFalls l ns → k < length ns → has n (take (suc k) ns) ≡ (leb n (get_or ns k 0) && has n ns)
-has-take n k l [] up inside = absurd (omega arith)
-has-take n zero l (m ∷ ms) up inside = grind (arith, nat_tests, low-sorted m n ms up.1)
-has-take n (suc k) l (m ∷ ms) up inside =
-    let within : k < length ms = omega (arith, inside) in
-    grind (arith, nat_tests, has-take n k m ms up.1 within, least-first m k ms up.1 within)
-
 -- ---- each once
 
 pub rise-ascending : (last : ℕ) (ns : List ℕ) → AscendsFrom last (ascending_after last ns)
@@ -113,37 +97,106 @@ has-ascending : (last n l : ℕ) (ns : List ℕ) → NeverFalls l ns → has n (
 has-ascending last n l [] up = grind arith
 has-ascending last n l (m ∷ ms) up = grind (arith, nat_tests, has-ascending m n m ms up.1, has-ascending last n m ms up.1, low-sorted m n ms up.1)
 
+-- numbers in any order, when they are sorted
+pub settled_by : (old ns new : List ℕ) → IsNonDecreasing ns → ((n : ℕ) → has n ns ≡ has n old) → new ≡ ascending_after 0 ns → IsSettled old new
+settled_by old ns new up same is = rw is (record { rise = rise-ascending 0 ns; same = λ n. has-ascending 0 n 0 ns (sorted ns up) ∙ ap (λ b. ltb 0 n && b) (same n) })
+
 -- the numbers that are kept, in order, are those of all numbers that are within the limits
 pub kept-within :
-    (least : Least) (all ns : List ℕ) → AscendsFrom 0 all → HoldsLeast least all → NeverFalls 0 ns → ((n : ℕ) → has n ns ≡ has n least.kept) →
-    ascending_after least.last ns ≡ filter (is_within least.last least.limit) all
-kept-within least all ns rise holds up same =
-    same-rise least.last _ _ (rise-ascending least.last ns) (rise-within least.last least.limit 0 all rise)
-    (λ n. has-ascending least.last n 0 ns up ∙ ap (λ b. ltb least.last n && b) (same n ∙ holds.same n) ∙ grind (arith, nat_tests, has-filter (is_within least.last least.limit) n all))
+    (least : Least) (all ns : List ℕ) → AscendsFrom 0 all → HoldsLeast least all → IsSettled least.kept ns → ns ≡ filter (is_within least.last least.limit) all
+kept-within least all ns rise holds settled =
+    same-rise 0 _ _ settled.rise (rise-filter (is_within least.last least.limit) 0 all rise)
+    (λ n. grind (arith, nat_tests, settled.same n, holds.same n, has-filter (is_within least.last least.limit) n all))
 
--- one number more was offered, and only the lower half of the numbers is kept
-pub thinned :
-    (last limit number : ℕ) (kept ns : List ℕ) → last < number → number ≤ limit → NeverFalls 0 ns → 511 < length ns →
-    ((n : ℕ) → has n ns ≡ has n (kept ++ number ∷ [])) →
-    IsOffered (number ∷ []) (record { last = last; limit = limit; kept = kept }) (record { last = last; limit = get_or ns 511 0; kept = take 512 ns })
-thinned last limit number kept ns over fits up long same =
-    let most = get_or ns 511 0 in
-    let there : has most ns ≡ true = list_any_at (λ m. m == most) ns 511 0 long (grind (arith, nat_tests)) in
-    let or-nothing : (n : ℕ) → has n (kept ++ number ∷ []) ≡ (has n kept || (number == n)) = λ n. grind (arith, nat_tests, list_any-append (λ m. m == n) kept (number ∷ [])) in
-    record {
-      last = refl;
-      holds = λ offered holds.
-          let bounds : (last < most) × (most ≤ limit) = bounded most there (or-nothing most) (has most offered) (holds.same most) in
-          record {
-            order = bounds.0;
-            same = λ n.
-                let of_offered : has n (offered ++ number ∷ []) ≡ (has n offered || (number == n)) = grind (arith, nat_tests, list_any-append (λ m. m == n) offered (number ∷ [])) in
-                let half = has-take n 511 0 ns up long in
-                grind (arith, nat_tests, half, same n, or-nothing n, holds.same n, of_offered, bounds.0, bounds.1);
-          };
-    }
-  where
-    bounded :
-        (most : ℕ) → has most ns ≡ true → has most (kept ++ number ∷ []) ≡ (has most kept || (number == most)) → (o : Bool) →
-        has most kept ≡ (is_within last limit most && o) → (last < most) × (most ≤ limit)
-    bounded most there or-nothing o kept-same = grind (arith, nat_tests, same most)
+-- ---- each number that is greater than those before it is moved to the start
+
+-- `count` numbers stand at the start, and those from `index` on as they stood
+pub record Moved (all ns : List ℕ) (index count last : ℕ) : Type 0 where
+  pub few : count ≤ index
+  pub left : drop index ns ≡ drop index all
+  pub so_far : take count ns ++ ascending_after last (drop index all) ≡ ascending_after 0 all
+
+module _ (all ns : List ℕ) (index count last : ℕ) (inside : index < length ns) (moved : Moved all ns index count last) where
+  next : drop (index + 1) ns ≡ drop (index + 1) all
+  next = sym (drop-drop 1 index ns) ∙ ap (drop 1) moved.left ∙ drop-drop 1 index all
+
+  here : drop index all ≡ get_or ns index 0 ∷ drop (index + 1) all
+  here = sym moved.left ∙ at_drop_more (λ ms. ms) ns index 0 inside ∙ ap (λ ms. get_or ns index 0 ∷ ms) next
+
+  pub moved-more : last < get_or ns index 0 → Moved all (set ns count (get_or ns index 0)) (index + 1) (count + 1) (get_or ns index 0)
+  moved-more over =
+      let n = get_or ns index 0 in
+      let rest = ascending_after n (drop (index + 1) all) in
+      let first : ascending_after last (drop index all) ≡ n ∷ rest = grind (arith, nat_tests, here) in
+      record {
+        few = omega (arith, moved.few);
+        left = drop-set-lt (index + 1) ns count n (omega (arith, moved.few)) ∙ next;
+        so_far =
+            ap (λ ms. ms ++ rest) (take_more_set ns count n (omega (arith, moved.few, inside)))
+            ∙ append_assoc (take count ns) (n ∷ []) rest ∙ ap (λ ms. take count ns ++ ms) (sym first) ∙ moved.so_far;
+      }
+
+  pub moved-passed : get_or ns index 0 ≤ last → Moved all ns (index + 1) count last
+  moved-passed under =
+      let rest : ascending_after last (drop index all) ≡ ascending_after last (drop (index + 1) all) = grind (arith, nat_tests, here) in
+      record { few = omega (arith, moved.few); left = next; so_far = ap (λ ms. take count ns ++ ms) (sym rest) ∙ moved.so_far }
+
+-- ---- one number more
+
+least-first : (l k : ℕ) (ns : List ℕ) → AscendsFrom l ns → k < length ns → l < get_or ns k 0
+least-first l k [] rise inside = absurd (omega arith)
+least-first l zero (n ∷ ns) rise inside = rise.0
+least-first l (suc k) (n ∷ ns) rise inside = omega (arith, rise.0, least-first n k ns rise.1 (omega (arith, inside)))
+
+-- those up to an index are those up to the number at that index
+has-take : (n k l : ℕ) (ns : List ℕ) → AscendsFrom l ns → k < length ns → has n (take (suc k) ns) ≡ (leb n (get_or ns k 0) && has n ns)
+has-take n k l [] rise inside = absurd (omega arith)
+has-take n zero l (m ∷ ms) rise inside = grind (arith, nat_tests, low-rise m n ms rise.1)
+has-take n (suc k) l (m ∷ ms) rise inside =
+    let within : k < length ms = omega (arith, inside) in
+    grind (arith, nat_tests, has-take n k m ms rise.1 within, least-first m k ms rise.1 within)
+
+-- one number more was offered, and there was no room left
+module _
+    (last limit number : ℕ) (kept numbers : List ℕ) (count : ℕ) (over : last < number) (fits : number ≤ limit) (settled : IsSettled (kept ++ number ∷ []) (take count numbers)) where
+  one_more : (n : ℕ) (ms : List ℕ) → has n (ms ++ number ∷ []) ≡ (has n ms || (number == n))
+  one_more n ms = grind (arith, nat_tests, list_any-append (λ m. m == n) ms (number ∷ []))
+
+  -- all numbers are kept
+  pub offered_all : IsOffered (number ∷ []) (record { last = last; limit = limit; kept = kept }) (record { last = last; limit = limit; kept = take count numbers })
+  offered_all = record {
+    last = refl;
+    holds = λ offered holds. record { order = holds.order; same = λ n. grind (arith, nat_tests, settled.same n, one_more n kept, one_more n offered, holds.same n) };
+  }
+
+  -- only the lower half is
+  pub offered_half :
+      (half k : ℕ) → half ≡ suc k → half ≤ count → count ≤ length numbers →
+      IsOffered (number ∷ []) (record { last = last; limit = limit; kept = kept }) (record { last = last; limit = get_or numbers k 0; kept = take half numbers })
+  offered_half half k is few within =
+      let ns = take count numbers in
+      let most = get_or numbers k 0 in
+      let long : k < length ns = omega (arith, length-take count numbers, is, few, within) in
+      let inside : get_or ns k 0 ≡ most = get_or-take count numbers k 0 (omega (arith, is, few)) in
+      let there : has most ns ≡ true = list_any_at (λ m. m == most) ns k 0 long (grind (arith, nat_tests, inside)) in
+      record {
+        last = refl;
+        holds = λ offered holds.
+            let bounds : (last < most) × (most ≤ limit) = grind (arith, nat_tests, settled.same most, one_more most kept, holds.same most) in
+            record {
+              order = bounds.0;
+              same = λ n.
+                  let part : has n (take half numbers) ≡ (leb n most && has n ns) =
+                  ap (has n) (sym (take-take half count numbers few)) ∙ ap (λ h. has n (take h ns)) is ∙ has-take n k 0 ns settled.rise long ∙ ap (λ m. leb n m && has n ns) inside in
+                  grind (arith, nat_tests, part, settled.same n, one_more n kept, one_more n offered, holds.same n, bounds.0, bounds.1);
+            };
+      }
+
+-- the last of the numbers fills the room
+pub filled :
+    (numbers : List ℕ) (count number : ℕ) (ns : List ℕ) → length numbers ≡ count + 1 → IsSettled (set numbers count number) ns → IsSettled (take count numbers ++ number ∷ []) ns
+filled numbers count number ns room settled =
+    let all = set numbers count number in
+    let whole : all ≡ take count numbers ++ number ∷ [] =
+    sym (take_all (count + 1) all (omega (arith, length-set numbers count number, room))) ∙ take_more_set numbers count number (omega (arith, room)) in
+    subst (λ old. IsSettled old ns) whole settled

@@ -1,27 +1,27 @@
 -- The numbers of subtags are in the order of the alphabet, and tell the subtags.
-use Rattle.std.proofs.Common.{◌≡◌, ℕ, zero, suc, ◌+◌, ◌*◌, ◌<◌, ◌≤◌, ◌-◌, ◌/◌, ◌%◌, Bool, true, false, not, cond, nat_lt, Less, Equal, Greater, ◌==◌, ◌&&◌, ◌||◌, List, [], ◌∷◌, ◌++◌, length, get_or, take, drop, map, append_assoc, append-nil, refl, sym, ap, subst, ◌∙◌, arith}
+use Rattle.std.proofs.Common.{◌≡◌, ℕ, zero, suc, ◌+◌, ◌*◌, ◌<◌, ◌≤◌, ◌-◌, ◌/◌, ◌%◌, Bool, true, false, not, cond, ◌==◌, ◌&&◌, ◌||◌, List, [], ◌∷◌, ◌++◌, length, get_or, take, drop, map, append_assoc, append-nil, refl, sym, ap, subst, ◌∙◌, arith}
 use Prim.Native.Nat.{◌^◌}
 use Rattle.std.proofs.Math.Nat.{mod-eq_of_lt, pow-suc}
 use Rattle.std.specs.Int.{byte_at, bytes_high_first}
-use Rattle.std.specs.Cmp.Lexicographic.{slice_cmp}
-use Rattle.std.specs.List.{AllByRecursion, filter}
-use Rattle.std.specs.Ordering.{is_lt, nat_cmp, ordering_then}
-use Rattle.std.proofs.lemmas.Bool.{and_parts, false≢true}
+use Rattle.std.proofs.lemmas.Grind.{flat_map-append}
+use Rattle.std.specs.List.{AllByRecursion, filter, flat_map, list_any}
+use Rattle.std.proofs.lemmas.Bool.{and_parts, false≢true, ltb-false, ltb-true}
 use Rattle.std.proofs.lemmas.Bool.Decides.{nat_tests}
 use Rattle.std.proofs.Math.Dec.{ltb}
-use Rattle.std.proofs.lemmas.List.{at_drop_more, map-append, take_more}
+use Rattle.std.proofs.lemmas.List.{at_drop_more, take_more}
 use Rattle.std.proofs.lemmas.List.Elements.{filter-append}
 use Rattle.std.proofs.lemmas.Nat.{div-mul-add, mul-add-lt}
-use Rattle.langtag_output.proofs.Pushed.{pushes_both, pushes_next, pushes_same}
+use Rattle.langtag_output.proofs.Pushed.{pushes_both, pushes_ended, pushes_same}
 use Rattle.langtag_output.specs.declared.output.Output.{Output}
 use Rattle.langtag_output.specs.Output.{Pushes, with_subtag}
+use Rattle.langtag_scan.proofs.CaseLaw.{length-fold}
 use Rattle.langtag_scan.proofs.SubtagFacts.{IsSubtag}
 use Rattle.langtag_scan.specs.Case.{fold_byte, fold_text, folded_number}
 use Rattle.langtag_scan.specs.Class.{are_alphanumeric, is_alphanumeric, is_digit, is_letter}
-use Rattle.langtag_keyword.specs.Form.{in_alphabet, is_before, put_among}
-use Rattle.langtag_keyword.specs.Least.{HoldsLeast, IsOffered, Least, AscendsFrom, has, is_within, left_number, number_text, order_number, ascending_after}
-use Rattle.langtag_keyword.proofs.AlphabetLaws.{Rise, Under, before-tie, rise-in_alphabet}
-use Rattle.langtag_keyword.proofs.Each.{each-put}
+use Rattle.langtag_keyword.specs.Form.{in_alphabet, is_before}
+use Rattle.langtag_keyword.specs.Least.{HoldsLeast, IsOffered, Least, AscendsFrom, has, is_within, key_of, left_number, number_text, order_number}
+use Rattle.langtag_keyword.proofs.AlphabetLaws.{Rise, Under, rise-in_alphabet}
+use Rattle.langtag_keyword.proofs.Each.{any-put, each-put}
 use Rattle.langtag_keyword.proofs.LeastLaws.{AllUpTo, above, above-all, above-none, above-split}
 
 -- ---- bytes
@@ -47,12 +47,8 @@ folded_bytes : (s : List ℕ) → are_alphanumeric s ≡ true → AreBytes (fold
 folded_bytes [] h = tt
 folded_bytes (b ∷ s) h = let k = and_parts (is_alphanumeric b) (are_alphanumeric s) h in (folded_byte b k.0, folded_bytes s k.1)
 
-same_length : (s : List ℕ) → length (fold_text s) ≡ length s
-same_length [] = refl
-same_length (b ∷ s) = ap suc (same_length s)
-
 pub has_number : (s : List ℕ) → IsSubtag s → HasNumber (fold_text s)
-has_number s is = record { some = omega (arith, same_length s, is.some); short = omega (arith, same_length s, is.short); bytes = folded_bytes s is.alphanumeric }
+has_number s is = record { some = omega (arith, length-fold s, is.some); short = omega (arith, length-fold s, is.short); bytes = folded_bytes s is.alphanumeric }
 
 -- ---- their number
 
@@ -89,16 +85,7 @@ left-before (suc k) [] (y ∷ b) la lb ab bb before = left-some k y b bb.0.some
 left-before k (x ∷ a) [] la lb ab bb before = absurd (false≢true before)
 left-before zero (x ∷ a) (y ∷ b) la lb ab bb before = absurd (omega (arith, lb))
 left-before (suc k) (x ∷ a) (y ∷ b) la lb ab bb before =
-    by_tests (nat_lt x y) (x == y) refl refl (left-before k a b (omega (arith, la)) (omega (arith, lb)) ab.1 bb.1) before
-  where
-    by_tests :
-        (l e : Bool) → nat_lt x y ≡ l → (x == y) ≡ e → (is_before a b ≡ true → left_number k a < left_number k b) →
-        is_lt (ordering_then (cond l Less (cond e Equal Greater)) (slice_cmp nat_cmp a b)) ≡ true → x * 256 ^ k + left_number k a < y * 256 ^ k + left_number k b
-    by_tests true e is same later before = left-less k x y (left_number k a) (left_number k b) (grind (arith, nat_tests)) (left-below k a ab.1)
-    by_tests false true is same later before =
-        let one : x ≡ y = grind (arith, nat_tests) in
-        subst (λ z. z * 256 ^ k + left_number k a < y * 256 ^ k + left_number k b) (sym one) (omega (arith, later before))
-    by_tests false false is same later before = absurd (false≢true before)
+    grind (arith, nat_tests, left-before k a b (omega (arith, la)) (omega (arith, lb)) ab.1 bb.1, left-less k x y (left_number k a) (left_number k b), left-below k a ab.1)
 
 -- ---- the text of a number
 
@@ -200,100 +187,128 @@ rise-numbers (s ∷ ss) all rise = (number-some s all.0, rises-after s ss all.0 
 pub rise-in_order : (ss : List (List ℕ)) → AllByRecursion IsSubtag ss → AscendsFrom 0 (numbers (in_alphabet ss))
 rise-in_order ss all = rise-numbers (in_alphabet ss) (each-number ss all) (rise-in_alphabet ss)
 
-has-put : (n : ℕ) (x : List ℕ) (ss : List (List ℕ)) → has n (numbers (put_among x ss)) ≡ ((left_number 8 x == n) || has n (numbers ss))
-has-put n x [] = refl
-has-put n x (s ∷ ss) = by_tests (is_before x s) (is_before s x) refl refl (has-put n x ss)
-  where
-    turned : (a b c : Bool) → (a || (b || c)) ≡ (b || (a || c))
-    turned true true c = refl
-    turned true false c = refl
-    turned false b c = refl
-
-    twice : (a b : Bool) → (a || b) ≡ (a || (a || b))
-    twice true b = refl
-    twice false b = refl
-
-    by_tests :
-        (a b : Bool) → is_before x s ≡ a → is_before s x ≡ b → has n (numbers (put_among x ss)) ≡ ((left_number 8 x == n) || has n (numbers ss)) →
-        has n (numbers (cond a (x ∷ s ∷ ss) (cond b (s ∷ put_among x ss) (s ∷ ss)))) ≡ ((left_number 8 x == n) || ((left_number 8 s == n) || has n (numbers ss)))
-    by_tests true b is other later = refl
-    by_tests false true is other later =
-        ap (λ t. (left_number 8 s == n) || t) later ∙ turned (left_number 8 s == n) (left_number 8 x == n) (has n (numbers ss))
-    by_tests false false is other later =
-        twice (left_number 8 s == n) (has n (numbers ss)) ∙ ap (λ t. (left_number 8 t == n) || ((left_number 8 s == n) || has n (numbers ss))) (sym (before-tie x s is other))
+has-numbers : (n : ℕ) (ss : List (List ℕ)) → has n (numbers ss) ≡ list_any (λ s. left_number 8 s == n) ss
+has-numbers n [] = refl
+has-numbers n (s ∷ ss) = ap (λ b. (left_number 8 s == n) || b) (has-numbers n ss)
 
 -- their order changes nothing of which numbers they have
 has-in_order : (n : ℕ) (ss : List (List ℕ)) → has n (map order_number ss) ≡ has n (numbers (in_alphabet ss))
 has-in_order n [] = refl
-has-in_order n (s ∷ ss) = ap (λ b. (order_number s == n) || b) (has-in_order n ss) ∙ sym (has-put n (fold_text s) (in_alphabet ss))
-
-texts-of : (ss : List (List ℕ)) → AllByRecursion HasNumber ss → map number_text (numbers ss) ≡ ss
-texts-of [] all = refl
-texts-of (s ∷ ss) all = ap (λ t. t ∷ map number_text (numbers ss)) (text_of_number s all.0) ∙ ap (λ ts. s ∷ ts) (texts-of ss all.1)
+has-in_order n (s ∷ ss) =
+    ap (λ b. (order_number s == n) || b) (has-in_order n ss ∙ has-numbers n (in_alphabet ss))
+    ∙ sym (has-numbers n (in_alphabet (s ∷ ss)) ∙ any-put (λ t. left_number 8 t == n) (fold_text s) (in_alphabet ss))
 
 up_to : (most : ℕ) (ss : List (List ℕ)) → 18446744073709551615 ≤ most → AllByRecursion HasNumber ss → AllUpTo most (numbers ss)
 up_to most [] long all = tt
 up_to most (s ∷ ss) long all = (omega (arith, left-below 8 s all.0.bytes, long), up_to most ss long all.1)
 
--- ---- texts that are put in order, some of them at a time
+-- ---- what is put for numbers
 
--- those that are left after the number `last`
-abbrev pub left_after : ℕ → List (List ℕ) → List (List ℕ)
-left_after last ss = map number_text (above last (numbers (in_alphabet ss)))
+-- for one more
+pub put_more :
+    (put : ℕ → List (List ℕ)) (ns : List ℕ) (k : ℕ) (out middle new : Output) → k < length ns → Pushes (put (get_or ns k 0)) out middle →
+    Pushes (flat_map put (drop (k + 1) ns)) middle new → Pushes (flat_map put (drop k ns)) out new
+put_more put ns k out middle new inside these those =
+    pushes_same _ _ out new (sym (at_drop_more (flat_map put) ns k 0 inside)) (pushes_both (put (get_or ns k 0)) (flat_map put (drop (k + 1) ns)) out middle new these those)
 
-pub left-first : (ss : List (List ℕ)) → AllByRecursion IsSubtag ss → left_after 0 ss ≡ in_alphabet ss
-left-first ss all = ap (map number_text) (above-all 0 0 (numbers (in_alphabet ss)) (omega arith) (rise-in_order ss all)) ∙ texts-of (in_alphabet ss) (each-number ss all)
+-- for the numbers of texts: the texts
+pub put-texts : (ss : List (List ℕ)) → AllByRecursion HasNumber ss → flat_map (λ n. number_text n ∷ []) (numbers ss) ≡ ss
+put-texts [] all = refl
+put-texts (s ∷ ss) all = ap (λ t. t ∷ flat_map (λ n. number_text n ∷ []) (numbers ss)) (text_of_number s all.0) ∙ ap (λ ts. s ∷ ts) (put-texts ss all.1)
 
-pub left-ended : (last : ℕ) (ss : List (List ℕ)) → 18446744073709551615 ≤ last → AllByRecursion IsSubtag ss → left_after last ss ≡ []
-left-ended last ss long all = ap (map number_text) (above-none last (numbers (in_alphabet ss)) (up_to last (in_alphabet ss) long (each-number ss all)))
+-- for the numbers of keys: what is put for the keys
+abbrev IsKey : List ℕ → Type 0
+IsKey s = HasNumber s × (length s ≡ 2)
 
--- all were offered, in whatever order
-pub offered-all : (ss : List (List ℕ)) (old new : Least) → HoldsLeast old [] → IsOffered (map order_number ss) old new → HoldsLeast new (numbers (in_alphabet ss))
-offered-all ss old new empty offered =
-    let holds = offered.holds [] empty in
-    record { order = holds.order; same = λ n. holds.same n ∙ ap (λ b. is_within new.last new.limit n && b) (has-in_order n ss) }
+-- subtags of two characters
+abbrev pub AreKeys : List (List ℕ) → Type 0
+AreKeys ss = AllByRecursion (λ s. IsSubtag s × (length s ≡ 2)) ss
 
--- those within the limits are put, and then those above
-pub pushes-within :
-    (ss : List (List ℕ)) (last limit : ℕ) (old middle new : Output) → AllByRecursion IsSubtag ss → last ≤ limit →
-    Pushes (map number_text (filter (is_within last limit) (numbers (in_alphabet ss)))) old middle → Pushes (left_after limit ss) middle new →
-    Pushes (left_after last ss) old new
-pushes-within ss last limit old middle new all order these those =
+key-back : (s : List ℕ) → IsKey s → key_of (left_number 8 s) ≡ s
+key-back [] is = absurd (omega (arith, is.1))
+key-back (a ∷ []) is = absurd (omega (arith, is.1))
+key-back (a ∷ b ∷ []) is =
+    let one : (a * 256 ^ 7 + (b * 256 ^ 6 + 0)) / 256 ^ 7 % 256 ≡ a = omega (arith, is.0.bytes.0.most, is.0.bytes.1.0.most) in
+    let two : (a * 256 ^ 7 + (b * 256 ^ 6 + 0)) / 256 ^ 6 % 256 ≡ b = omega (arith, is.0.bytes.0.most, is.0.bytes.1.0.most) in
+    ap (λ d. d ∷ (a * 256 ^ 7 + (b * 256 ^ 6 + 0)) / 256 ^ 6 % 256 ∷ []) one ∙ ap (λ d. a ∷ d ∷ []) two
+key-back (a ∷ b ∷ c ∷ s) is = absurd (omega (arith, is.1))
+
+put-keys : (f : List ℕ → List (List ℕ)) (ss : List (List ℕ)) → AllByRecursion IsKey ss → flat_map (λ n. f (key_of n)) (numbers ss) ≡ flat_map f ss
+put-keys f [] all = refl
+put-keys f (s ∷ ss) all = ap (λ t. f t ++ flat_map (λ n. f (key_of n)) (numbers ss)) (key-back s all.0) ∙ ap (λ ts. f s ++ ts) (put-keys f ss all.1)
+
+each-key : (ss : List (List ℕ)) → AreKeys ss → AllByRecursion IsKey (in_alphabet ss)
+each-key [] all = tt
+each-key (s ∷ ss) all = each-put IsKey (fold_text s) (in_alphabet ss) (has_number s all.0.0, length-fold s ∙ all.0.1) (each-key ss all.1)
+
+pub keys-fit : (ss : List (List ℕ)) → AreKeys ss → AllByRecursion IsSubtag ss
+keys-fit [] all = tt
+keys-fit (s ∷ ss) all = (all.0.0, keys-fit ss all.1)
+
+pub put-keys_in_order :
+    (f : List ℕ → List (List ℕ)) (ss : List (List ℕ)) → AreKeys ss →
+    flat_map (λ n. f (key_of n)) (numbers (in_alphabet ss)) ≡ flat_map f (in_alphabet ss)
+put-keys_in_order f ss all = put-keys f (in_alphabet ss) (each-key ss all)
+
+-- ---- what is put for the numbers of subtags in order, some of them at a time
+
+-- what is put for the numbers above `last` comes after what was put before, and then all is put
+pub record Rounds (put : ℕ → List (List ℕ)) (ss : List (List ℕ)) (least : Least) (more : Bool) (start out : Output) : Type 0 where
+  pub fits : AllByRecursion IsSubtag ss
+  pub empty : more ≡ true → HoldsLeast least []
+  pub ended : more ≡ ltb least.last 18446744073709551615
+  pub so_far : (new : Output) → Pushes (flat_map put (above least.last (numbers (in_alphabet ss)))) out new → Pushes (flat_map put (numbers (in_alphabet ss))) start new
+
+pub rounds-first :
+    (put : ℕ → List (List ℕ)) (ss : List (List ℕ)) (least : Least) (out : Output) → AllByRecursion IsSubtag ss → HoldsLeast least [] → least.last ≡ 0 → Rounds put ss least true out out
+rounds-first put ss least out fits empty none =
     let ns = numbers (in_alphabet ss) in
-    pushes_same _ _ old new
-    (sym (map-append number_text (filter (is_within last limit) ns) (above limit ns))
-    ∙ sym (ap (map number_text) (above-split last limit 0 ns order (rise-in_order ss all))))
-    (pushes_both (map number_text (filter (is_within last limit) ns)) (map number_text (above limit ns)) old middle new these those)
+    record {
+      fits = fits;
+      empty = λ more. empty;
+      ended = sym (ap (λ n. ltb n 18446744073709551615) none);
+      so_far = λ new these. pushes_same _ _ out new (ap (λ n. flat_map put (above n ns)) none ∙ ap (flat_map put) (above-all 0 0 ns (omega arith) (rise-in_order ss fits))) these;
+    }
 
--- ---- numbers that are put
+module _ {put : ℕ → List (List ℕ)} {ss : List (List ℕ)} {least : Least} {more : Bool} {start out : Output} (rounds : Rounds put ss least more start out) where
+  -- no number is left
+  pub rounds-ended : more ≡ false → Pushes (flat_map put (numbers (in_alphabet ss))) start out
+  rounds-ended no_more =
+      let most : 18446744073709551615 ≤ least.last = ltb-false least.last 18446744073709551615 (sym rounds.ended ∙ no_more) in
+      rounds.so_far out (pushes_ended _ out (ap (flat_map put) (above-none least.last (numbers (in_alphabet ss)) (up_to least.last (in_alphabet ss) most (each-number ss rounds.fits)))))
 
--- the number at an index is greater than the last one
-pub risen :
-    (ns : List ℕ) (k last next : ℕ) (out middle after new : Output) → k < length ns → last < get_or ns k 0 → next ≡ get_or ns k 0 → after ≡ middle →
-    Pushes (number_text (get_or ns k 0) ∷ []) out middle → Pushes (map number_text (ascending_after next (drop (k + 1) ns))) after new →
-    Pushes (map number_text (ascending_after last (drop k ns))) out new
-risen ns k last next out middle after new inside over is same one these =
-    let n = get_or ns k 0 in
-    let test : ltb last n ≡ true = grind (arith, nat_tests) in
-    pushes_same (number_text n ∷ map number_text (ascending_after n (drop (k + 1) ns))) _ out new
-    (sym (at_drop_more (λ ms. map number_text (ascending_after last ms)) ns k 0 inside
-    ∙ ap (λ b. map number_text (cond b (n ∷ ascending_after n (drop (k + 1) ns)) (ascending_after last (drop (k + 1) ns)))) test))
-    (pushes_next (number_text n) (number_text n) (map number_text (ascending_after n (drop (k + 1) ns))) out middle new refl one
-    (subst (λ o. Pushes (map number_text (ascending_after n (drop (k + 1) ns))) o new) same
-    (subst (λ m. Pushes (map number_text (ascending_after m (drop (k + 1) ns))) after new) is these)))
+  module _
+      {offered : Least} (sorted new : Least) (is_more : more ≡ true) (these : IsOffered (map order_number ss) least offered)
+      (kept : (all : List ℕ) → AscendsFrom 0 all → HoldsLeast offered all → sorted.kept ≡ filter (is_within offered.last offered.limit) all)
+      (limit : sorted.limit ≡ offered.limit) (next : new.last ≡ sorted.limit)
+    where
+      holds : HoldsLeast offered (numbers (in_alphabet ss))
+      holds =
+          let all = these.holds [] (rounds.empty is_more) in
+          record { order = all.order; same = λ n. all.same n ∙ ap (λ b. is_within offered.last offered.limit n && b) (has-in_order n ss) }
 
--- it is not
-pub passed :
-    (ns : List ℕ) (k last next : ℕ) (out after new : Output) → k < length ns → get_or ns k 0 ≤ last → next ≡ last → after ≡ out →
-    Pushes (map number_text (ascending_after next (drop (k + 1) ns))) after new → Pushes (map number_text (ascending_after last (drop k ns))) out new
-passed ns k last next out after new inside under is same these =
-    let n = get_or ns k 0 in
-    let test : ltb last n ≡ false = grind (arith, nat_tests) in
-    pushes_same (map number_text (ascending_after last (drop (k + 1) ns))) _ out new
-    (sym (at_drop_more (λ ms. map number_text (ascending_after last ms)) ns k 0 inside
-    ∙ ap (λ b. map number_text (cond b (n ∷ ascending_after n (drop (k + 1) ns)) (ascending_after last (drop (k + 1) ns)))) test))
-    (subst (λ o. Pushes (map number_text (ascending_after last (drop (k + 1) ns))) o new) same
-    (subst (λ m. Pushes (map number_text (ascending_after m (drop (k + 1) ns))) after new) is these))
+      pub rounds-smaller : 18446744073709551615 - new.last < 18446744073709551615 - least.last
+      rounds-smaller = omega (arith, ltb-true least.last 18446744073709551615 (sym rounds.ended ∙ is_more), holds.order, limit, next, these.last)
+
+      -- all subtags are offered, and what is put for those that are kept is put
+      pub rounds-next :
+          (next_more : Bool) (pushed : List ℕ) (after : Output) → (next_more ≡ true → HoldsLeast new []) → next_more ≡ ltb sorted.limit 18446744073709551615 →
+          pushed ≡ sorted.kept → Pushes (flat_map put pushed) out after → Rounds put ss new next_more start after
+      rounds-next next_more pushed after empty ended is puts =
+          let ns = numbers (in_alphabet ss) in
+          let rise = rise-in_order ss rounds.fits in
+          let last : least.last ≤ offered.limit = omega (arith, holds.order, these.last) in
+          let split : flat_map put pushed ++ flat_map put (above new.last ns) ≡ flat_map put (above least.last ns) =
+          ap (λ ms. flat_map put ms ++ flat_map put (above new.last ns)) (is ∙ kept ns rise holds ∙ ap (λ n. filter (is_within n offered.limit) ns) these.last)
+          ∙ ap (λ n. flat_map put (filter (is_within least.last offered.limit) ns) ++ flat_map put (above n ns)) (next ∙ limit)
+          ∙ sym (flat_map-append put (filter (is_within least.last offered.limit) ns) (above offered.limit ns))
+          ∙ ap (flat_map put) (sym (above-split least.last offered.limit 0 ns last rise)) in
+          record {
+            fits = rounds.fits;
+            empty = empty;
+            ended = ended ∙ ap (λ n. ltb n 18446744073709551615) (sym next);
+            so_far = λ end those. rounds.so_far end (pushes_same _ _ out end split (pushes_both (flat_map put pushed) (flat_map put (above new.last ns)) out after end puts those));
+          }
 
 -- ---- digits that are put
 
@@ -330,3 +345,15 @@ offered-both ms ns old middle new these those = record {
   last = those.last ∙ these.last;
   holds = λ offered holds. subst (HoldsLeast new) (append_assoc offered ms ns) (those.holds (offered ++ ms) (these.holds offered holds));
 }
+
+-- a subtag is offered if it passes a test
+pub offered-more :
+    (test : List ℕ → Bool) (s : List ℕ) (ss : List (List ℕ)) (n : ℕ) (old middle new : Least) → test s ≡ true → n ≡ order_number s →
+    IsOffered (n ∷ []) old middle → IsOffered (map order_number (filter test ss)) middle new → IsOffered (map order_number (filter test (s ∷ ss))) old new
+offered-more test s ss n old middle new passes is these those =
+    rw passes (subst (λ m. IsOffered (m ∷ map order_number (filter test ss)) old new) is (offered-both (n ∷ []) (map order_number (filter test ss)) old middle new these those))
+
+pub offered-other :
+    (test : List ℕ → Bool) (s : List ℕ) (ss : List (List ℕ)) (old new : Least) → test s ≡ false →
+    IsOffered (map order_number (filter test ss)) old new → IsOffered (map order_number (filter test (s ∷ ss))) old new
+offered-other test s ss old new other these = rw other these

@@ -7,7 +7,6 @@ pub mod Each
 pub mod ExtensionForms
 pub mod ExtensionsPut
 pub mod Found
-pub mod KeyOrder
 pub mod KeySetLaws
 pub mod KeywordBlocks
 pub mod KeywordEdits

@@ -7,7 +7,7 @@ use Rattle.std.proofs.lemmas.Bool.Decides.{nat_tests}
 use Rattle.langtag_output.proofs.Pushed.{with_joined}
 use Rattle.langtag_output.proofs.WithSubtag.{with_subtag-none}
 use Rattle.langtag_output.specs.Output.{with_subtag}
-use Rattle.langtag_scan.proofs.CaseLaw.{fold_text-twice}
+use Rattle.langtag_scan.proofs.CaseLaw.{fold_text-twice, length-fold}
 use Rattle.langtag_scan.proofs.SubtagFacts.{IsSubtag, of_variant}
 use Rattle.langtag_scan.specs.Case.{are_alike, fold_text}
 use Rattle.langtag_scan.specs.CaseLaws.{are_alike-decides}
@@ -54,10 +54,6 @@ pub among-alike : (s : List ℕ) (ss : List (List ℕ)) → among (fold_text s) 
 among-alike s [] = refl
 among-alike s (t ∷ ts) = ap (λ b. b || among (fold_text s) ts) (turned s t) ∙ ap (λ b. are_alike s t || b) (among-alike s ts)
 
-same_length : (s : List ℕ) → length (fold_text s) ≡ length s
-same_length [] = refl
-same_length (b ∷ s) = omega (arith, same_length s)
-
 -- what the order leaves out
 record Weighs (ss : List (List ℕ)) : Type 0 where
   pub less : length_with_hyphens (in_alphabet ss) ≤ length_with_hyphens ss
@@ -71,8 +67,8 @@ weighs (s ∷ ss) all =
     let put = put-length (fold_text s) (in_alphabet ss) (fold_text-twice s) (lower-in_alphabet ss) (rise-in_alphabet ss) in
     let there = among-alphabet (fold_text s) ss ∙ among-alike s ss in
     record {
-      less = grind (arith, nat_tests, put, there, same_length s, rest.less);
-      tells = grind (arith, nat_tests, put, there, same_length s, rest.less, rest.tells, parts.0);
+      less = grind (arith, nat_tests, put, there, length-fold s, rest.less);
+      tells = grind (arith, nat_tests, put, there, length-fold s, rest.less, rest.tells, parts.0);
     }
 
 each_variant : (ss : List (List ℕ)) → list_all is_variant ss ≡ true → AllByRecursion IsSubtag ss

@@ -1,6 +1,6 @@
 -- How subtags are put in order as numbers, some of them at a time. Only contracts of private functions, and of those that
 -- langtag_locale shares, cite this page.
-use Rattle.std.specs.Prelude.{◌≡◌, ℕ, zero, suc, ◌+◌, ◌*◌, ◌^◌, ◌<◌, Bool, ◌==◌, ◌&&◌, not, ltb, leb, List, [], ◌∷◌, ◌++◌, if◌then◌else◌}
+use Rattle.std.specs.Prelude.{◌≡◌, ℕ, zero, suc, ◌+◌, ◌*◌, ◌^◌, ◌<◌, Bool, ◌==◌, ◌&&◌, not, ltb, leb, List, [], ◌∷◌, ◌++◌, if◌then◌else◌, take}
 use Rattle.std.specs.List.{filter, list_any}
 use Rattle.std.specs.Int.{w64, to_be_bytes}
 use Rattle.langtag_scan.specs.Case.{fold_text}
@@ -20,6 +20,10 @@ order_number subtag = left_number 8 (fold_text subtag)
 -- the text that has a number: the digits that are not zero
 abbrev pub number_text : ℕ → List ℕ
 number_text number = filter (λ b. not (b == 0)) (to_be_bytes w64 number)
+
+-- the key that has a number: the first two digits
+abbrev pub key_of : ℕ → List ℕ
+key_of number = take 2 (to_be_bytes w64 number)
 
 -- ---- the least numbers
 
@@ -54,3 +58,8 @@ ascending_after last (n ∷ ns) = if ltb last n then n ∷ ascending_after n ns 
 abbrev pub AscendsFrom : ℕ → List ℕ → Type 0
 AscendsFrom last [] = Unit
 AscendsFrom last (n ∷ ns) = (last < n) × AscendsFrom n ns
+
+-- the same numbers but zero, each greater than the one before it
+pub record IsSettled (old new : List ℕ) : Type 0 where
+  pub rise : AscendsFrom 0 new
+  pub same : (n : ℕ) → has n new ≡ (ltb 0 n && has n old)

@@ -1,12 +1,10 @@
 pub mod Alias
 pub mod Aliases
-pub mod Alphabet
 pub mod Edit
 pub mod EditText
 pub mod Form
 pub mod Keys
 pub mod Keywords
 pub mod Least
-pub mod KeyNumbers
 pub mod KeySets
 pub mod Transform

@@ -1,37 +1,42 @@
 //! The least of many numbers, in little memory.
-ghost use Rattle.std.specs.Prelude.{◌≡◌, ◌<◌, ℕ, List, [], ◌∷◌, ◌++◌, filter, ltb, map, take, true};
+ghost use Rattle.std.specs.Prelude.{◌≡◌, ◌<◌, ◌≤◌, ℕ, List, [], ◌∷◌, length, ltb, take, true};
+ghost use Rattle.std.specs.List.{filter, flat_map};
 ghost use Rattle.langtag_output.specs.Output.{Pushes};
 ghost use Rattle.langtag_scan.proofs.SubtagFacts.{IsSubtag};
 ghost use Rattle.langtag_keyword.specs.Least as spec;
-ghost use Rattle.langtag_keyword.specs.Least.{HoldsLeast, IsOffered, Least, AscendsFrom};
+ghost use Rattle.langtag_keyword.specs.Least.{AscendsFrom, HoldsLeast, IsOffered, IsSettled, Least};
 
 use langtag_output::Output;
 use langtag_scan::folded_number;
 use std::marker::Model;
 
-/// The number of numbers for which there is room. They take 8 KiB of stack.
-const ROOM: usize = 1024;
+/// Room for the numbers of a few subtags.
+pub const FEW: usize = 32;
 
-/// The least of the numbers above `last` that were offered. If there are too many, those above `limit` are left out.
+/// Room for the numbers of many subtags. They take 8 KiB of stack.
+pub const MANY: usize = 1024;
+
+/// The least of the numbers above `last` that were offered. If there is no room for all, those above `limit` are left out.
 #[derive(Drop)]
-pub struct LeastNumbers {
+pub struct LeastNumbers<const ROOM: usize> {
     numbers: [u64; ROOM],
     count: usize,
     last: u64,
     limit: u64,
 }
 
-impl Model for LeastNumbers {
+impl<const ROOM: usize> Model for LeastNumbers<ROOM> {
     ghost Value = { Least };
 
     ghost view = { λ least. record { last = least.last; limit = least.limit; kept = take least.count least.numbers } };
 
-    ghost invariant = { λ least. least.count < 1024 };
+    ghost invariant = { λ least. (least.count < ROOM) × (2 ≤ ROOM) };
 }
 
-impl LeastNumbers {
+impl<const ROOM: usize> LeastNumbers<ROOM> {
     /// Returns room for the least of all numbers but zero.
-    pub fn new() -> LeastNumbers
+    pub fn new() -> LeastNumbers<ROOM>
+        requires { 2 ≤ ROOM }
         ensures empty { HoldsLeast result [] }
         ensures last { result.last ≡ 0 }
     {
@@ -52,29 +57,72 @@ impl LeastNumbers {
         }
         self.numbers[self.count] = number;
         self.count += 1;
-        if self.count == ROOM {
-            self.numbers.sort_unstable();
+        if self.count < ROOM {
+            return;
+        }
+        self.count = settle(&mut self.numbers);
+        if self.count > ROOM / 2 {
             self.count = ROOM / 2;
             self.limit = self.numbers[ROOM / 2 - 1];
         }
     }
 
-    /// Appends the subtags of the numbers in ascending order, each once, and makes room for the numbers above them.
-    /// Returns whether such numbers may have been left out.
-    pub fn push_to(&mut self, out: &mut Output<'_>) -> bool
-        ensures pushed { (all : List ℕ) → AscendsFrom 0 all → HoldsLeast self.old all
-            → Pushes (map spec.number_text (filter (spec.is_within self.old.last self.old.limit) all)) out.old out.new }
+    /// Puts the numbers that are kept in ascending order, each once.
+    pub fn sort(&mut self)
+        ensures kept { (all : List ℕ) → AscendsFrom 0 all → HoldsLeast self.old all → self.new.kept ≡ filter (spec.is_within self.old.last self.old.limit) all }
+        ensures last { self.new.last ≡ self.old.last }
+        ensures limit { self.new.limit ≡ self.old.limit }
+    {
+        self.count = settle(&mut self.numbers[..self.count]);
+    }
+
+    /// Returns the numbers that are kept.
+    pub fn kept(&self) -> &[u64]
+        ensures { result.now ≡ self.now.kept }
+    {
+        &self.numbers[..self.count]
+    }
+
+    /// Makes room for the numbers above those that are kept. Returns whether such numbers may have been left out.
+    pub fn advance(&mut self) -> bool
         ensures next { self.new.last ≡ self.old.limit }
         ensures empty { result ≡ true → HoldsLeast self.new [] }
         ensures more { result ≡ ltb self.old.limit 18446744073709551615 }
     {
-        self.numbers[..self.count].sort_unstable();
-        push_ascending(out, &self.numbers[..self.count], self.last);
         self.last = self.limit;
         self.limit = u64::MAX;
         self.count = 0;
         self.last < u64::MAX
     }
+}
+
+/// Puts numbers in ascending order, each once and without zero. Returns how many these are.
+fn settle(numbers: &mut [u64]) -> usize
+    ensures settled { IsSettled numbers.old (take result numbers.new) }
+    ensures within { result ≤ length numbers.old }
+    ensures len { length numbers.new ≡ length numbers.old }
+{
+    numbers.sort_unstable();
+    keep_rising(numbers)
+}
+
+/// Moves each number that is greater than all numbers before it, and than zero, to the start. Returns how many these are.
+fn keep_rising(numbers: &mut [u64]) -> usize
+    ensures rising { take result numbers.new ≡ spec.ascending_after 0 numbers.old }
+    ensures within { result ≤ length numbers.old }
+    ensures len { length numbers.new ≡ length numbers.old }
+{
+    let mut last = 0;
+    let mut count = 0;
+    for index in 0..numbers.len() {
+        let number = numbers[index];
+        if number > last {
+            numbers[count] = number;
+            count += 1;
+            last = number;
+        }
+    }
+    count
 }
 
 /// Returns the number of a subtag. Numbers are in the order of their subtags, ignoring case.
@@ -86,16 +134,12 @@ pub fn order_number(subtag: &[u8]) -> u64
     folded_number(subtag) << (64 - 8 * subtag.len())
 }
 
-/// Appends the subtag of each number that is greater than `last` and than the numbers before it.
-fn push_ascending(out: &mut Output<'_>, numbers: &[u64], last: u64)
-    ensures { Pushes (map spec.number_text (spec.ascending_after last numbers.now)) out.old out.new }
+/// Appends the subtags of numbers.
+pub fn push_numbers(out: &mut Output<'_>, numbers: &[u64])
+    ensures { Pushes (flat_map (λ number. spec.number_text number ∷ []) numbers.now) out.old out.new }
 {
-    let mut last = last;
     for number in numbers {
-        if *number > last {
-            push_number(out, *number);
-            last = *number;
-        }
+        push_number(out, *number);
     }
 }
 

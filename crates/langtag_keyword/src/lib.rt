@@ -23,13 +23,13 @@ pub use keyword_error::KeywordError;
 
 // For langtag_unicode, langtag_locale and langtag_span.
 pub use alias::{alias_for, type_alias_for};
-pub use alphabet::{are_few, is_after, is_before_best, push_lowercase};
+pub use alphabet::{are_few, push_lowercase};
 pub use extension_form::{is_of, push_extensions, push_unicode, subtags_of};
 pub use key_set::KeySet;
 pub use keyword_check::{invalid_type, is_unicode_key};
 pub use keyword_edit::{KeywordEdit, push_edited};
 pub use keyword_form::push_keywords;
 pub use language_id::{is_among, is_unicode_language, take_region, take_script};
-pub use least_numbers::{LeastNumbers, order_number};
+pub use least_numbers::{FEW, LeastNumbers, MANY, order_number, push_numbers};
 pub use subtags::{before_key, is_earlier_subtag, nonempty, preceding, split_first, value_in};
 pub use transform_form::is_transform;

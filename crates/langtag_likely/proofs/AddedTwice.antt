@@ -1,6 +1,7 @@
 -- Likely subtags that are added again change nothing, since the rows have what it takes.
-use Rattle.std.proofs.Common.{◌≡◌, ◌==◌, ◌%◌, true, false, Bool, cond, leb, not, List, [], ◌∷◌, ℕ, Option, None, Some, is_some, refl, sym, ap, subst, ◌∙◌, arith, ◌&&◌, ◌||◌, codes, option_map, ◌⊎◌, rules}
-use Rattle.std.proofs.lemmas.Bool.{and_parts, leb-true, eqb-true}
+use Rattle.std.proofs.Common.{◌≡◌, ◌%◌, true, false, Bool, cond, not, ◌≤◌, List, [], ◌∷◌, ℕ, Option, None, Some, is_some, refl, sym, ap, subst, ◌∙◌, arith, ◌&&◌, ◌||◌, codes, option_map, ◌⊎◌, rules}
+use Rattle.std.proofs.lemmas.Bool.{and_parts}
+use Rattle.std.proofs.lemmas.Bool.Decides.{nat_tests}
 use Rattle.std.specs.List.{list_all}
 use Rattle.std.specs.Option.{is_none, option_map_or}
 use Rattle.langtag_scan.specs.Case.{are_alike, Alike, fold_text}
@@ -26,14 +27,10 @@ some_first a b h = grind arith
 pub row_by_bit : (language : List ℕ) → has_bit language ≡ true → is_some (likely_for likely_subtags (of_language language)) ≡ true
 unfolding has_bit
 row_by_bit language h =
-    let a = and_parts (are_letters language) (leb 27 (letter_number language) && (leb (letter_number language) 18278 && (from_bit (letter_number language) % 2 == 1))) h in
-    let b = and_parts (leb 27 (letter_number language)) (leb (letter_number language) 18278 && (from_bit (letter_number language) % 2 == 1)) a.1 in
-    let c = and_parts (leb (letter_number language) 18278) (from_bit (letter_number language) % 2 == 1) b.1 in
-    let found =
-    row_at (letter_number language) (leb-true 27 (letter_number language) b.0) (leb-true (letter_number language) 18278 c.0) (eqb-true (from_bit (letter_number language) % 2) 1 c.1) in
+    let n = letter_number language in
+    let (letters, from, to, set) : (are_letters language ≡ true) × (27 ≤ n) × (n ≤ 18278) × (from_bit n % 2 ≡ 1) = grind (arith, nat_tests, and_parts) in
     ap is_some (either (of_language language))
-    ∙ some_first (likely_for language_rows (of_language language)) (likely_for other_rows (of_language language))
-    (ap is_some (sym (language_found language (letter_number language) _ a.0 refl (sym found))))
+    ∙ some_first (likely_for language_rows (of_language language)) _ (ap is_some (sym (language_found language n _ letters refl (sym (row_at n from to set)))))
 
 -- ---- a lookup without a language
 
@@ -75,19 +72,20 @@ known_stays unknown a h = ap (λ t. cond t [] a) h
 
 -- ---- the row that was found
 
-record RowOf (key to : Fields) : Type 0 where
-  row : Likely
-  to_is : row.to ≡ to
-  from_is : AlikeFields row.from key
-  settled : is_settled row ≡ true
+-- it passes a test that all rows pass
+pub record FoundRow (holds : Likely → Bool) (key to : Fields) : Type 0 where
+  pub row : Likely
+  pub to_is : row.to ≡ to
+  pub from_is : AlikeFields row.from key
+  pub holds_of_it : holds row ≡ true
 
-row_of : (rows : List Likely) (key to : Fields) → list_all is_settled rows ≡ true → likely_for rows key ≡ Some to → RowOf key to
-row_of [] key to all is = absurd cc
-row_of (row ∷ rows) key to all is =
-    let k = and_parts (is_settled row) (list_all is_settled rows) all in
+pub found_row : (rows : List Likely) (holds : Likely → Bool) (key to : Fields) → list_all holds rows ≡ true → likely_for rows key ≡ Some to → FoundRow holds key to
+found_row [] holds key to all is = absurd cc
+found_row (row ∷ rows) holds key to all is =
+    let k = and_parts (holds row) (list_all holds rows) all in
     either_way (are_alike_fields row.from key)
-    (λ same. record { row = row; to_is = let here : Some row.to ≡ Some to = sym (rw same refl) ∙ is in cc; from_is = alike_fields row.from key same; settled = k.0 })
-    (λ other. row_of rows key to k.1 (sym (rw other refl) ∙ is))
+    (λ same. record { row = row; to_is = let here : Some row.to ≡ Some to = sym (rw same refl) ∙ is in cc; from_is = alike_fields row.from key same; holds_of_it = k.0 })
+    (λ other. found_row rows holds key to k.1 (sym (rw other refl) ∙ is))
 
 -- the fields that were looked up have the language, and each of the others has it or has none
 pub record IsKey (f key : Fields) : Type 0 where
@@ -199,20 +197,8 @@ module _ (f : Fields) (row : Likely) (key : Fields) (is_key : IsKey f key) (from
   kept_language there = alike_is _ _ (sym (ap (λ b. not b || are_alike row.from.language row.to.language) there) ∙ whole.kept)
 
   alone_found : is_there most.language ≡ true → is_some (likely_for likely_subtags (language_alone most)) ≡ true
-  alone_found there = either_way (is_there f.language) written unwritten
-    where
-      written : is_there f.language ≡ true → is_some (likely_for likely_subtags (language_alone most)) ≡ true
-      written it =
-          let same : most.language ≡ f.language = or_other_there f.language row.to.language it in
-          let from_there : is_there row.from.language ≡ true = there_alike _ _ language_same ∙ it in
-          let from_same : Alike row.from.language most.language = language_same ∙ ap fold_text (sym same) in
-          by_or (is_language_row row) (is_other_row row)
-          (λ is. ap is_some (alone_by most.language from_same (language_of row is)))
-          (λ is. alone_other is (sym (there_alike _ _ (kept_language from_there)) ∙ from_there) (sym (kept_language from_there) ∙ from_same))
-          kind
-
-      unwritten : is_there f.language ≡ false → is_some (likely_for likely_subtags (language_alone most)) ≡ true
-      unwritten it = search (rules, alone_other)
+  alone_found there =
+      grind (arith, language_same, kept_language, alone_by most.language, alone_other, or_other_there, or_other_absent, there_alike, language_of row, kind)
 
   script_not : are_alike (codes "Zzzz") most.script ≡ false
   script_not = other_test (codes "Zzzz") f.script row.to.script script_known whole.script_known
@@ -223,16 +209,11 @@ module _ (f : Fields) (row : Likely) (key : Fields) (is_key : IsKey f key) (from
   unknown_row f_none to_none = search (rules, unknown_of)
 
   unknown_most : is_there most.language ≡ false → (is_there f.language ≡ false) × (is_there row.to.language ≡ false)
-  unknown_most none =
-      let f_none = not_first f.language row.to.language none in
-      (f_none, sym (ap is_there (or_other_absent f.language row.to.language f_none)) ∙ none)
+  unknown_most none = grind (arith, not_first f.language row.to.language, or_other_absent)
 
   -- the script is written
   script_written : is_there most.language ≡ false → is_there f.script ≡ true
-  script_written none =
-      let (f_none, to_none) = unknown_most none in
-      either_way (is_there f.script) (λ there. there)
-      (λ absent. clash _ (unknown_row f_none to_none).script_there (absent_key f.script row.from.script key.script is_key.script from_is.script absent))
+  script_written none = grind (arith, unknown_most, unknown_row, absent_key)
 
   unknown_again : is_there most.language ≡ false → add_likely likely_subtags most ≡ Some most
   unknown_again none = either_way (is_there f.script && is_there f.region) written unwritten
@@ -307,8 +288,8 @@ added f m known is = by_row (looked_up likely_subtags f) refl is
     by_row None looked is = absurd cc
     by_row (Some to) looked is =
         let found = found_of f to looked in
-        let r = row_of likely_subtags found.key to rows_listed.settled found.found in
-        let parts = and_parts (is_whole r.row) (is_language_row r.row || is_other_row r.row) r.settled in
+        let r = found_row likely_subtags is_settled found.key to rows_listed.settled found.found in
+        let parts = and_parts (is_whole r.row) (is_language_row r.row || is_other_row r.row) r.holds_of_it in
         let whole = whole_of r.row parts.0 in
         let same : filled f to ≡ m = cc in
         let again = added_again f r.row found.key found.is_key r.from_is whole parts.1 (found.found ∙ ap Some (sym r.to_is)) (looked ∙ ap Some (sym r.to_is)) known.script known.region in

@@ -1,7 +1,8 @@
 -- Likely subtags that are added again change nothing, also where deprecated subtags are replaced before the lookup. A
 -- language that has a row is not deprecated.
-use Rattle.std.proofs.Common.{◌≡◌, ℕ, ◌==◌, ◌%◌, ◌&&◌, ◌||◌, true, false, Bool, leb, ltb, not, List, [], ◌∷◌, length, Option, None, Some, is_some, option_map, refl, sym, ap, subst, ◌∙◌, arith, codes}
+use Rattle.std.proofs.Common.{◌≡◌, ℕ, ◌==◌, ◌%◌, ◌&&◌, ◌||◌, true, false, Bool, leb, ltb, not, List, [], length, Option, None, Some, is_some, option_map, refl, sym, ap, subst, ◌∙◌, arith, codes}
 use Rattle.std.proofs.lemmas.Bool.{and_parts, eqb-true}
+use Rattle.std.proofs.lemmas.Bool.Decides.{nat_tests}
 use Rattle.std.proofs.lemmas.List.{nil_from_length}
 use Rattle.std.specs.List.{list_all}
 use Rattle.std.specs.Option.{is_none, option_map_or}
@@ -9,18 +10,16 @@ use Rattle.langtag_scan.specs.Case.{Alike, are_alike, fold_byte}
 use Rattle.langtag_scan.specs.CaseLaws.{are_alike-decides}
 use Rattle.langtag_scan.specs.Class.{are_letters, is_letter}
 use Rattle.langtag_scan.proofs.CaseLaw.{all-fold, is_letter-fold}
-use Rattle.langtag.proofs.Alike.{AlikeFields}
 use Rattle.langtag.specs.Fields.{Fields}
 use Rattle.langtag_tables.specs.Numbers.{letter_number}
 use Rattle.langtag_tables.proofs.Letters.{letter_number-tells}
 use Rattle.langtag_likely.specs.Aliases.{language_aliases, region_aliases}
-use Rattle.langtag_likely.specs.Likely.{Likely, add_likely, are_alike_fields, filled, known, known_fields, language_alone, likely_for, looked_up, or_else, or_other}
+use Rattle.langtag_likely.specs.Likely.{Likely, add_likely, filled, known, known_fields, language_alone, likely_for, looked_up, or_other}
 use Rattle.langtag_likely.specs.LikelySubtags.{likely_subtags}
 use Rattle.langtag_likely.specs.Matching.{language_replaced, region_alone, region_replaced, with_language_from, with_region_from}
 use Rattle.langtag_likely.specs.Maximal.{add_likely_subtags, canonical_fields}
-use Rattle.langtag_likely.proofs.AddedTwice.{AreKnown, IsAdded, absent, added, either_way, found_of, known_stays, not_first, or_other_absent, or_other_there, other_test, there_alike, there_other}
+use Rattle.langtag_likely.proofs.AddedTwice.{AreKnown, IsAdded, absent, added, either_way, found_of, found_row, known_stays, not_first, or_other_absent, or_other_there, other_test, there_alike, there_other}
 use Rattle.langtag_likely.proofs.AliasTables.{aliases_listed}
-use Rattle.langtag_likely.proofs.AlikeFields.{alike_fields}
 use Rattle.langtag_likely.proofs.TableRows.{has_bit, from_bit, is_there, rows_listed}
 
 -- ---- the bit of a language does not change with the case of letters
@@ -37,34 +36,18 @@ bit_by letters number = letters && (leb 27 number && (leb number 18278 && (from_
 
 bit-alike : (a b : List ℕ) → Alike a b → has_bit a ≡ true → has_bit b ≡ true
 unfolding has_bit bit_by
-bit-alike a b same bit =
-    let letters : are_letters a ≡ true = (and_parts (are_letters a) _ bit).0 in
-    sym (ap (λ l. bit_by l (letter_number a)) (letters-alike a b same) ∙ ap (bit_by (are_letters b)) (number-alike a b same letters)) ∙ bit
+bit-alike a b same bit = grind (arith, and_parts, bit_by, letters-alike, number-alike)
 
 -- ---- a language that has a row is not deprecated
-
--- the left side of a row that was found
-record LeftSide (holds : Likely → Bool) (key : Fields) : Type 0 where
-  row : Likely
-  holds_of_it : holds row ≡ true
-  same : AlikeFields row.from key
-
-left_side : (rows : List Likely) (holds : Likely → Bool) (key to : Fields) → list_all holds rows ≡ true → likely_for rows key ≡ Some to → LeftSide holds key
-left_side [] holds key to all is = absurd cc
-left_side (row ∷ rows) holds key to all is =
-    let k = and_parts (holds row) (list_all holds rows) all in
-    either_way (are_alike_fields row.from key)
-    (λ same. record { row = row; holds_of_it = k.0; same = alike_fields row.from key same })
-    (λ other. left_side rows holds key to k.1 (sym (rw other refl) ∙ is))
 
 abbrev is_listed : Likely → Bool
 is_listed row = not (is_there row.from.language) || has_bit row.from.language
 
 listed_bit : (key to : Fields) → likely_for likely_subtags key ≡ Some to → is_there key.language ≡ true → has_bit key.language ≡ true
 listed_bit key to is there =
-    let left = left_side likely_subtags is_listed key to rows_listed.listed is in
-    let from : is_there left.row.from.language ≡ true = there_alike _ _ left.same.language ∙ there in
-    bit-alike left.row.from.language key.language left.same.language (sym (ap (λ b. not b || has_bit left.row.from.language) from) ∙ left.holds_of_it)
+    let left = found_row likely_subtags is_listed key to rows_listed.listed is in
+    let from : is_there left.row.from.language ≡ true = there_alike _ _ left.from_is.language ∙ there in
+    bit-alike left.row.from.language key.language left.from_is.language (sym (ap (λ b. not b || has_bit left.row.from.language) from) ∙ left.holds_of_it)
 
 no_value : {A : Type 0} (o : Option A) → ((v : A) → o ≡ Some v → ⊥) → o ≡ None
 no_value None never = refl
@@ -72,8 +55,8 @@ no_value (Some v) never = absurd (never v refl)
 
 listed_current : (f to : Fields) → likely_for likely_subtags f ≡ Some to → is_there f.language ≡ true → likely_for language_aliases (language_alone f) ≡ None
 listed_current f to is there = no_value (likely_for language_aliases (language_alone f)) (λ v found.
-    let left = left_side language_aliases (λ row. not (has_bit row.from.language)) (language_alone f) v aliases_listed.unlisted found in
-    let bit = bit-alike f.language left.row.from.language (sym left.same.language) (listed_bit f to is there) in
+    let left = found_row language_aliases (λ row. not (has_bit row.from.language)) (language_alone f) v aliases_listed.unlisted found in
+    let bit = bit-alike f.language left.row.from.language (sym left.from_is.language) (listed_bit f to is there) in
     let no : not true ≡ true = sym (ap not bit) ∙ left.holds_of_it in
     absurd cc)
 
@@ -108,13 +91,7 @@ canonical_stays f language region = ap region_replaced (language_stays f languag
 
 -- the language of fields to which likely subtags are added is not deprecated
 looked_up-current : (f to : Fields) → looked_up likely_subtags f ≡ Some to → likely_for language_aliases (language_alone f) ≡ None
-looked_up-current f to is =
-    either_way (is_there f.language)
-    (λ there.
-    let found = found_of f to is in
-    ap (λ l. likely_for language_aliases (record { language = l; script = []; region = [] })) (sym found.is_key.language)
-    ∙ listed_current found.key to found.found (ap is_there found.is_key.language ∙ there))
-    (λ none. no_language f (absent f.language none))
+looked_up-current f to is = grind (arith, found_of, listed_current, no_language, absent)
 
 -- ---- likely subtags that are added are those of the canonical fields
 
@@ -126,32 +103,19 @@ filled-twice f v = rw (or_other-twice f.language v.language, or_other-twice f.sc
 
 canonical_added : (f m : Fields) → canonical_fields f ≡ f → add_likely likely_subtags f ≡ Some m → add_likely_subtags f ≡ Some m
 unfolding add_likely_subtags
-canonical_added f m stays is = ap (λ c. option_map (filled f) (add_likely likely_subtags c)) stays ∙ by_row (looked_up likely_subtags f) is
-  where
-    by_row : (o : Option Fields) → option_map (filled f) o ≡ Some m → option_map (filled f) (option_map (filled f) o) ≡ Some m
-    by_row None is = absurd cc
-    by_row (Some v) is = ap Some (filled-twice f v) ∙ is
+canonical_added f m stays is = rw stays (grind (arith, filled-twice))
 
 none_is : {A : Type 0} (o : Option A) → is_none o ≡ true → o ≡ None
 none_is None h = refl
 none_is (Some x) h = absurd cc
 
 pub current_added : (f m : Fields) → is_none (likely_for region_aliases (region_alone f)) ≡ true → add_likely likely_subtags f ≡ Some m → add_likely_subtags f ≡ Some m
-current_added f m region is = by_row (looked_up likely_subtags f) refl is
-  where
-    by_row : (o : Option Fields) → looked_up likely_subtags f ≡ o → option_map (filled f) o ≡ Some m → add_likely_subtags f ≡ Some m
-    by_row None looked none = absurd cc
-    by_row (Some to) looked some = canonical_added f m (canonical_stays f (looked_up-current f to looked) (none_is (likely_for region_aliases (region_alone f)) region)) is
+current_added f m region is = grind (arith, canonical_added, canonical_stays, looked_up-current, none_is)
 
 -- ---- what replaces a language, or a region
 
 right_side : (rows : List Likely) (holds : Fields → Bool) (key to : Fields) → list_all (λ row. holds row.to) rows ≡ true → likely_for rows key ≡ Some to → holds to ≡ true
-right_side [] holds key to all is = absurd cc
-right_side (row ∷ rows) holds key to all is =
-    let k = and_parts (holds row.to) (list_all (λ row. holds row.to) rows) all in
-    either_way (are_alike_fields row.from key)
-    (λ same. let it : Some row.to ≡ Some to = sym (rw same refl) ∙ is in let here : row.to ≡ to = cc in sym (ap holds here) ∙ k.0)
-    (λ other. right_side rows holds key to k.1 (sym (rw other refl) ∙ is))
+right_side rows holds key to all is = let it = found_row rows (λ row. holds row.to) key to all is in subst (λ t. holds t ≡ true) it.to_is it.holds_of_it
 
 is_alias_target : Fields → Bool
 is_alias_target to = not (are_alike (codes "Zzzz") to.script) && not (are_alike (codes "ZZ") to.region)
@@ -164,16 +128,11 @@ language_of language o = option_map_or (λ to. to.language) o language
 
 language_by : (f : Fields) (o : Option Fields) → (option_map_or (with_language_from f) o f).language ≡ language_of f.language o
 unfolding language_of
-language_by f None = refl
-language_by f (Some to) = refl
+language_by f o = grind arith
 
 region_keeps : (f : Fields) → ((region_replaced f).language ≡ f.language) × ((region_replaced f).script ≡ f.script)
 unfolding region_replaced
-region_keeps f = by_row (likely_for region_aliases (region_alone f))
-  where
-    by_row : (o : Option Fields) → ((option_map_or (with_region_from f) o f).language ≡ f.language) × ((option_map_or (with_region_from f) o f).script ≡ f.script)
-    by_row None = (refl, refl)
-    by_row (Some to) = (refl, refl)
+region_keeps f = grind arith
 
 canonical_language : (f : Fields) → (canonical_fields f).language ≡ language_of f.language (likely_for language_aliases (language_alone f))
 unfolding language_replaced
@@ -183,17 +142,16 @@ same_language : (f g : Fields) → f.language ≡ g.language → (canonical_fiel
 same_language f g same =
     canonical_language f ∙ ap (λ l. language_of l (likely_for language_aliases (record { language = l; script = []; region = [] }))) same ∙ sym (canonical_language g)
 
+there_by_length : (l : List ℕ) → ltb 0 (length l) ≡ true → is_there l ≡ true
+there_by_length l some = grind (arith, nat_tests)
+
+alias_there : (f to : Fields) → likely_for language_aliases (language_alone f) ≡ Some to → is_there to.language ≡ true
+unfolding leads
+alias_there f to found = there_by_length to.language (right_side language_aliases leads (language_alone f) to aliases_listed.lead found)
+
 canonical_there : (f : Fields) → is_there f.language ≡ true → is_there (canonical_fields f).language ≡ true
-unfolding language_of leads
-canonical_there f there = ap is_there (canonical_language f) ∙ by_row (likely_for language_aliases (language_alone f)) refl
-  where
-    by_row : (o : Option Fields) → likely_for language_aliases (language_alone f) ≡ o → is_there (language_of f.language o) ≡ true
-    by_row None none = there
-    by_row (Some to) found = some_there to.language (right_side language_aliases leads (language_alone f) to aliases_listed.lead found)
-      where
-        some_there : (l : List ℕ) → ltb 0 (length l) ≡ true → is_there l ≡ true
-        some_there [] h = absurd cc
-        some_there (b ∷ l) h = refl
+unfolding language_of
+canonical_there f there = ap is_there (canonical_language f) ∙ grind (arith, alias_there f)
 
 canonical_none : (f : Fields) → f.language ≡ [] → (canonical_fields f ≡ region_replaced f)
 canonical_none f none = ap region_replaced (language_stays f (no_language f none))
@@ -205,27 +163,11 @@ known_not unknown a none = grind arith
 
 language-known : (f : Fields) → AreKnown f → AreKnown (language_replaced f)
 unfolding language_replaced is_alias_target
-language-known f are = by_row (likely_for language_aliases (language_alone f)) refl
-  where
-    by_row : (o : Option Fields) → likely_for language_aliases (language_alone f) ≡ o → AreKnown (option_map_or (with_language_from f) o f)
-    by_row None none = are
-    by_row (Some to) found =
-        let k = and_parts (not (are_alike (codes "Zzzz") to.script)) (not (are_alike (codes "ZZ") to.region)) (right_side language_aliases is_alias_target (language_alone f) to aliases_listed.known found) in
-        record {
-          script = other_test (codes "Zzzz") f.script to.script are.script (not_true _ k.0);
-          region = other_test (codes "ZZ") f.region to.region are.region (not_true _ k.1);
-        }
-      where
-        not_true : (b : Bool) → not b ≡ true → b ≡ false
-        not_true b h = grind arith
+language-known f are = grind (arith, right_side language_aliases is_alias_target (language_alone f), aliases_listed.known, other_test, and_parts)
 
 region-known : (f : Fields) → AreKnown f → AreKnown (region_replaced f)
 unfolding region_replaced
-region-known f are = by_row (likely_for region_aliases (region_alone f))
-  where
-    by_row : (o : Option Fields) → AreKnown (option_map_or (with_region_from f) o f)
-    by_row None = are
-    by_row (Some to) = record { script = are.script; region = known_not (codes "ZZ") to.region refl }
+region-known f are = grind (arith, known_not)
 
 canonical-known : (f : Fields) → AreKnown f → AreKnown (canonical_fields f)
 canonical-known f are = region-known (language_replaced f) (language-known f are)
@@ -235,17 +177,7 @@ canonical-known f are = region-known (language_replaced f) (language-known f are
 -- fields that are all there stay, if something is looked up
 whole_again : (m : Fields) → is_there m.language ≡ true → is_there m.script ≡ true → is_there m.region ≡ true → is_some (likely_for likely_subtags (language_alone (canonical_fields m))) ≡ true → add_likely_subtags m ≡ Some m
 unfolding add_likely_subtags
-whole_again m l s r alone = some_last (likely_for likely_subtags (canonical_fields m)) _ _ (likely_for likely_subtags (language_alone (canonical_fields m))) alone
-  where
-    filled_whole : (v : Fields) → filled m v ≡ m
-    filled_whole v = rw (or_other_there m.language v.language l, or_other_there m.script v.script s, or_other_there m.region v.region r) refl
-
-    some_last : (a b c d : Option Fields) → is_some d ≡ true → option_map (filled m) (option_map (filled (canonical_fields m)) (or_else a (or_else b (or_else c d)))) ≡ Some m
-    some_last (Some v) b c d some = ap Some (filled_whole _)
-    some_last None (Some v) c d some = ap Some (filled_whole _)
-    some_last None None (Some v) d some = ap Some (filled_whole _)
-    some_last None None None (Some v) some = ap Some (filled_whole _)
-    some_last None None None None some = absurd cc
+whole_again m l s r alone = grind (arith, or_other_there)
 
 module _ (f w : Fields) (are : AreKnown f) (is : add_likely likely_subtags (canonical_fields f) ≡ Some w) where
   abbrev c : Fields
@@ -287,32 +219,15 @@ module _ (f w : Fields) (are : AreKnown f) (is : add_likely likely_subtags (cano
   alone = subst (λ x. is_there x.language ≡ true → is_some (likely_for likely_subtags (language_alone x)) ≡ true) plain.filled_is plain.facts.alone
 
   current : is_there w.language ≡ true → likely_for language_aliases (language_alone w) ≡ None
-  current there = by_row (likely_for likely_subtags (language_alone w)) refl (alone there)
-    where
-      by_row : (o : Option Fields) → likely_for likely_subtags (language_alone w) ≡ o → is_some o ≡ true → likely_for language_aliases (language_alone w) ≡ None
-      by_row None is some = absurd cc
-      by_row (Some to) is some = listed_current (language_alone w) to is there
+  current there = grind (arith, listed_current (language_alone w), alone there)
 
   -- the canonical fields of what is made have the language of those that were looked up
   language_again : is_there m.language ≡ true → (canonical_fields m).language ≡ w.language
   unfolding language_of
-  language_again there =
-      either_way (is_there f.language)
-      (λ written.
-      same_language m f (or_other_there f.language w.language written)
-      ∙ sym (or_other_there c.language v.language (canonical_there f written)) ∙ ap (λ x. x.language) plain.filled_is)
-      (λ none.
-      let same : m.language ≡ w.language = or_other_absent f.language w.language none in
-      let none_for : likely_for language_aliases (language_alone m) ≡ None =
-      ap (λ l. likely_for language_aliases (record { language = l; script = []; region = [] })) same ∙ current (sym (ap is_there same) ∙ there) in
-      canonical_language m ∙ ap (language_of m.language) none_for ∙ same)
+  language_again there = grind (arith, same_language, or_other_there, canonical_there, or_other_absent, current, canonical_language, language_of)
 
   known_again : is_there m.language ≡ true → add_likely_subtags m ≡ Some m
-  known_again there =
-      let same = language_again there in
-      let row : is_some (likely_for likely_subtags (language_alone (canonical_fields m))) ≡ true =
-      ap (λ l. is_some (likely_for likely_subtags (record { language = l; script = []; region = [] }))) same ∙ alone (ap is_there (sym same) ∙ canonical_there m there) in
-      whole_again m there script_there region_there row
+  known_again there = grind (arith, language_again, alone, canonical_there, whole_again, script_there, region_there)
 
   -- ---- no language is known
 
@@ -335,24 +250,11 @@ module _ (f w : Fields) (are : AreKnown f) (is : add_likely likely_subtags (cano
       script_written = ap is_there (sym (ap (λ x. x.script) canonical_is ∙ (region_keeps f).1)) ∙ facts.0
 
       written : is_there f.region ≡ true → add_likely_subtags m ≡ Some m
-      written there =
-          let same : m ≡ f =
-          ap (λ l. record { language = l; script = m.script; region = m.region }) (absent m.language none ∙ sym (absent f.language f_none))
-          ∙ ap (λ s. record { language = f.language; script = s; region = m.region }) (or_other_there f.script w.script script_written)
-          ∙ ap (λ r. record { language = f.language; script = f.script; region = r }) (or_other_there f.region w.region there) in
-          ap add_likely_subtags same ∙ made
+      written there = grind (arith, absent, or_other_there, script_written)
 
       unwritten : is_there f.region ≡ false → add_likely_subtags m ≡ Some m
       unwritten absent_region =
-          let stays : c ≡ f = canonical_is ∙ region_stays f (no_region f (ap length (absent f.region absent_region))) in
-          let same : m ≡ w =
-          ap (filled f) (sym plain.filled_is ∙ ap (λ x. filled x v) stays) ∙ filled-twice f v ∙ ap (λ x. filled x v) (sym stays) ∙ plain.filled_is in
-          let region : m.region ≡ v.region =
-          or_other_absent f.region w.region absent_region ∙ ap (λ x. x.region) (sym plain.filled_is) ∙ or_other_absent c.region v.region (ap (λ x. is_there x.region) stays ∙ absent_region) in
-          let none_for : likely_for region_aliases (region_alone m) ≡ None =
-          ap (λ r. likely_for region_aliases (record { language = []; script = []; region = r })) region ∙ none_is (likely_for region_aliases (region_alone v)) facts.1 in
-          let again : add_likely likely_subtags (known_fields m) ≡ Some m = subst (λ x. add_likely likely_subtags (known_fields x) ≡ Some x) (sym same) plain.again in
-          canonical_added m m (canonical_stays m (no_language m (absent m.language none)) none_for) (ap (add_likely likely_subtags) (sym known_same) ∙ again)
+          grind (arith, nat_tests, canonical_is, region_stays, no_region, absent, filled-twice, or_other_absent, is_there, none_is, facts, canonical_added, canonical_stays, no_language, known_same)
 
   made_again : add_likely_subtags f ≡ Some m → add_likely_subtags (known_fields m) ≡ Some m
   made_again made = ap add_likely_subtags known_same ∙ either_way (is_there m.language) known_again (λ none. unknown_again none made)
@@ -368,9 +270,7 @@ module _ (f w : Fields) (are : AreKnown f) (is : add_likely likely_subtags (cano
       written there = or_other_there f.language v.language there ∙ sym (or_other_there f.language w.language there)
 
       unwritten : is_there f.language ≡ false → or_other f.language v.language ≡ or_other f.language w.language
-      unwritten none =
-          let c_none : is_there c.language ≡ false = ap (λ x. is_there x.language) (canonical_none f (absent f.language none)) ∙ ap is_there (region_keeps f).0 ∙ none in
-          ap (or_other f.language) (sym (or_other_absent c.language v.language c_none) ∙ ap (λ x. x.language) plain.filled_is)
+      unwritten none = grind (arith, canonical_none, absent, region_keeps, or_other_absent)
 
 -- what was added: fields whose language is not `und`
 pub record IsAddedTo (f m : Fields) : Type 0 where

@@ -93,36 +93,11 @@ module _ (m : Fields) (again : add_likely_subtags (known_fields m) ≡ Some m) w
   by_language one = grind (arith, sufficed m a one, language_back m.language)
 
   by_region : suffices m a ≡ false → suffices m b ≡ true → HasForm m b
-  by_region one two =
-      let h = sufficed m b two in
-      let l : h.form.language ≡ m.language = language_back m.language h.form.language h.v.language h.same.language (ap (λ f. f.language) (sym h.made)) in
-      let g : known (codes "ZZ") h.form.region ≡ b.region = known_back (codes "ZZ") m.region b.region h.form.region h.v.region refl h.same.region (ap (λ f. f.region) (sym h.made)) in
-      let settled : known_fields b ≡ b = rw (known_none (codes "Zzzz"), known_twice (codes "ZZ") m.region) refl in
-      let here : without_script (known_fields h.form) ≡ b = ap (λ l. record { language = l; script = []; region = known (codes "ZZ") h.form.region }) l ∙ ap (λ g. record { language = m.language; script = []; region = g }) g in
-      record {
-        form = h.form;
-        language = refl;
-        form_language = l;
-        is_form = ap add_likely_subtags settled ∙ h.is;
-        same = h.same;
-        fewest = rw (alone_same h.form h.same ∙ one, with_region_same h.form h.same ∙ two) here;
-      }
+  by_region one two = grind (arith, sufficed m b two, language_back m.language, known_back (codes "ZZ") m.region, known_none, known_twice, alone_same, with_region_same)
 
   by_script : suffices m a ≡ false → suffices m b ≡ false → suffices m c ≡ true → HasForm m c
   by_script one two three =
-      let h = sufficed m c three in
-      let l : h.form.language ≡ m.language = language_back m.language h.form.language h.v.language h.same.language (ap (λ f. f.language) (sym h.made)) in
-      let g : known (codes "Zzzz") h.form.script ≡ c.script = known_back (codes "Zzzz") m.script c.script h.form.script h.v.script refl h.same.script (ap (λ f. f.script) (sym h.made)) in
-      let settled : known_fields c ≡ c = rw (known_twice (codes "Zzzz") m.script, known_none (codes "ZZ")) refl in
-      let here : without_region (known_fields h.form) ≡ c = ap (λ l. record { language = l; script = known (codes "Zzzz") h.form.script; region = [] }) l ∙ ap (λ s. record { language = m.language; script = s; region = [] }) g in
-      record {
-        form = h.form;
-        language = refl;
-        form_language = l;
-        is_form = ap add_likely_subtags settled ∙ h.is;
-        same = h.same;
-        fewest = rw (alone_same h.form h.same ∙ one, with_region_same h.form h.same ∙ two, with_script_same h.form h.same ∙ three) here;
-      }
+      grind (arith, sufficed m c three, language_back m.language, known_back (codes "Zzzz") m.script, known_none, known_twice, alone_same, with_region_same, with_script_same)
 
   by_all : suffices m a ≡ false → suffices m b ≡ false → suffices m c ≡ false → HasForm m m
   by_all one two three = grind arith
@@ -175,10 +150,7 @@ record HasNone (r : Record) : Type 0 where
 
 none_is : (r : Record) → add_likely_subtags (fields_of r) ≡ None → HasNone r
 unfolding maximal_record minimal_record
-none_is r is = record {
-  max_is = ap (λ o. option_map_or (put_fields r) o r) is;
-  min_is = ap (λ o. option_map_or (put_fields r) (option_map least o) r) is;
-}
+none_is r is = grind arith
 
 -- it has likely subtags
 record HasMost (r : Record) : Type 0 where

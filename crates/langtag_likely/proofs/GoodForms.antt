@@ -1,5 +1,5 @@
 -- The maximal and the minimal record of a well-formed one are well-formed, and not much longer.
-use Rattle.std.proofs.Common.{◌≡◌, ℕ, ◌≤◌, true, Bool, cond, List, [], ◌∷◌, length, Option, None, Some, option_map, IfSome, IsTrue, refl, arith, rules, codes, ◌+◌, length-append}
+use Rattle.std.proofs.Common.{◌≡◌, ℕ, ◌≤◌, true, Bool, cond, List, [], ◌∷◌, length, Option, Some, option_map, IfSome, IsTrue, refl, arith, rules, codes, ◌+◌, length-append}
 use Rattle.std.proofs.lemmas.Bool.{and_parts}
 use Rattle.std.specs.List.{list_all, AllByRecursion}
 use Rattle.std.specs.Option.{option_map_or}
@@ -15,8 +15,8 @@ use Rattle.langtag_likely.specs.Likely.{Likely, likely_for, looked_up, or_else, 
 use Rattle.langtag.specs.Fields.{Fields}
 use Rattle.langtag_likely.specs.LikelySubtags.{likely_subtags}
 use Rattle.langtag_likely.specs.Aliases.{language_aliases, region_aliases}
-use Rattle.langtag_likely.specs.Matching.{language_replaced, region_alone, region_replaced, with_language_from, with_region_from}
-use Rattle.langtag_likely.specs.Maximal.{add_likely_subtags, canonical_fields, fields_of, language_field, least, put_fields, maximal_record, minimal_record, remove_likely_subtags, suffices}
+use Rattle.langtag_likely.specs.Matching.{language_replaced, region_alone, region_replaced}
+use Rattle.langtag_likely.specs.Maximal.{add_likely_subtags, canonical_fields, fields_of, language_field, least, put_fields, maximal_record, minimal_record, remove_likely_subtags}
 use Rattle.langtag.specs.Form.{IsForm}
 use Rattle.langtag_likely.proofs.AliasTables.{aliases_listed, region_aliases_listed}
 use Rattle.langtag_likely.proofs.FieldClasses.{from_extended, known_good}
@@ -56,8 +56,7 @@ filled-good f v gf gv = grind arith
 
 mapped-good : (change : Fields → Fields) (o : Option Fields) → ((f : Fields) → AreGood f → AreGood (change f)) → IfGood o → IfGood (option_map change o)
 unfolding IfGood
-mapped-good change None keeps go most is = absurd cc
-mapped-good change (Some f) keeps go most is = let same : change f ≡ most = cc in same-good (change f) most same (keeps f (go f refl))
+mapped-good change o keeps go = grind arith
 
 added-good : (f : Fields) → AreGood f → IfGood (add_likely likely_subtags f)
 added-good f good = mapped-good (filled f) (looked_up likely_subtags f) (λ v gv. filled-good f v good gv) (looked_up-good f)
@@ -66,24 +65,11 @@ added-good f good = mapped-good (filled f) (looked_up likely_subtags f) (λ v gv
 
 language-good : (f : Fields) → AreGood f → AreGood (language_replaced f)
 unfolding language_replaced
-language-good f good = by_row (likely_for language_aliases (language_alone f)) refl
-  where
-    by_row : (o : Option Fields) → likely_for language_aliases (language_alone f) ≡ o → AreGood (option_map_or (with_language_from f) o f)
-    by_row None none = good
-    by_row (Some to) is =
-        let row = row_good language_aliases (language_alone f) to aliases_listed.good is in
-        let both = filled-good f to good row in
-        record { language = row.language; script = both.script; region = both.region }
+language-good f good = grind (arith, row_good language_aliases (language_alone f), aliases_listed.good)
 
 region-good : (f : Fields) → AreGood f → AreGood (region_replaced f)
 unfolding region_replaced
-region-good f good = by_row (likely_for region_aliases (region_alone f)) refl
-  where
-    by_row : (o : Option Fields) → likely_for region_aliases (region_alone f) ≡ o → AreGood (option_map_or (with_region_from f) o f)
-    by_row None none = good
-    by_row (Some to) is =
-        let row = row_good region_aliases (region_alone f) to region_aliases_listed.rows_good is in
-        record { language = good.language; script = good.script; region = known_good is_region_field (codes "ZZ") to.region refl row.region }
+region-good f good = grind (arith, row_good region_aliases (region_alone f), region_aliases_listed.rows_good, known_good)
 
 likely_added-good : (f : Fields) → AreGood f → IfGood (add_likely_subtags f)
 unfolding add_likely_subtags
@@ -100,9 +86,7 @@ few-good :
 few-good a b c few most small good = grind arith
 
 least-good : (most : Fields) → AreGood most → AreGood (least most)
-least-good most good =
-    few-good (suffices most (language_alone (known_fields most))) (suffices most (without_script (known_fields most)))
-    (suffices most (without_region (known_fields most))) (known_fields most) most (known_fields-good most good) good
+least-good most good = few-good _ _ _ (known_fields most) most (known_fields-good most good) good
 
 -- ---- the fields of a tag
 

@@ -1,6 +1,6 @@
 -- The numbers of fields tell them apart but for case, and stand first at one place among numbers that climb.
-use Rattle.std.proofs.Common.{◌≡◌, ◌≢◌, ℕ, zero, suc, ◌<◌, true, cond, ltb, List, [], ◌∷◌, length, get_or, Option, None, Some, option_map, inl, inr, refl, sym, ap, ◌∙◌, arith, Bool, rules, Result, nat_cmp, map, ◌+◌, ◌*◌, ◌≤◌, ◌==◌, leb, ◌&&◌}
-use Rattle.std.proofs.lemmas.Bool.Decides.{eqb_tells, nat_tests}
+use Rattle.std.proofs.Common.{◌≡◌, ◌≢◌, ℕ, zero, suc, ◌<◌, true, ltb, List, [], ◌∷◌, length, get_or, None, Some, refl, sym, ap, ◌∙◌, arith, Bool, rules, Result, nat_cmp, map, ◌+◌, ◌*◌, ◌≤◌, ◌==◌, leb, ◌&&◌}
+use Rattle.std.proofs.lemmas.Bool.Decides.{nat_tests}
 use Rattle.std.proofs.lemmas.Bool.{ltb-true, eq-eqb, ne_eqb, true_from_ne_false, both_ways, and_parts}
 use Rattle.std.proofs.lemmas.List.Folds.{list_all_at}
 use Rattle.std.proofs.lemmas.List.Sorted.{searched}
@@ -9,7 +9,7 @@ use Rattle.std.specs.List.Sorted.{IsBinarySearchResult}
 use Rattle.std.specs.List.{list_all}
 use Rattle.std.specs.Option.{option_map_or}
 use Rattle.std.specs.Result.{result_ok}
-use Rattle.langtag_scan.specs.Case.{are_alike, folded_number}
+use Rattle.langtag_scan.specs.Case.{are_alike}
 use Rattle.langtag_scan.specs.Class.{are_letters, are_alphanumeric}
 use Rattle.langtag_scan.proofs.FoldedNumbers.{folded_number-tells}
 use Rattle.langtag_tables.specs.Numbers.{climbs_from}
@@ -45,30 +45,8 @@ pub record IsIndex (keys : List ℕ) (key i : ℕ) : Type 0 where
 
 pub first_index-is : (keys : List ℕ) (key i : ℕ) → first_index keys key ≡ Some i → IsIndex keys key i
 first_index-is [] key i is = absurd cc
-first_index-is (k ∷ keys) key i is =
-    elim (eqb_tells key k) [
-      | inl same ↦
-          let here : Some 0 ≡ Some i = sym (ap (λ b. cond b (Some 0) (option_map suc (first_index keys key))) same.0) ∙ is in
-          let zero_is : 0 ≡ i = cc in
-          by_zero i zero_is (sym same.1)
-      | inr other ↦
-          by_later (first_index keys key) (λ j found. first_index-is keys key j found)
-          (sym (ap (λ b. cond b (Some 0) (option_map suc (first_index keys key))) other.0) ∙ is)
-    ]
-  where
-    by_zero : (i : ℕ) → 0 ≡ i → k ≡ key → IsIndex (k ∷ keys) key i
-    by_zero zero z at = record { inside = omega arith; at = at }
-    by_zero (suc i) z at = absurd (omega (arith, z))
-
-    by_suc : (i j : ℕ) → suc j ≡ i → IsIndex keys key j → IsIndex (k ∷ keys) key i
-    by_suc zero j s at = absurd (omega (arith, s))
-    by_suc (suc i) j s at =
-        let same : j ≡ i = omega (arith, s) in
-        record { inside = omega (arith, same, at.inside); at = ap (λ n. get_or keys n 0) (sym same) ∙ at.at }
-
-    by_later : (o : Option ℕ) → ((j : ℕ) → o ≡ Some j → IsIndex keys key j) → option_map suc o ≡ Some i → IsIndex (k ∷ keys) key i
-    by_later None later is = absurd cc
-    by_later (Some j) later is = let s : suc j ≡ i = cc in by_suc i j s (later j refl)
+first_index-is (k ∷ keys) key zero is = grind (arith, nat_tests)
+first_index-is (k ∷ keys) key (suc i) is = grind (arith, nat_tests, first_index-is keys key i)
 
 -- ---- an index in a list of indices
 
@@ -97,38 +75,19 @@ column_good is_good names column found index all named inside is =
 
 -- ---- places
 
+index-bound : (keys : List ℕ) (n : ℕ) → option_map_or suc (first_index keys n) (suc (length keys)) ≤ suc (length keys)
+index-bound [] n = omega arith
+index-bound (k ∷ keys) n = grind (arith, index-bound keys n)
+
 place-bound : (keys text : List ℕ) → place keys text ≤ suc (length keys)
-place-bound keys [] = omega arith
-place-bound keys (b ∷ text) = by_option (first_index keys (folded_number (b ∷ text))) refl
-  where
-    by_option : (o : Option ℕ) → first_index keys (folded_number (b ∷ text)) ≡ o → option_map_or suc o (suc (length keys)) ≤ suc (length keys)
-    by_option None is = omega arith
-    by_option (Some i) is = let at = (first_index-is keys _ i is).inside in omega (arith, at)
+place-bound keys text = grind (arith, index-bound keys)
 
 -- two numbers, of which the first is in the list, have the same place where they are equal
 index-tells :
     (keys : List ℕ) (n m : ℕ) → option_map_or suc (first_index keys n) (suc (length keys)) ≤ length keys →
     (option_map_or suc (first_index keys m) (suc (length keys)) == option_map_or suc (first_index keys n) (suc (length keys))) ≡ (m == n)
-index-tells keys n m inside = by_first (first_index keys n) refl inside
-  where
-    by_second :
-        (i : ℕ) → get_or keys i 0 ≡ n → i < length keys → (m ≡ n → ⊥) → (o : Option ℕ) → first_index keys m ≡ o → option_map_or suc o (suc (length keys)) ≡ suc i → ⊥
-    by_second i at within other None is same = omega (arith, within, same)
-    by_second i at within other (Some j) is same =
-        let second = (first_index-is keys m j is).at in
-        let one : j ≡ i = omega (arith, same) in
-        other (sym second ∙ ap (λ k. get_or keys k 0) one ∙ at)
-
-    by_first :
-        (o : Option ℕ) → first_index keys n ≡ o → option_map_or suc o (suc (length keys)) ≤ length keys →
-        (option_map_or suc (first_index keys m) (suc (length keys)) == option_map_or suc o (suc (length keys))) ≡ (m == n)
-    by_first None is inside = absurd (omega (arith, inside))
-    by_first (Some i) is inside =
-        elim (eqb_tells m n) [
-          | inl same ↦ eq-eqb _ _ (ap (λ k. option_map_or suc (first_index keys k) (suc (length keys))) same.1 ∙ ap (λ o. option_map_or suc o (suc (length keys))) is) ∙ sym same.0
-          | inr other ↦
-              ne_eqb _ _ (λ same. by_second i (first_index-is keys n i is).at (first_index-is keys n i is).inside other.1 (first_index keys m) refl same) ∙ sym other.0
-        ]
+index-tells [] n m inside = absurd (omega (arith, inside))
+index-tells (k ∷ keys) n m inside = grind (arith, nat_tests, index-tells keys n m)
 
 pub place-tells :
     (keys a b : List ℕ) → are_alphanumeric a ≡ true → are_alphanumeric b ≡ true → place keys a ≤ length keys → (place keys b == place keys a) ≡ are_alike a b

@@ -1,10 +1,10 @@
 -- The tag of a POSIX locale's name: its parts, and its length.
-use Rattle.std.proofs.Common.{◌≡◌, ℕ, ◌+◌, ◌≤◌, true, false, Bool, cond, List, [], ◌∷◌, length, Option, None, Some, IsTrue, refl, arith, ◌||◌, codes, IfSome, MatchOption, Bor, IsUtf8, length-append}
+use Rattle.std.proofs.Common.{◌≡◌, ℕ, ◌+◌, ◌≤◌, true, Bool, cond, List, [], ◌∷◌, length, Option, None, Some, IsTrue, refl, arith, codes, IfSome, MatchOption, Bor, IsUtf8, length-append, sym, ap, ◌∙◌, subst, take, take_at}
 use Rattle.std.specs.Option.{option_map, option_or}
 use Rattle.std.proofs.lemmas.Str.{IsUtf8-from_ascii}
 use Rattle.std.proofs.lemmas.Bool.{and_parts}
 use Rattle.std.proofs.lemmas.Grind.{common_steps}
-use Rattle.langtag_scan.specs.Case.{are_alike, fold_byte}
+use Rattle.langtag_scan.specs.Case.{fold_byte}
 use Rattle.langtag_scan.specs.Class.{is_letter, is_digit, is_script, is_variant}
 use Rattle.langtag_scan.specs.Record.{EachRecord, Record, IsWellFormed, Spells, spell}
 use Rattle.langtag_scan.specs.Tag.{IsNormal, IsTag}
@@ -15,12 +15,12 @@ use Rattle.langtag.proofs.EditLaws.{script-replaces}
 use Rattle.langtag_place.specs.Text.{script_text}
 use Rattle.langtag_place.specs.declared.script.Script.{Script}
 use Rattle.langtag_place.specs.Variants.{IsVariants}
+use Rattle.langtag_output.specs.Writes.{Writes}
 use Rattle.langtag_likely.specs.declared.tables.TheConstants.{SCRIPT_NAMES}
 use Rattle.langtag_likely.specs.Scripts.{script_codes}
 use Rattle.langtag_likely.specs.Likely.{or_else}
 use Rattle.langtag.specs.Form.{IsForm}
 use Rattle.langtag_likely.specs.Modifiers.{is_script_code, modifier_script, modifier_variant}
-use Rattle.langtag_range.specs.Locale.{front_of}
 use Rattle.langtag_likely.specs.Posix.{modifier_of, posix_replaced, said_script, script_behind, with_said, with_said_script, with_said_variant}
 use Rattle.langtag_likely.proofs.PosixVariantLaws.{posix_well_formed}
 use Rattle.langtag_scan.proofs.Disjoint.{script_four}
@@ -48,46 +48,32 @@ scripts_are : IsTrue (is_script (codes "Latn")) × IsTrue (is_script (codes "Cyr
 unfolding is_script is_letter
 scripts_are = (refl, refl, refl)
 
+script_by :
+    (a b c d : Bool) (m : List ℕ) → (d ≡ true → IsTrue (is_script m)) →
+    IfSome (cond a (Some (codes "Latn")) (cond b (Some (codes "Cyrl")) (cond c (Some (codes "Deva")) (cond d (Some m) None)))) (λ s. IsTrue (is_script s))
+script_by a b c d m is = grind (arith, scripts_are)
+
 pub modifier_script-fits : (modifier : List ℕ) → IfSome (modifier_script modifier) (λ s. IsTrue (is_script s))
-modifier_script-fits modifier =
-    by_tests (are_alike (codes "latin") modifier || (are_alike (codes "iqtelif") modifier || are_alike (codes "ijekavianlatin") modifier)) (are_alike (codes "cyrillic") modifier)
-    (are_alike (codes "devanagari") modifier) (is_script_code modifier) (λ yes. (and_parts (is_script modifier) _ yes).0)
-  where
-    by_tests :
-        (a b c d : Bool) → (d ≡ true → IsTrue (is_script modifier)) →
-        IfSome (cond a (Some (codes "Latn")) (cond b (Some (codes "Cyrl")) (cond c (Some (codes "Deva")) (cond d (Some modifier) None)))) (λ s. IsTrue (is_script s))
-    by_tests true b c d is = scripts_are.0
-    by_tests false true c d is = scripts_are.1
-    by_tests false false true d is = scripts_are.2
-    by_tests false false false true is = is refl
-    by_tests false false false false is = tt
+modifier_script-fits modifier = script_by _ _ _ (is_script_code modifier) modifier (λ yes. (and_parts (is_script modifier) _ yes).0)
 
 variants_are : IsTrue (is_variant (codes "ijekavsk")) × IsTrue (is_variant (codes "tarask")) × IsTrue (is_variant (codes "valencia"))
 unfolding is_variant is_letter is_digit
 variants_are = (refl, refl, refl)
 
+variant_by : (a b c : Bool) → IfSome (cond a (Some (codes "ijekavsk")) (cond b (Some (codes "tarask")) (cond c (Some (codes "valencia")) None))) (λ v. IsTrue (is_variant v))
+variant_by a b c = grind (arith, variants_are)
+
 pub modifier_variant-fits : (modifier : List ℕ) → IfSome (modifier_variant modifier) (λ v. IsTrue (is_variant v))
-modifier_variant-fits modifier = by_tests (are_alike (codes "ijekavian") modifier || are_alike (codes "ijekavianlatin") modifier) (are_alike (codes "tarask") modifier) (are_alike (codes "valencia") modifier)
-  where
-    by_tests :
-        (a b c : Bool) → IfSome (cond a (Some (codes "ijekavsk")) (cond b (Some (codes "tarask")) (cond c (Some (codes "valencia")) None))) (λ v. IsTrue (is_variant v))
-    by_tests true b c = variants_are.0
-    by_tests false true c = variants_are.1
-    by_tests false false true = variants_are.2
-    by_tests false false false = tt
+modifier_variant-fits modifier = variant_by _ _ _
 
 behind-fits : (front : List ℕ) → IfSome (script_behind front) (λ s. IsTrue (is_script s))
 behind-fits front = grind arith
 
 or_else-fits : (a b : Option (List ℕ)) → IfSome a (λ s. IsTrue (is_script s)) → IfSome b (λ s. IsTrue (is_script s)) → IfSome (or_else a b) (λ s. IsTrue (is_script s))
-or_else-fits None b first second = second
-or_else-fits (Some s) b first second = first
+or_else-fits a b first second = grind arith
 
 pub said_script-fits : (name : List ℕ) → IfSome (said_script name) (λ s. IsTrue (is_script s))
-said_script-fits name =
-    let first = modifier_script-fits (modifier_of name) in
-    let behind = behind-fits (front_of name) in
-    or_else-fits (modifier_script (modifier_of name)) (script_behind (front_of name)) first behind
+said_script-fits name = grind (arith, common_steps, modifier_script-fits, behind-fits, or_else-fits)
 
 pub script_well_formed : (script : Option (List ℕ)) → IfSome script (λ s. IsTrue (is_script s)) → (r : Record) → IsWellFormed r → IsWellFormed (with_said_script script r)
 script_well_formed script is r fits = script_fits r fits script is
@@ -133,3 +119,9 @@ utf8_script text is = IsUtf8-from_ascii text (IsAscii-spelled text (text ∷ [])
 
 pub written_of : {N : Type 0} {W : ℕ → Type 0} (o : Option ℕ) → MatchOption o (N → ⊥) (λ len. N × W len) → N → (len : ℕ) × W len
 written_of o none named = grind arith
+
+-- ---- what was written with room for it
+
+pub written_cut :
+    (IsSo : List ℕ → Type 0) (before after : List ℕ) (len : ℕ) → Writes IsSo before after len → len ≤ length before → IsSo (take len after)
+written_cut IsSo before after len w room = subst IsSo (sym (ap (take len) (w.written room) ∙ take_at w.text _ len (sym w.whole))) w.is_so

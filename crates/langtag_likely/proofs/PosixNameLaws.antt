@@ -1,5 +1,5 @@
 -- The text of a name, and how `from_posix` reads it as the tag.
-use Rattle.std.proofs.Common.{◌≡◌, ℕ, ◌+◌, ◌≤◌, not, true, false, Bool, cond, suc, List, [], ◌∷◌, ◌++◌, length, drop, Option, None, Some, IfSome, refl, sym, ap, ◌∙◌, arith, flat_map, append_assoc, append-nil, unwrap_or}
+use Rattle.std.proofs.Common.{◌≡◌, ℕ, ◌+◌, ◌≤◌, not, true, false, Bool, cond, suc, List, [], ◌∷◌, ◌++◌, length, drop, Option, IfSome, refl, sym, ap, ◌∙◌, arith, flat_map, append_assoc, append-nil, unwrap_or}
 use Rattle.std.specs.List.{AllByRecursion, after_first, before_first, list_any, position_or_len}
 use Rattle.std.proofs.lemmas.Bool.{and_parts, or_parts}
 use Rattle.std.proofs.lemmas.Bool.Decides.{nat_tests}
@@ -36,9 +36,7 @@ abbrev pub tag_text : List ℕ → List ℕ → List ℕ → List ℕ → List �
 tag_text primary script region variants rest = primary ++ (marked 45 script ++ (marked 45 region ++ (marked 45 variants ++ rest)))
 
 hyphenated-one : (o : Option (List ℕ)) → IfSome o (λ s. 1 ≤ length s) → hyphenated (one_flat o) ≡ marked 45 (unwrap_or o [])
-hyphenated-one None some = refl
-hyphenated-one (Some []) some = absurd (omega (arith, some))
-hyphenated-one (Some (b ∷ s)) some = append-nil (45 ∷ (b ∷ s))
+hyphenated-one o h0 = grind (arith, nat_tests, append-nil)
 
 hyphenated-list : (ss : List (List ℕ)) → AllByRecursion (λ s. 1 ≤ length s) ss → hyphenated ss ≡ marked 45 (join ss)
 hyphenated-list [] all = refl
@@ -46,20 +44,7 @@ hyphenated-list ([] ∷ ss) all = absurd (let some = all.0 in omega (arith, some
 hyphenated-list ((b ∷ s) ∷ ss) all = ap (marked 45) (sym (join-hyphenated (b ∷ s) ss))
 
 pub spelled_text : (r : Record) → IsPlain r → spell r ≡ tag_text r.primary (unwrap_or r.script []) (unwrap_or r.region []) (join r.variants) (others r)
-spelled_text r plain =
-    let rest = flat_map extension_flat r.extensions ++ private_part_flat r.private_use in
-    let after_script = one_flat r.region ++ (r.variants ++ rest) in
-    join-hyphenated r.primary (r.extended ++ (one_flat r.script ++ after_script))
-    ∙ ap (λ t. r.primary ++ t) (
-    ap (λ es. hyphenated (es ++ (one_flat r.script ++ after_script))) plain.0
-    ∙ hyphenated-append (one_flat r.script) after_script
-    ∙ ap (λ t. hyphenated (one_flat r.script) ++ t) (
-    hyphenated-append (one_flat r.region) (r.variants ++ rest) ∙ ap (λ t. hyphenated (one_flat r.region) ++ t) (hyphenated-append r.variants rest)
-    )
-    ∙ ap (λ t. t ++ (hyphenated (one_flat r.region) ++ (hyphenated r.variants ++ hyphenated rest))) (hyphenated-one r.script plain.1)
-    ∙ ap (λ t. marked 45 (unwrap_or r.script []) ++ (t ++ (hyphenated r.variants ++ hyphenated rest))) (hyphenated-one r.region plain.2)
-    ∙ ap (λ t. marked 45 (unwrap_or r.script []) ++ (marked 45 (unwrap_or r.region []) ++ (t ++ hyphenated rest))) (hyphenated-list r.variants plain.3)
-    )
+spelled_text r plain = grind (arith, nat_tests, join-hyphenated, hyphenated, hyphenated-append, hyphenated-one, hyphenated-list)
 
 pub after_others : (r : Record) → after_variants r ≡ others r
 after_others r =
@@ -117,9 +102,7 @@ module _ (a b c : List ℕ) (first : are_alphanumeric a ≡ true) (second : are_
     none_marked (byte ∷ text) all = rw no_underscore (free_of p other (byte ∷ text) all)
 
     pub place_free : list_any p (place_text a b c) ≡ false
-    place_free =
-        list_any-append p a (marked 95 b ++ marked 95 c)
-        ∙ rw (free_of p other a first) (list_any-append p (marked 95 b) (marked 95 c) ∙ rw (none_marked b second) (none_marked c third))
+    place_free = grind (arith, nat_tests, list_any-append, free_of)
 
 -- ---- a text before and after a mark
 

@@ -30,6 +30,7 @@ impl<'a> PosixName<'a> {
     ghost use Rattle.langtag_likely.specs.ToPosix.{name_parts, name_text};
 
     /// Returns the parts of the name for a tag, or `None` if the tag has no name.
+    #[tactic(auto, unfolding(crate::specs::ToPosix::name_parts))]
     pub(crate) fn of(tag: NormalLangTag<'a>) -> Option<PosixName<'a>>
         ensures { EachRecord (normal_lang_tag_text tag.entry) (λ r. option_map posix_name_parts result ≡ name_parts r) }
     {

@@ -109,7 +109,6 @@ fn region_keys() -> &'static [u32]
     &tables::REGION_KEYS
 }
 
-#[tactic(auto, using(crate::proofs::TableRows::other_numbers, crate::proofs::TableRows::other_key_count))]
 fn other_keys() -> &'static [u32]
     ensures numbers { result.now ≡ map (λ row. key_number row.from) other_rows }
     ensures climbs { IsTrue (climbs_from 0 result.now) }

@@ -98,7 +98,6 @@ fn text_of(name: &'static [u8]) -> &'static str
     text
 }
 
-#[tactic(auto, using(crate::proofs::AliasTables::replacements_listed))]
 fn replacement_keys() -> &'static [u32]
     ensures numbers { result.now ≡ map (λ row. folded_number row.from.region) region_replacements }
     ensures climbs { IsTrue (climbs_from 0 result.now) }

@@ -1,7 +1,7 @@
 -- Identifiers that are equal but for case have forms that are.
 use Rattle.std.proofs.lemmas.Grind.{common_steps}
 use Rattle.std.proofs.Common.{arith}
-use Rattle.std.proofs.Common.{◌≡◌, ℕ, Bool, true, false, cond, List, [], ◌∷◌, ◌++◌, ◌&&◌, ◌||◌, map, fold, Option, find, option_map, unwrap_or, refl, sym, ap, subst, ◌∙◌}
+use Rattle.std.proofs.Common.{◌≡◌, ℕ, Bool, cond, List, [], ◌∷◌, ◌++◌, ◌&&◌, ◌||◌, map, fold, Option, find, option_map, unwrap_or, refl, sym, ap, subst, ◌∙◌}
 use Rattle.std.proofs.lemmas.List.{map-append}
 use Rattle.std.specs.List.{list_any}
 use Rattle.std.specs.Option.{is_some, option_map_or}
@@ -137,7 +137,7 @@ module _ (language other : List ℕ) (variants others : List (List ℕ)) (langua
   variant_form-alike : (v w : List ℕ) → Alike v w → Alike (variant_form language variants v) (variant_form other others w)
   unfolding variant_form
   variant_form-alike v w same =
-      by_same (λ s t. Alike (cond s [] (unwrap_or (replacement variants v) v)) (cond t [] (unwrap_or (replacement others w) w))) (λ b. by_test b) _ _ gone
+      grind (arith, common_steps, gone, or_same v w same _ _ same_new)
     where
       gone : is_gone language v ≡ is_gone other w
       gone =
@@ -149,10 +149,6 @@ module _ (language other : List ℕ) (variants others : List (List ℕ)) (langua
           ap (λ has. replaced_by (find (λ (a : TypeAlias). are_alike a.key v && has a.old) list.variant_pairs) v) (has-same variants others alike)
           ∙ ap (λ t. replaced_by (find (λ (a : TypeAlias). bytes_eq (fold_text a.key) t && has_variant others a.old) list.variant_pairs) v) same
           ∙ ap (or_else (option_map (λ (a : TypeAlias). a.new) (find (is_pair_of others w) list.variant_pairs))) (alias_for-alike list.variant_aliases v w same)
-
-      by_test : (b : Bool) → Alike (cond b [] (unwrap_or (replacement variants v) v)) (cond b [] (unwrap_or (replacement others w) w))
-      by_test true = refl
-      by_test false = or_same v w same _ _ same_new
 
   one-alike : (a b : List ℕ) → Alike a b → AreAlike (one_flat (subtag_of a)) (one_flat (subtag_of b))
   one-alike [] [] same = refl

@@ -1,9 +1,8 @@
 -- The form of a language identifier has a language, and maybe a script and a region.
-use Rattle.std.proofs.Common.{◌≡◌, ℕ, Bool, true, false, cond, List, [], ◌∷◌, ◌++◌, ◌&&◌, length, fold, Option, Some, None, option_map, unwrap_or, refl, sym, ap, ◌∙◌, append_assoc, arith}
+use Rattle.std.proofs.Common.{◌≡◌, ℕ, Bool, true, cond, List, [], ◌∷◌, ◌++◌, ◌&&◌, length, fold, Option, Some, None, unwrap_or, refl, sym, ap, ◌∙◌, append_assoc, arith}
 use Rattle.std.proofs.lemmas.Grind.{common_steps}
 use Rattle.std.proofs.lemmas.List.{length-map}
 use Rattle.std.specs.List.{flat_map, list_all}
-use Rattle.std.specs.Option.{option_map_or}
 use Rattle.std.specs.Prelude.{IfSome, IsTrue}
 use Rattle.langtag_case.proofs.RecommendedLaws.{recommended_alike}
 use Rattle.langtag_case.specs.RecommendedCase.{recommended_text}
@@ -14,7 +13,7 @@ use Rattle.langtag_likely.specs.Likely as likely
 use Rattle.langtag_likely.specs.Likely.{Likely, are_alike_fields, filled, language_alone, likely_for, looked_up, or_else, or_other}
 use Rattle.langtag.specs.Fields.{Fields, subtag_of}
 use Rattle.langtag_likely.specs.LikelySubtags.{language_rows, likely_subtags, other_rows}
-use Rattle.langtag_likely.specs.Matching.{language_replaced, region_alone, with_language_from}
+use Rattle.langtag_likely.specs.Matching.{language_replaced, region_alone}
 use Rattle.langtag_output.specs.Output.{with_subtag}
 use Rattle.langtag_output.proofs.Pushed.{with_joined}
 use Rattle.langtag_scan.proofs.NormalTexts.{spelled_once}
@@ -88,19 +87,7 @@ either_good good (b ∷ text) other one two = one
 
 replaced_subtags : (f : Fields) → AreSubtags f → AreSubtags (language_replaced f)
 unfolding language_replaced
-replaced_subtags f are = by_found (likely_for language_aliases (language_alone f)) refl
-  where
-    by_found : (o : Option Fields) → likely_for language_aliases (language_alone f) ≡ o → AreSubtags (option_map_or (with_language_from f) o f)
-    by_found None none = are
-    by_found (Some to) found =
-        let good = row_good are_subtags language_aliases (language_alone f) to languages_good found in
-        let parts = both (is_unicode_language to.language) (is_script_field to.script && is_region_field to.region) good in
-        let others = both (is_script_field to.script) (is_region_field to.region) parts.1 in
-        record {
-          language = parts.0;
-          script = either_good is_script_field f.script to.script are.script others.0;
-          region = either_good is_region_field f.region to.region are.region others.1;
-        }
+replaced_subtags f are = grind (arith, common_steps, row_good are_subtags language_aliases (language_alone f), languages_good, both, either_good)
 
 -- what holds of a language and of all new languages holds of the language after the aliases that fit
 pub fold_good :
@@ -109,11 +96,7 @@ pub fold_good :
 fold_good good variants [] language all is = is
 fold_good good variants (a ∷ aliases) language all is =
     let parts = both (good a.new) (list_all {X = TypeAlias} (λ alias. good alias.new) aliases) all in
-    fold_good good variants aliases (language_after variants language a) parts.1 (by_test (are_alike a.key language && has_variant variants a.old) parts.0)
-  where
-    by_test : (b : Bool) → good a.new ≡ true → good (cond b a.new language) ≡ true
-    by_test true new = new
-    by_test false new = is
+    fold_good good variants aliases (language_after variants language a) parts.1 (grind (arith, common_steps, parts.0, is))
 
 variant_subtags : (variants : List (List ℕ)) (f : Fields) → AreSubtags f → AreSubtags (form.variant_language variants f)
 unfolding form.variant_language
@@ -159,34 +142,16 @@ looked_up_good f =
 
 likely_region_good : (f : Fields) → is_region_field (form.likely_region f) ≡ true
 unfolding form.likely_region
-likely_region_good f = by_row (looked_up likely_subtags (form.language_and_script f)) refl
-  where
-    by_row :
-        (o : Option Fields) → looked_up likely_subtags (form.language_and_script f) ≡ o →
-        is_region_field (option_map_or (λ most. most.region) (option_map (filled (form.language_and_script f)) o) []) ≡ true
-    by_row None none = refl
-    by_row (Some to) found = looked_up_good (form.language_and_script f) to found
+likely_region_good f = grind (arith, common_steps, looked_up_good (form.language_and_script f))
 
 new_region_good : (f : Fields) → AreSubtags f → is_region_field (form.new_region f) ≡ true
 unfolding form.new_region
-new_region_good f are = by_row (likely_for region_replacements (region_alone f)) refl
-  where
-    by_heirs :
-        (o : Option (List ℕ)) → alias_for list.region_heirs f.region ≡ o →
-        is_region_field (unwrap_or (option_map (λ regions. form.heir (form.likely_region f) (segments regions)) o) f.region) ≡ true
-    by_heirs None none = are.region
-    by_heirs (Some regions) found =
-        heir_good is_region_field (form.likely_region f) (segments regions) (λ has. likely_region_good f) refl
-        (found_good (λ text. list_all is_region_field (segments text)) (λ alias. are_alike alias.old f.region) list.region_heirs regions region_heirs_good found)
-
-    by_row :
-        (o : Option Fields) → likely_for region_replacements (region_alone f) ≡ o →
-        is_region_field
-        (unwrap_or (or_else (option_map (λ to. to.region) o) (option_map (λ regions. form.heir (form.likely_region f) (segments regions)) (alias_for list.region_heirs f.region)))
-        f.region)
-        ≡ true
-    by_row None none = by_heirs (alias_for list.region_heirs f.region) refl
-    by_row (Some to) found = row_good (λ to. is_region_field to.region) region_replacements (region_alone f) to regions_good found
+new_region_good f are =
+    let heir_fits : (regions : List ℕ) → alias_for list.region_heirs f.region ≡ Some regions → is_region_field (form.heir (form.likely_region f) (segments regions)) ≡ true =
+    λ regions found.
+    heir_good is_region_field (form.likely_region f) (segments regions) (λ has. likely_region_good f) refl
+    (found_good (λ text. list_all is_region_field (segments text)) (λ (alias : Alias). are_alike alias.old f.region) list.region_heirs regions region_heirs_good found) in
+    grind (arith, common_steps, are.region, heir_fits, row_good (λ to. is_region_field to.region) region_replacements (region_alone f), regions_good)
 
 region_subtags : (f : Fields) → AreSubtags f → AreSubtags (form.with_new_region f)
 unfolding form.with_new_region
@@ -194,11 +159,7 @@ region_subtags f are = other_region-subtags f _ are (new_region_good f are)
 
 script_subtags : (f : Fields) → AreSubtags f → AreSubtags (form.with_new_script f)
 unfolding form.with_new_script
-script_subtags f are = record { language = are.language; script = by_found (alias_for list.script_aliases f.script) refl; region = are.region }
-  where
-    by_found : (o : Option (List ℕ)) → alias_for list.script_aliases f.script ≡ o → is_script_field (unwrap_or o f.script) ≡ true
-    by_found None none = are.script
-    by_found (Some new) found = found_good is_script_field (λ alias. are_alike alias.old f.script) list.script_aliases new scripts_good found
+script_subtags f are = record { language = are.language; script = grind (arith, common_steps, are.script, found_good is_script_field, scripts_good); region = are.region }
 
 pub form_subtags : (variants : List (List ℕ)) (f : Fields) → AreSubtags f → AreSubtags (identifier_form variants f)
 unfolding identifier_form

@@ -2,17 +2,17 @@
 use Rattle.std.proofs.Common.{rules}
 use Rattle.std.proofs.lemmas.Grind.{common_steps}
 use Rattle.std.proofs.Common.{arith}
-use Rattle.std.proofs.Common.{◌≡◌, ℕ, Bool, true, false, not, cond, List, [], ◌∷◌, ◌&&◌, ◌||◌, fold, Option, Some, None, find, unwrap_or, refl, sym, ap, ◌∙◌}
+use Rattle.std.proofs.Common.{◌≡◌, ℕ, Bool, true, false, not, cond, List, [], ◌∷◌, ◌&&◌, ◌||◌, fold, Option, Some, None, find, refl, sym, ap, ◌∙◌}
 use Rattle.std.proofs.lemmas.Bool.{cond_both, false_from_ne_true, false≢true, not-true, or_parts}
 use Rattle.std.specs.List.{AllByRecursion, list_all}
-use Rattle.std.specs.Option.{is_none, is_some, option_map_or}
+use Rattle.std.specs.Option.{is_none, is_some}
 use Rattle.std.specs.Prelude.{IsTrue, codes}
 use Rattle.langtag_likely.proofs.AlikeFields.{likely_for-alike}
 use Rattle.langtag.proofs.Alike.{are_alike-left, are_alike-right}
 use Rattle.langtag_likely.specs.Aliases.{language_aliases, region_replacements}
 use Rattle.langtag_likely.specs.Likely.{language_alone, likely_for}
 use Rattle.langtag.specs.Fields.{Fields, subtag_of}
-use Rattle.langtag_likely.specs.Matching.{language_replaced, region_alone, with_language_from}
+use Rattle.langtag_likely.specs.Matching.{language_replaced, region_alone}
 use Rattle.langtag_scan.proofs.SubtagLists.{each-append, each_from_test}
 use Rattle.langtag_scan.specs.Case.{Alike, are_alike}
 use Rattle.langtag_scan.specs.CaseLaws.{are_alike-decides}
@@ -60,11 +60,7 @@ all_weaker good fair leads (x ∷ xs) all =
 -- what holds of texts holds of one that is alike one of them
 pub among : (P : List ℕ → Type 0) → ((a b : List ℕ) → Alike b a → P a → P b) → (ws : List (List ℕ)) → AllByRecursion P ws → (x : List ℕ) → has_variant ws x ≡ true → P x
 among P alike [] all x has = absurd (false≢true has)
-among P alike (w ∷ ws) all x has = by_test (are_alike x w) refl (among P alike ws all.1 x) has
-  where
-    by_test : (b : Bool) → are_alike x w ≡ b → (has_variant ws x ≡ true → P x) → (b || has_variant ws x) ≡ true → P x
-    by_test true same later has = alike w x ((are_alike-decides x w).0 same) all.0
-    by_test false other later has = later has
+among P alike (w ∷ ws) all x has = grind (arith, common_steps, among P alike ws all.1 x, are_alike-decides x w, alike w x, all.0)
 
 -- ---- variants that stay
 
@@ -93,11 +89,7 @@ forms-stay language variants (v ∷ vs) =
 
 pub replaced-last : (f : Fields) → is_last_language (language_replaced f).language ≡ true
 unfolding language_replaced
-replaced-last f = by_found (likely_for language_aliases (language_alone f)) refl
-  where
-    by_found : (o : Option Fields) → likely_for language_aliases (language_alone f) ≡ o → is_last_language (option_map_or (with_language_from f) o f).language ≡ true
-    by_found None none = ap is_none none
-    by_found (Some to) found = row_good (λ to. is_last_language to.language) language_aliases (language_alone f) to replaced_last found
+replaced-last f = grind (arith, common_steps, row_good (λ to. is_last_language to.language) language_aliases (language_alone f), replaced_last)
 
 pub sign-good : (good : List ℕ → Bool) (f : Fields) → list_all {X = Alias} (λ alias. good alias.new) list.sign_languages ≡ true → good f.language ≡ true → good (form.sign_language f).language ≡ true
 sign-good good f all is = sign_cases (λ x. good x.language ≡ true) f (λ none. is) (λ new found. sign_found good f new all found)
@@ -162,8 +154,4 @@ pub sign-region : (f : Fields) → is_last_region f.region ≡ true → is_last_
 sign-region f is = sign_cases (λ x. is_last_region x.region ≡ true) f (λ none. is) (λ new found. no_region_last)
 
 pub new_script-last : (f : Fields) → is_last_script (form.new_script f) ≡ true
-new_script-last f = by_found (alias_for list.script_aliases f.script) refl
-  where
-    by_found : (o : Option (List ℕ)) → alias_for list.script_aliases f.script ≡ o → is_last_script (unwrap_or o f.script) ≡ true
-    by_found None none = ap is_none none
-    by_found (Some new) found = found_good is_last_script (λ (alias : Alias). are_alike alias.old f.script) list.script_aliases new scripts_last found
+new_script-last f = grind (arith, common_steps, found_good is_last_script (λ (alias : Alias). are_alike alias.old f.script) list.script_aliases, scripts_last)

@@ -1,13 +1,11 @@
 -- The form of a Unicode locale identifier repeats no variant and no singleton, and its `u` is allowed.
 use Rattle.std.proofs.lemmas.Grind.{common_steps}
 use Rattle.std.proofs.Common.{arith}
-use Rattle.std.proofs.Common.{◌≡◌, ℕ, true, false, not, ◌||◌, ◌==◌, List, [], ◌∷◌, ◌++◌, map, Option, Some, None, refl, ap, ◌∙◌, eqb-true}
+use Rattle.std.proofs.Common.{◌≡◌, ℕ, true, false, not, ◌||◌, ◌==◌, List, [], ◌∷◌, map, Some, refl, ap, ◌∙◌, eqb-true}
 use Rattle.std.proofs.lemmas.Bool.{not-true}
 use Rattle.std.specs.Prelude.{IsTrue}
 use Rattle.std.specs.List.{AllByRecursion, flat_map, list_all}
-use Rattle.std.specs.Option.{option_map_or}
 use Rattle.langtag.specs.Repeat.{are_alike_bytes}
-use Rattle.langtag_extension.specs.Spelling.{find_extension}
 use Rattle.langtag.specs.Fields.{Fields}
 use Rattle.langtag_likely.specs.Matching.{language_replaced}
 use Rattle.langtag_scan.proofs.SubtagLists.{each-append}
@@ -49,29 +47,13 @@ module _ (es : List Extension) where
   others-apart s n same [] all = tt
   others-apart s n same (m ∷ ms) all =
       let parts = both (not (fold_byte m == fold_byte n)) (list_all (λ m. not (fold_byte m == fold_byte n)) ms) all in
-      by_found (find_extension m es) refl (not-true _ parts.0) (others-apart s n same ms parts.1)
-    where
-      by_found :
-          (o : Option Extension) → find_extension m es ≡ o → (fold_byte m == fold_byte n) ≡ false → AllByRecursion (λ y. are_alike_bytes y s ≡ false) (bytes ms) →
-          AllByRecursion (λ y. are_alike_bytes y s ≡ false) (map (λ e. e.singleton) (option_map_or (λ e. locale_extension_form e ∷ []) o [] ++ flat_map (extension_at es) ms))
-      by_found None none other later = later
-      by_found (Some e) found other later = (
-        ap (λ b. b == fold_byte s) (form_singleton e ∙ eqb-true _ _ (found_is _ es e found)) ∙ ap (λ b. fold_byte m == b) same ∙ other,
-        later,
-      )
+      grind (arith, common_steps, others-apart s n same ms parts.1, not-true, parts.0, form_singleton, eqb-true, found_is)
 
   bytes-apart : (ns : List ℕ) → are_apart ns ≡ true → Apart are_alike_bytes (bytes ns)
   bytes-apart [] all = tt
   bytes-apart (n ∷ ns) all =
       let parts = both (list_all (λ m. not (fold_byte m == fold_byte n)) ns) (are_apart ns) all in
-      by_found (find_extension n es) refl parts.0 (bytes-apart ns parts.1)
-    where
-      by_found :
-          (o : Option Extension) → find_extension n es ≡ o → list_all (λ m. not (fold_byte m == fold_byte n)) ns ≡ true → Apart are_alike_bytes (bytes ns) →
-          Apart are_alike_bytes (map (λ e. e.singleton) (option_map_or (λ e. locale_extension_form e ∷ []) o [] ++ flat_map (extension_at es) ns))
-      by_found None none others later = later
-      by_found (Some e) found others later =
-          (others-apart (locale_extension_form e).singleton n (form_singleton e ∙ eqb-true _ _ (found_is _ es e found)) ns others, later)
+      grind (arith, common_steps, bytes-apart ns parts.1, parts.0, form_singleton, eqb-true, found_is, others-apart)
 
   singletons_apart : are_apart singletons ≡ true
   unfolding fold_byte

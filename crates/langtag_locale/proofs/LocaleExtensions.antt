@@ -133,11 +133,6 @@ flat_of_each es (b ∷ bytes) = flat_map-append extension_flat (extension_at es 
 -- each of the bytes is a singleton
 pub each_singleton : (k : ℕ) → k < length singletons → is_singleton (get_or singletons k 0) ≡ true
 unfolding class.is_singleton class.is_letter class.is_digit class.is_mark
-each_singleton k inside = by_test (is_singleton (get_or singletons k 0)) refl
-  where
-    all : list_all is_singleton singletons ≡ true
-    all = refl
-
-    by_test : (b : Bool) → is_singleton (get_or singletons k 0) ≡ b → is_singleton (get_or singletons k 0) ≡ true
-    by_test true is = is
-    by_test false is = absurd (false≢true (sym (list_all_at is_singleton singletons k 0 inside is) ∙ all))
+each_singleton k inside =
+    let all : list_all is_singleton singletons ≡ true = refl in
+    grind (arith, common_steps, all, list_all_at is_singleton singletons k 0 inside, false≢true)

@@ -10,7 +10,7 @@ use Rattle.langtag.specs.Fields.{Fields}
 use Rattle.langtag_scan.proofs.SubtagLists.{each_from_test, test_from_each}
 use Rattle.langtag_scan.specs.Case.{are_alike, fold_byte}
 use Rattle.langtag_scan.specs.Record.{Extension, IsWellFormed, IsWellFormedExtension, Record}
-use Rattle.langtag_keyword.specs.Form.{are_different_variants, are_fields, is_language_or_none, is_of, is_transform, is_unicode_language, unicode_form}
+use Rattle.langtag_keyword.specs.Form.{are_different_variants, are_fields, is_language_or_none, is_of, is_transform, is_unicode_language}
 use Rattle.langtag_keyword.specs.Keywords.{before_key}
 use Rattle.langtag_locale.specs.Locale.{is_locale_extension, is_locale_record, is_unicode_subtag}
 use Rattle.langtag_registry.specs.Canonical.{singletons}
@@ -22,7 +22,7 @@ use Rattle.langtag_locale.proofs.IdentifierForms.{form_subtags, record_subtags}
 use Rattle.langtag_locale.proofs.IdentifierTwice.{identifier_form-twice, new_variants-twice}
 use Rattle.langtag_locale.proofs.LocaleAgain.{new_variants-apart, singletons-apart, unicode_form-may}
 use Rattle.langtag_unicode.proofs.Apart.{none_repeated}
-use Rattle.langtag_locale.proofs.LocaleExtensions.{locale_form_by, locale_form_tested, transform_allowed}
+use Rattle.langtag_locale.proofs.LocaleExtensions.{locale_form_tested, transform_allowed}
 use Rattle.langtag_locale.proofs.LocaleRecords.{all_allowed, new_variants_good}
 use Rattle.langtag_unicode.proofs.IdentifierParts.{different_variants, fields_good}
 use Rattle.langtag_keyword.proofs.Found.{both, found_has}
@@ -66,13 +66,8 @@ unicode_allowed e one allowed = sym (ap (λ x. cond x (list_all is_unicode_subta
 
 form-allowed : (e : Extension) → IsWellFormedExtension e → is_locale_extension e ≡ true → is_locale_extension (locale_extension_form e) ≡ true
 unfolding fold_byte
-form-allowed e fits allowed = ap is_locale_extension (locale_form_tested _ _ e refl refl) ∙ by_tests (is_of 117 e) (is_of 116 e) refl refl
-  where
-    by_tests : (a b : Bool) → is_of 117 e ≡ a → is_of 116 e ≡ b → is_locale_extension (locale_form_by a b e) ≡ true
-    by_tests true b one two =
-        test_from_each is_unicode_subtag (unicode_form e.subtags) (unicode_form-may e.subtags fits.subtags (each_from_test is_unicode_subtag e.subtags (unicode_allowed e one allowed)))
-    by_tests false true one two = let is = transform_allowed e one two allowed in with-allowed transform_language_form e.subtags fits.subtags is (start-is_form e.subtags is)
-    by_tests false false one two = allowed
+form-allowed e fits allowed =
+    grind (arith, common_steps, locale_form_tested (is_of 117 e) (is_of 116 e) e refl refl, unicode_allowed e, unicode_form-may e.subtags fits.subtags, each_from_test, test_from_each, transform_allowed e, with-allowed transform_language_form e.subtags fits.subtags, start-is_form e.subtags)
 
 forms-allowed :
     (es : List Extension) → AllByRecursion IsWellFormedExtension es → list_all is_locale_extension es ≡ true → (ns : List ℕ) → list_all is_locale_extension (flat_map (extension_at es) ns) ≡ true

@@ -1,7 +1,7 @@
 -- The form of a Unicode locale identifier is its own form, and alike identifiers have the same form.
 use Rattle.std.proofs.lemmas.Grind.{common_steps}
 use Rattle.std.proofs.Common.{arith}
-use Rattle.std.proofs.Common.{◌≡◌, ℕ, Bool, true, false, cond, ◌==◌, List, [], ◌∷◌, Option, None, Some, option_map, unwrap_or, refl, sym, ap, subst, ◌∙◌}
+use Rattle.std.proofs.Common.{◌≡◌, ℕ, true, cond, ◌==◌, List, [], ◌∷◌, Option, None, Some, option_map, unwrap_or, refl, sym, ap, ◌∙◌}
 use Rattle.std.specs.List.{AllByRecursion, flat_map, list_all, list_any}
 use Rattle.std.specs.Option.{option_map_or}
 use Rattle.std.specs.Prelude.{find}
@@ -22,7 +22,7 @@ use Rattle.langtag_locale.proofs.IdentifierForms.{form_is}
 use Rattle.langtag_locale.proofs.IdentifierTwice.{identifier_form-twice, new_variants-twice}
 use Rattle.langtag_locale.proofs.LocaleAgain.{form_singleton}
 use Rattle.langtag_locale.proofs.LocaleCase.{locale-alike, text-alike}
-use Rattle.langtag_locale.proofs.LocaleExtensions.{locale_form_by, locale_form_tested, transform_allowed}
+use Rattle.langtag_locale.proofs.LocaleExtensions.{locale_form_tested, transform_allowed}
 use Rattle.langtag_locale.proofs.LocaleRecords.{all_allowed, locale_well_formed}
 use Rattle.langtag_locale.proofs.LocaleSettled.{locale_settled, start-is_form}
 use Rattle.langtag_keyword.proofs.Found.{both, found_has, found_is}
@@ -47,15 +47,8 @@ all_singletons = refl
 
 extension-own : (e : Extension) → IsWellFormedExtension e → is_locale_extension e ≡ true → locale_extension_form (locale_extension_form e) ≡ locale_extension_form e
 unfolding fold_byte
-extension-own e fits allowed = subst (λ x. locale_extension_form x ≡ x) (sym (locale_form_tested _ _ e refl refl)) (by_tests (is_of 117 e) (is_of 116 e) refl refl)
-  where
-    by_tests : (a b : Bool) → is_of 117 e ≡ a → is_of 116 e ≡ b → locale_extension_form (locale_form_by a b e) ≡ locale_form_by a b e
-    by_tests true b one two = ap (λ ss. record { singleton = 117; subtags = ss }) (unicode-twice e.subtags fits.subtags)
-    by_tests false true one two =
-        let is = transform_allowed e one two allowed in
-        ap (λ ss. record { singleton = 116; subtags = ss })
-        (with-twice transform_language_form e.subtags fits.subtags is (start-is_form e.subtags is))
-    by_tests false false one two = locale_form_tested false false e one two
+extension-own e fits allowed =
+    grind (arith, common_steps, locale_form_tested (is_of 117 e) (is_of 116 e) e refl refl, unicode-twice e.subtags fits.subtags, transform_allowed e, with-twice transform_language_form e.subtags fits.subtags, start-is_form e.subtags)
 
 module _ (es : List Extension) (fits : AllByRecursion IsWellFormedExtension es) (allowed : list_all is_locale_extension es ≡ true) where
   at-own : (n : ℕ) → list_any (λ m. fold_byte m == fold_byte n) singletons ≡ true → extension_at (extensions_in_order es) n ≡ extension_at es n

@@ -1,12 +1,9 @@
--- The forms of variants: those of which none is left out, in order.
-use Rattle.std.proofs.Common.{◌≡◌, ℕ, Bool, true, false, ◌&&◌, List, [], ◌∷◌, ◌++◌, Option, Some, refl, ap, ◌∙◌, arith}
-use Rattle.std.proofs.lemmas.Bool.{false≢true}
+-- The forms of variants are variants.
+use Rattle.std.proofs.Common.{◌≡◌, ℕ, true, List, [], ◌∷◌, refl, arith}
 use Rattle.std.specs.List.{AllByRecursion, list_all}
 use Rattle.std.proofs.lemmas.Bool.Decides.{nat_tests}
 use Rattle.langtag.specs.Fields.{subtag_of}
-use Rattle.langtag_scan.specs.Case.{fold_text}
 use Rattle.langtag_scan.specs.Record.{one_flat}
-use Rattle.langtag_keyword.specs.Alphabet.{is_after, is_before_best, is_better}
 use Rattle.langtag_locale.specs.LocaleForm.{forms, variant_form}
 use Rattle.langtag_locale.specs.LocaleAliases as list
 use Rattle.langtag_locale.proofs.LocaleTables.{found_good}
@@ -16,30 +13,7 @@ use Rattle.langtag_scan.proofs.SubtagLists.{each-append}
 use Rattle.langtag_scan.specs.Class as class
 use Rattle.langtag_scan.specs.Class.{is_variant}
 use Rattle.langtag_keyword.specs.Alias.{Alias, TypeAlias}
-use Rattle.langtag_keyword.proofs.AlphabetLaws.{better, better-early, better-late, better-taken, found, found-next}
-use Rattle.langtag_keyword.proofs.Found.{both, found_has}
-
--- a form that is better than the best one
-pub better_found :
-    (last best : Option (List ℕ)) (form : List ℕ) (ss : List (List ℕ)) → is_better form last best ≡ true →
-    found last best (one_flat (subtag_of form) ++ ss) ≡ found last (Some (fold_text form)) ss
-better_found last best [] ss is = absurd (false≢true is)
-better_found last best (b ∷ form) ss is =
-    let (after, before) = both (is_after (fold_text (b ∷ form)) last) (is_before_best (fold_text (b ∷ form)) best) is in
-    found-next last best (b ∷ form) ss ∙ ap (λ o. found last o ss) (better-taken last best (fold_text (b ∷ form)) after before)
-
--- a form that is not
-pub other_passed :
-    (last best : Option (List ℕ)) (form : List ℕ) (ss : List (List ℕ)) → is_better form last best ≡ false → found last best (one_flat (subtag_of form) ++ ss) ≡ found last best ss
-other_passed last best [] ss worse = refl
-other_passed last best (b ∷ form) ss worse =
-    found-next last best (b ∷ form) ss ∙ ap (λ o. found last o ss) (by_after (is_after (fold_text (b ∷ form)) last) refl worse)
-  where
-    by_after : (t : Bool) → is_after (fold_text (b ∷ form)) last ≡ t → (t && is_before_best (fold_text (b ∷ form)) best) ≡ false → better last (fold_text (b ∷ form)) best ≡ best
-    by_after true after late = better-late last best (fold_text (b ∷ form)) late
-    by_after false early late = better-early last best (fold_text (b ∷ form)) early
-
--- ---- they are variants
+use Rattle.langtag_keyword.proofs.Found.{found_has}
 
 pairs_good : list_all {X = TypeAlias} (λ alias. is_variant alias.new) list.variant_pairs ≡ true
 unfolding list.variant_pairs class.is_variant class.is_letter class.is_digit

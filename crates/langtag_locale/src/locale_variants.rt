@@ -1,15 +1,14 @@
 //! The variants in the form of a Unicode locale identifier (UTS #35, part 1, Annex C).
-ghost use Rattle.std.specs.Prelude.{◌≡◌, IsTrue, List, false, find, map, ℕ};
+ghost use Rattle.std.specs.Prelude.{◌≡◌, ◌≤◌, IsTrue, List, false, find, map, ℕ};
 ghost use Rattle.std.specs.List.{AllByRecursion, list_any};
 ghost use Rattle.std.specs.Option.{option_map};
 ghost use Rattle.langtag.specs.Fields.{subtag_of};
 ghost use Rattle.langtag_output.specs.Output.{Pushes};
 ghost use Rattle.langtag_scan.proofs.SubtagFacts.{IsSubtag};
-ghost use Rattle.langtag_scan.specs.Case.{are_alike, fold_text};
+ghost use Rattle.langtag_scan.specs.Case.{are_alike};
 ghost use Rattle.langtag_scan.specs.Class.{is_variant};
 ghost use Rattle.langtag_scan.specs.Record.{one_flat};
 ghost use Rattle.langtag_scan.specs.Subtags.{segments_left};
-ghost use Rattle.langtag_keyword.specs.Alphabet as order;
 ghost use Rattle.langtag_keyword.specs.Least.{IsOffered, order_number};
 ghost use Rattle.langtag_unicode.proofs.IdentifierParts.{AreVariants};
 ghost use Rattle.langtag_locale.specs.LocaleAliases as list;
@@ -18,8 +17,8 @@ ghost use Rattle.langtag_locale.specs.LocaleForm as spec;
 use crate::locale_tables as tables;
 use langtag::case_insensitive_eq;
 use langtag_keyword::{
-    LeastNumbers, alias_for, are_few, is_after, is_among, is_before_best, order_number,
-    push_lowercase, split_first, type_alias_for,
+    FEW, LeastNumbers, MANY, alias_for, are_few, is_among, order_number, push_numbers, split_first,
+    type_alias_for,
 };
 use langtag_output::Output;
 
@@ -29,28 +28,35 @@ pub(crate) fn push_variants(out: &mut Output<'_>, language: &[u8], variants: Opt
     ensures { Pushes (spec.variants_form language.now (segments_left variants.entry)) out.old out.new }
 {
     if are_few(variants) {
-        return push_few(out, language, variants);
+        return push_with_room::<FEW>(out, language, variants);
     }
-    push_many(out, language, variants);
+    push_with_room::<MANY>(out, language, variants);
 }
 
-/// Appends what [`push_variants`] appends. Each walk over the variants finds the next 512 forms, or more.
-// This function is not inlined, so that callers with few variants do not use its stack.
+/// Appends what [`push_variants`] appends. Each walk over the variants finds the next `ROOM / 2` forms, or more.
+// This function is not inlined, so that callers with few variants do not use the stack that many take.
 #[inline(never)]
-fn push_many(out: &mut Output<'_>, language: &[u8], variants: Option<&str>)
-    requires { AreVariants (segments_left variants) }
+fn push_with_room<const ROOM: usize>(out: &mut Output<'_>, language: &[u8], variants: Option<&str>)
+    requires room { (2 ≤ ROOM) × (ROOM ≤ 1024) }
+    requires variants { AreVariants (segments_left variants) }
     ensures { Pushes (spec.variants_form language.now (segments_left variants.entry)) out.old out.new }
 {
-    let mut least = LeastNumbers::new();
+    let mut least = LeastNumbers::<ROOM>::new();
     let mut more = true;
     while more {
         offer_forms(&mut least, language, variants);
-        more = least.push_to(out);
+        least.sort();
+        push_numbers(out, least.kept());
+        more = least.advance();
     }
 }
 
 /// Offers the numbers of the forms of variants.
-fn offer_forms(least: &mut LeastNumbers, language: &[u8], variants: Option<&str>)
+fn offer_forms<const ROOM: usize>(
+    least: &mut LeastNumbers<ROOM>,
+    language: &[u8],
+    variants: Option<&str>,
+)
     requires { AreVariants (segments_left variants) }
     ensures { IsOffered (map order_number (spec.forms language.now (segments_left variants.entry) (segments_left variants.entry))) least.old least.new }
 {
@@ -63,7 +69,12 @@ fn offer_forms(least: &mut LeastNumbers, language: &[u8], variants: Option<&str>
 }
 
 /// Offers the number of the form of a variant, unless the variant is left out.
-fn offer_form(least: &mut LeastNumbers, language: &[u8], variants: Option<&str>, variant: &str)
+fn offer_form<const ROOM: usize>(
+    least: &mut LeastNumbers<ROOM>,
+    language: &[u8],
+    variants: Option<&str>,
+    variant: &str,
+)
     requires { IsTrue (is_variant variant.now) }
     ensures { IsOffered (map order_number (one_flat (subtag_of (spec.variant_form language.now (segments_left variants.entry) variant.now)))) least.old least.new }
 {
@@ -82,52 +93,13 @@ fn may_change(number: u64) -> bool
 }
 
 /// Offers the number of a form, unless the form is empty.
-fn offer_changed(least: &mut LeastNumbers, form: &str)
+fn offer_changed<const ROOM: usize>(least: &mut LeastNumbers<ROOM>, form: &str)
     requires { AllByRecursion IsSubtag (one_flat (subtag_of form.now)) }
     ensures { IsOffered (map order_number (one_flat (subtag_of form.now))) least.old least.new }
 {
     if !form.is_empty() {
         least.offer(order_number(form.as_bytes()));
     }
-}
-
-/// Appends what [`push_variants`] appends, in a time proportional to the square of the number of variants.
-fn push_few(out: &mut Output<'_>, language: &[u8], variants: Option<&str>)
-    ensures { Pushes (spec.variants_form language.now (segments_left variants.entry)) out.old out.new }
-{
-    let mut last = None;
-    while let Some(next) = first_form_after(language, variants, last) {
-        push_lowercase(out, next);
-        last = Some(next);
-    }
-}
-
-/// Returns the first form of a variant, in alphabetical order, that comes after `last`.
-fn first_form_after<'a>(
-    language: &[u8],
-    variants: Option<&'a str>,
-    last: Option<&str>,
-) -> Option<&'a str>
-    ensures { option_map (λ t. fold_text t.now) result ≡ order.first_after (option_map (λ t. fold_text t.now) last.entry) (spec.variants_form language.now (segments_left variants.entry)) }
-{
-    let mut best = None;
-    let mut rest = variants;
-    while let Some(text) = rest {
-        let (variant, others) = split_first(text);
-        let form = variant_form(language, variants, variant);
-        if is_better(form, last, best) {
-            best = Some(form);
-        }
-        rest = others;
-    }
-    best
-}
-
-/// Returns whether a form is not empty, comes after `last`, and comes before `best`.
-fn is_better(form: &str, last: Option<&str>, best: Option<&str>) -> bool
-    ensures { result ≡ order.is_better form.now (option_map (λ t. fold_text t.now) last.entry) (option_map (λ t. fold_text t.now) best.entry) }
-{
-    !form.is_empty() && is_after(form, last) && is_before_best(form, best)
 }
 
 /// Returns a variant, the variant that replaces it, or the empty string if it is left out.

@@ -1,6 +1,5 @@
 pub mod Elements
 pub mod Found
 pub mod FoundOnce
-pub mod Offsets
 pub mod Readings
 pub mod Stable

@@ -1,5 +1,5 @@
 //! The language ranges in an Accept-Language header (RFC 9110 section 12.5.4).
-ghost use Rattle.std.specs.Prelude.{◌≡◌, ℕ, List, Some, IsTrue, true, is_ok, IfOk, IfErr, map, slice_get};
+ghost use Rattle.std.specs.Prelude.{◌≡◌, List, IsTrue, true, is_ok, IfOk, IfErr, map};
 ghost use Rattle.langtag_match.specs.AcceptLanguage as spec;
 ghost use Rattle.langtag_range.specs.Element.{items};
 ghost use Rattle.langtag_match.specs.LookUp.{choice};
@@ -11,6 +11,7 @@ use crate::lookup::tag_for;
 use crate::weighted_range::WeightedRange;
 use langtag::LangTag;
 use langtag_range::is_empty_element;
+use langtag_scan::split_at_byte;
 use std::alloc::{AllocError, Global};
 use std::cmp::Reverse;
 
@@ -168,8 +169,10 @@ fn elements(alloc: Global, header: &str) -> Result<Vec<WeightedRange<'_>>, Accep
     ensures refused { IfErr result (spec.Refuses header.entry) }
 {
     let mut elements = Vec::new(alloc);
-    for (index, item) in header.split(',').enumerate() {
-        let item = item.as_bytes();
+    let mut left = header.as_bytes();
+    let mut index = 0;
+    while !left.is_empty() {
+        let (item, rest) = split_at_byte(left, b',');
         match element_at(item) {
             Ok(element) => elements.push(element.weighted).map_err(AllocError::from)?,
             Err(_) if is_empty_element(item) => {}
@@ -177,11 +180,13 @@ fn elements(alloc: Global, header: &str) -> Result<Vec<WeightedRange<'_>>, Accep
                 return Err(AcceptLanguageError::BadElement {
                     header,
                     index,
-                    offset: offset_of(header, index),
+                    offset: header.len() - left.len(),
                     part,
                 });
             }
         }
+        index += 1;
+        left = rest;
     }
     Ok(elements)
 }
@@ -191,22 +196,13 @@ fn good_elements(alloc: Global, header: &str) -> Result<Vec<WeightedRange<'_>>, 
     ensures { IfOk result (λ elements. map spec.reading elements.items ≡ spec.elements (items header.now)) }
 {
     let mut elements = Vec::new(alloc);
-    for item in header.split(',') {
-        if let Ok(element) = element_at(item.as_bytes()) {
+    let mut left = header.as_bytes();
+    while !left.is_empty() {
+        let (item, rest) = split_at_byte(left, b',');
+        if let Ok(element) = element_at(item) {
             elements.push(element.weighted).map_err(AllocError::from)?;
         }
+        left = rest;
     }
     Ok(elements)
-}
-
-/// Returns the offset in bytes of the item at an index.
-fn offset_of(header: &str, index: usize) -> usize
-    ensures { (item : List ℕ) → slice_get (items header.now) index ≡ Some item
-        → spec.StandsAt header.now item index result }
-{
-    header
-        .split(',')
-        .take(index)
-        .map(|item| item.len() + 1)
-        .sum()
 }

@@ -13,17 +13,16 @@ use Rattle.langtag_scan.specs.Tag.{IsNormal}
 use Rattle.langtag_scan.proofs.NormalTexts.{normal_or_not}
 use Rattle.langtag_scan.proofs.SpelledTexts.{subtags-spelled}
 use Rattle.langtag.specs.Edit.{with_region, with_script}
-use Rattle.langtag_likely.proofs.AddedTwice.{either_way}
-use Rattle.langtag_parent.specs.Parent.{IsParent, is_likely_script, likely_of, other_script, parent_of_region, parent_of_script, plain_parent, stated, usual_parent}
+use Rattle.langtag_parent.specs.Parent.{IsParent, other_script, parent_of_region, parent_of_script, plain_parent, stated, usual_parent}
 use Rattle.langtag_parent.specs.ParentLaws.{EndsWithin}
 use Rattle.langtag_parent.specs.ParentLocales.{parent_locales}
 use Rattle.langtag_parent.specs.Plain.{IsPlain}
 use Rattle.langtag_parent.specs.Rows.{row_for}
-use Rattle.langtag_parent.proofs.Cuts.{of_neither, of_region, of_script, plain_is}
+use Rattle.langtag_parent.proofs.Cuts.{plain_is}
 use Rattle.langtag_parent.proofs.ListedTags.{is_simple, record_of, simple_record, simple_spelled}
 use Rattle.langtag_parent.proofs.ListedParents.{is_one, no_other_script, parents}
 use Rattle.langtag_parent.proofs.OtherScript.{scripted}
-use Rattle.langtag_parent.proofs.ParentSteps.{some_or, step}
+use Rattle.langtag_parent.proofs.ParentSteps.{step}
 
 -- ---- the chain of a text that is known, without a look at the likely subtags
 
@@ -51,56 +50,29 @@ unfolding parent_locales row_for fold_byte is_primary is_script is_region is_let
 scripted_end = refl
 
 region_safe : (r : Record) (region : List ℕ) → r.extended ≡ [] → r.region ≡ Some region → is_safe r ≡ true → other_script r region ≡ None
-region_safe r region alone there safe = by_option r.script refl
-  where
-    by_option : (o : Option (List ℕ)) → r.script ≡ o → other_script r region ≡ None
-    by_option (Some script) is = rw is refl
-    by_option None is =
-        let one : is_one r.primary ≡ true = sym (rw (there, is) refl) ∙ safe in
-        rw (is, alone) (no_other_script r.primary region one)
+region_safe r region alone there safe = grind (arith, no_other_script)
 
 cut_region : (r : Record) (region : List ℕ) → r.region ≡ Some region → cut r ≡ Some (spell (with_region r None))
-cut_region r region there =
-    ap (λ o. option_map_or (λ region. Some (spell (with_region r None))) o (option_map_or (λ script. Some (spell (with_script r None))) r.script None)) there
+cut_region r region there = rw there refl
 
 cut_script : (r : Record) (own : List ℕ) → r.region ≡ None → r.script ≡ Some own → cut r ≡ Some (spell (with_script r None))
-cut_script r own none there =
-    ap (λ o. option_map_or (λ region. Some (spell (with_region r None))) o (option_map_or (λ script. Some (spell (with_script r None))) r.script None)) none
-    ∙ ap (λ o. option_map_or (λ script. Some (spell (with_script r None))) o None) there
+cut_script r own none there = rw (none, there) refl
 
 script_cut : (r : Record) (own parent : List ℕ) → r.region ≡ None → r.script ≡ Some own → parent_of_script r own ≡ Some parent → cut r ≡ Some parent
-script_cut r own parent none there is =
-    either_way (is_likely_script own (likely_of r.primary r.extended []))
-    (λ likely. let said : Some (spell (with_script r None)) ≡ Some parent = sym (rw likely refl) ∙ is in cut_script r own none there ∙ said)
-    (λ other. let never : None ≡ Some parent = sym (rw other refl) ∙ is in absurd cc)
+script_cut r own parent none there is = grind (arith, cut_script)
 
 region_cut : (r : Record) (region parent : List ℕ) → r.extended ≡ [] → is_safe r ≡ true → r.region ≡ Some region → parent_of_region r region ≡ Some parent → cut r ≡ Some parent
-region_cut r region parent alone safe there is =
-    let none = region_safe r region alone there safe in
-    let said : Some (spell (with_region r None)) ≡ Some parent = sym (rw none refl) ∙ is in cut_region r region there ∙ said
+region_cut r region parent alone safe there is = grind (arith, region_safe, cut_region)
 
 usual_cut : (r : Record) (parent : List ℕ) → r.extended ≡ [] → is_safe r ≡ true → usual_parent r ≡ Some parent → cut r ≡ Some parent
-usual_cut r parent alone safe is = elim (some_or r.region) [
-  | inr region ↦ region_cut r region.0 parent alone safe region.1 (sym (of_region r region.0 region.1) ∙ is)
-  | inl none ↦ elim (some_or r.script) [
-    | inr script ↦ script_cut r script.0 parent none script.1 (sym (of_script r script.0 none script.1) ∙ is)
-    | inl neither ↦ let never : None ≡ Some parent = sym (of_neither r none neither) ∙ is in absurd cc
-  ]
-]
+usual_cut r parent alone safe is = grind (arith, region_safe r)
 
 next_parent : (text parent : List ℕ) → is_simple text ≡ true → is_safe (record_of text) ≡ true → plain_parent (record_of text) ≡ Some parent → next_text text ≡ Some parent
 unfolding plain_parent
-next_parent text parent simple safe is =
-    let spells = simple_spelled text simple in
-    by_option (row_for parent_locales text) (sym (ap (λ t. option_map_or stated (row_for parent_locales t) (usual_parent (record_of text))) spells.1) ∙ is)
-  where
-    by_option : (o : Option (List ℕ)) → option_map_or stated o (usual_parent (record_of text)) ≡ Some parent → option_map_or stated o (cut (record_of text)) ≡ Some parent
-    by_option None is = usual_cut (record_of text) parent (simple_record text).extended safe is
-    by_option (Some row) is = is
+next_parent text parent simple safe is = grind (arith, usual_cut (record_of text) parent, simple_record text, simple_spelled text)
 
 next_ends : (most : ℕ) (o : Option (List ℕ)) (parent : List ℕ) → o ≡ Some parent → option_map_or (ends_in most) o true ≡ true → ends_in most parent ≡ true
-next_ends most None parent is h = absurd cc
-next_ends most (Some other) parent is h = let same : other ≡ parent = cc in sym (ap (ends_in most) same) ∙ h
+next_ends most o parent is h = grind arith
 
 ends_computed : (most : ℕ) (text : List ℕ) → ends_in most text ≡ true → EndsWithin most text
 ends_computed zero text h = absurd cc
@@ -121,19 +93,11 @@ longer (suc most) text ends = λ parent is. longer most parent (ends parent is)
 
 known_at : (p : List ℕ → Bool) (text : List ℕ) (list : List (List ℕ)) → list_all p list ≡ true → list_any (bytes_eq text) list ≡ true → p text ≡ true
 known_at p text [] all any = absurd cc
-known_at p text (other ∷ list) all any =
-    let k = and_parts (p other) (list_all p list) all in
-    either_way (bytes_eq text other)
-    (λ same. let is : text ≡ other = grind (arith, bytes_decides text other) in ap p is ∙ k.0)
-    (λ differ. known_at p text list k.1 (sym (rw differ refl) ∙ any))
+known_at p text (other ∷ list) all any = grind (arith, and_parts, known_at p text list, bytes_decides text other)
 
 found_at : (p test : List ℕ → Bool) (text : List ℕ) (list : List (List ℕ)) → list_all p list ≡ true → find test list ≡ Some text → p text ≡ true
 found_at p test text [] all is = absurd cc
-found_at p test text (other ∷ list) all is =
-    let k = and_parts (p other) (list_all p list) all in
-    either_way (test other)
-    (λ same. let here : Some other ≡ Some text = sym (rw same refl) ∙ is in let it : other ≡ text = cc in sym (ap p it) ∙ k.0)
-    (λ differ. found_at p test text list k.1 (sym (rw differ refl) ∙ is))
+found_at p test text (other ∷ list) all is = grind (arith, and_parts, found_at p test text list)
 
 at_least : (most more : ℕ) (text : List ℕ) → EndsWithin most text → EndsWithin (more + most) text
 at_least most zero text ends = let same : most ≡ zero + most = omega arith in subst (λ n. EndsWithin n text) same ends

@@ -1,5 +1,5 @@
 -- A text without its last subtag.
-use Rattle.std.proofs.Common.{◌≡◌, ℕ, Bool, true, false, cond, ◌==◌, ◌&&◌, is_none, flat_map, suc, ◌+◌, ◌-◌, List, [], ◌∷◌, ◌++◌, length, take, take_at, Option, None, Some, append_assoc, append-nil, length-append, ap, sym, ◌∙◌, arith, subst, inl, slice_get, zero, refl}
+use Rattle.std.proofs.Common.{◌≡◌, ℕ, Bool, true, false, ◌==◌, ◌&&◌, is_none, flat_map, suc, ◌+◌, ◌-◌, List, [], ◌∷◌, ◌++◌, length, take, take_at, Option, None, Some, append_assoc, append-nil, length-append, ap, sym, ◌∙◌, arith, subst, inl, slice_get, zero, refl}
 use Rattle.std.specs.List.{AllByRecursion}
 use Rattle.std.proofs.lemmas.Bool.{and_parts}
 use Rattle.std.proofs.lemmas.Bool.Decides.{nat_tests}
@@ -14,7 +14,6 @@ use Rattle.langtag_scan.proofs.Joins.{hyphenated, join-append, length-join-appen
 use Rattle.langtag_scan.proofs.SpelledTexts.{ends_had}
 use Rattle.langtag_language.specs.Language.{EachLanguageSpelling, SpellsLanguage}
 use Rattle.langtag_place.specs.Variants.{SpellsVariants}
-use Rattle.langtag.specs.Fields.{Fields}
 use Rattle.langtag.specs.Edit.{with_region, with_script}
 use Rattle.langtag_parent.specs.Parent.{IsParent, is_base, is_empty, is_likely_script, likely_of, other_script, parent_of, parent_of_region, parent_of_script, plain_parent, unless_alike, usual_parent, without_last_variant}
 use Rattle.langtag_parent.specs.Plain.{IsLonger, IsPlain}
@@ -70,10 +69,7 @@ pub cut_text : (text before last : List ℕ) → text ≡ before ++ 45 ∷ last 
 cut_text text before last is = rw is (take_at before (45 ∷ last) _ (omega (arith, length-append before (45 ∷ last))))
 
 pub longer : (text before last : List ℕ) → text ≡ before ++ 45 ∷ last → IsTag before → IsLonger text (length last)
-longer text before last is tag = record {
-  room = rw is (omega (arith, length-append before (45 ∷ last)));
-  tag = subst IsTag (sym (cut_text text before last is)) tag;
-}
+longer text before last is tag = grind (arith, common_steps, nat_tests, length-append, cut_text)
 
 -- ---- what is left is a tag
 
@@ -99,17 +95,7 @@ pub script_tag : (r : Record) → IsWellFormed r → IsTag (spell (with_script r
 script_tag r well = spelled_tag (with_script r None) (script_well r well)
 
 pub variant_well : (r : Record) → IsWellFormed r → IsWellFormed (without_last_variant r)
-variant_well r well = record {
-  primary = well.primary;
-  extended = well.extended;
-  few = well.few;
-  short = well.short;
-  script = well.script;
-  region = well.region;
-  variants = all_taken _ (length r.variants - 1) r.variants well.variants;
-  extensions = well.extensions;
-  private_use = well.private_use;
-}
+variant_well r well = grind (arith, common_steps, all_taken)
 
 pub variant_tag : (r : Record) → IsWellFormed r → IsTag (spell (without_last_variant r))
 variant_tag r well = spelled_tag (without_last_variant r) (variant_well r well)
@@ -157,30 +143,23 @@ without_script text script language shorter test r spells plain is none language
 count-told :
     (es : List Extension) (pu : Option PrivateUse) →
     (length (hyphenated (flat_map extension_flat es ++ private_part_flat pu)) == 0) ≡ (is_empty es && is_none pu)
-count-told [] None = refl
-count-told [] (Some p) = grind (arith, nat_tests)
-count-told (e ∷ es) pu = grind (arith, nat_tests)
+count-told es pu = grind (arith, nat_tests)
 
 plus-told : (n k : ℕ) → (n == n + k) ≡ (k == 0)
 plus-told n k = grind (arith, nat_tests)
 
 whole-length :
     (r : Record) → length (spell r) ≡ length (join (to_variants r)) + length (hyphenated (flat_map extension_flat r.extensions ++ private_part_flat r.private_use))
-whole-length r =
-    let others = flat_map extension_flat r.extensions ++ private_part_flat r.private_use in
-    let cut = length-join-append r.primary (r.extended ++ (one_flat r.script ++ (one_flat r.region ++ r.variants))) others in
-    simp append_assoc at cut
+whole-length r = grind (arith, common_steps, nat_tests, length-join-append, append_assoc)
 
 pub base_told : (r : Record) → ((ends_of r).variants == (ends_of r).whole) ≡ is_base r
 base_told r = ap (λ w. length (join (to_variants r)) == w) (whole-length r) ∙ plus-told _ _ ∙ count-told r.extensions r.private_use
 
 pub empty-nil : {A : Type 0} (list : List A) → is_empty list ≡ true → list ≡ []
-empty-nil [] is = refl
-empty-nil (a ∷ list) is = absurd cc
+empty-nil list is = grind arith
 
 pub none-is : {A : Type 0} (o : Option A) → is_none o ≡ true → o ≡ None
-none-is None is = refl
-none-is (Some a) is = absurd cc
+none-is o is = grind arith
 
 pub base_parts : (r : Record) → is_base r ≡ true → (r.extensions ≡ []) × (r.private_use ≡ None)
 base_parts r is = let k = and_parts (is_empty r.extensions) (is_none r.private_use) is in (empty-nil r.extensions k.0, none-is r.private_use k.1)
@@ -188,8 +167,7 @@ base_parts r is = let k = and_parts (is_empty r.extensions) (is_none r.private_u
 -- ---- variants
 
 last_there : (vs : List (List ℕ)) (last : List ℕ) → slice_get vs (length vs - 1) ≡ Some last → is_empty vs ≡ false
-last_there [] last is = absurd cc
-last_there (v ∷ vs) last is = refl
+last_there vs last is = grind arith
 
 last_none : (vs : List (List ℕ)) → slice_get vs (length vs - 1) ≡ None → vs ≡ []
 last_none [] is = refl
@@ -222,10 +200,7 @@ variant_parent text variants last shorter r spells base same is made =
 
 pub plain_record :
     (text variants : List ℕ) (r : Record) → Spells r text → true ≡ is_base r → variants ≡ variants_part r → IsLast variants None → IsPlain r
-plain_record text variants r spells base same is =
-    let parts = base_parts r (sym base) in
-    let none = last_none r.variants (sym (last_of r variants None spells.0 same is)) in
-    record { variants = none; extensions = parts.0; private_use = parts.1 }
+plain_record text variants r spells base same is = grind (arith, common_steps, nat_tests, base_parts, last_none, last_of)
 
 pub plain_is : (r : Record) (o : Option (List ℕ)) → IsPlain r → o ≡ plain_parent r → o ≡ parent_of r
 plain_is r o plain is = is ∙ rw (plain.variants, plain.extensions, plain.private_use) refl
@@ -233,11 +208,7 @@ plain_is r o plain is = is ∙ rw (plain.variants, plain.extensions, plain.priva
 -- ---- a region
 
 other_none : (r : Record) (region : List ℕ) → unless_alike (likely_of r.primary r.extended region) (likely_of r.primary r.extended []) ≡ None → other_script r region ≡ None
-other_none r region none = by_test (is_none r.script) _ none
-  where
-    by_test : (b : Bool) (o : Option Fields) → o ≡ None → cond b o None ≡ None
-    by_test true o none = none
-    by_test false o none = refl
+other_none r region none = grind arith
 
 pub region_parent :
     (text region shorter language : List ℕ) (r : Record) → Spells r text → IsPlain r → r.region ≡ Some region →

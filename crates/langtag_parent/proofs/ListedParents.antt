@@ -10,13 +10,13 @@ use Rattle.langtag_scan.specs.Case.{Alike, are_alike, fold_byte, fold_text}
 use Rattle.langtag_scan.specs.CaseLaws.{are_alike-decides}
 use Rattle.langtag_scan.specs.Class.{is_letter, is_digit, is_primary, is_script, is_region}
 use Rattle.langtag_scan.specs.Record.{Record, Spells}
-use Rattle.langtag_scan.proofs.CaseLaw.{alike_parts}
+use Rattle.langtag_scan.proofs.CaseLaw.{alike_parts, length-fold}
 use Rattle.langtag_scan.proofs.NormalTexts.{spelled_once}
 use Rattle.langtag.specs.Fields.{Fields}
-use Rattle.langtag.proofs.Alike.{AlikeFields, alike_is, alike_length}
+use Rattle.langtag.proofs.Alike.{AlikeFields, alike_is}
 use Rattle.langtag_likely.specs.Likely.{Likely, likely_for, or_else}
 use Rattle.langtag_likely.specs.LikelySubtags.{language_rows, other_rows, likely_subtags}
-use Rattle.langtag_likely.proofs.AddedTwice.{either_way}
+use Rattle.langtag_likely.proofs.AddedTwice.{either_way, found_row}
 use Rattle.langtag_likely.proofs.AlikeFields.{likely_for-alike}
 use Rattle.langtag_likely.proofs.RowLaws.{all_other, either}
 use Rattle.langtag_parent.specs.Parent.{is_empty, likely_of, unless_alike}
@@ -25,7 +25,7 @@ use Rattle.langtag_parent.specs.ParentLocales.{parent_locales}
 use Rattle.langtag_parent.specs.Rows.{Row, row_for}
 use Rattle.langtag_parent.proofs.Cuts.{empty-nil}
 use Rattle.langtag_parent.proofs.ListedTags.{is_simple, record_of, simple_spelled}
-use Rattle.langtag_parent.proofs.OtherScript.{found, in_region, is_there, there-long, there-none}
+use Rattle.langtag_parent.proofs.OtherScript.{in_region, is_there, there-long}
 
 -- ---- the languages of the rows, which are written in the same script in each region
 
@@ -55,15 +55,9 @@ region_none p region one there = by_option (likely_for other_rows (in_region p r
     by_option : (o : Option Fields) → likely_for other_rows (in_region p region) ≡ o → o ≡ None
     by_option None is = refl
     by_option (Some to) is =
-        let it = found other_rows is_elsewhere (in_region p region) to all_elsewhere is in
-        let first = and_parts (are_alike it.row.from.language p) (are_alike it.row.from.script [] && are_alike it.row.from.region region) it.alike in
-        let second = and_parts (are_alike it.row.from.script []) (are_alike it.row.from.region region) first.1 in
-        let none = alike_length it.row.from.script [] second.0 in
-        let wide = alike_length it.row.from.region region second.1 in
-        let language : is_one it.row.from.language ≡ true = any-right it.row.from.language p latin_languages (alike_is it.row.from.language p first.0) ∙ one in
-        let never : false ≡ true =
-        sym (rw (there-none it.row.from.script none, there-long it.row.from.region (omega (arith, wide, there)), language) refl) ∙ it.holds_of_it in
-        absurd cc
+        let it = found_row other_rows is_elsewhere (in_region p region) to all_elsewhere is in
+        let language : is_one it.row.from.language ≡ true = any-right it.row.from.language p latin_languages it.from_is.language ∙ one in
+        absurd (grind (arith, it.from_is, it.holds_of_it, length-fold))
 
 -- ---- records that are written in a script
 
@@ -89,28 +83,21 @@ latin_at :
     list_any (λ one. are_alike one p) list ≡ true → is_latin_row (likely_for language_rows (alone p)) ≡ true
 latin_at p [] all any = absurd cc
 latin_at p (language ∷ list) all any =
-    let k = and_parts (is_latin_row (likely_for language_rows (alone language))) (list_all (λ language. is_latin_row (likely_for language_rows (alone language))) list) all in
-    either_way (are_alike language p)
-    (λ same. let alike : AlikeFields (alone language) (alone p) = record { language = alike_is language p same; script = refl; region = refl } in
-    sym (ap is_latin_row (likely_for-alike language_rows (alone language) (alone p) alike)) ∙ k.0)
-    (λ other. latin_at p list k.1 (sym (rw other refl) ∙ any))
+    let alike : are_alike language p ≡ true → AlikeFields (alone language) (alone p) = λ same. record { language = alike_is language p same; script = refl; region = refl } in
+    grind (arith, and_parts, latin_at p list, likely_for-alike language_rows (alone language) (alone p))
 
 or_latin : (o other : Option Fields) → is_latin_row o ≡ true → is_latin_row (or_else o other) ≡ true
-or_latin None other h = absurd cc
-or_latin (Some f) other h = h
+or_latin o other h = grind arith
 
 latin_alone : (p : List ℕ) → is_one p ≡ true → is_latin_row (likely_for likely_subtags (alone p)) ≡ true
 latin_alone p one =
     ap is_latin_row (either (alone p)) ∙ or_latin (likely_for language_rows (alone p)) (likely_for other_rows (alone p)) (latin_at p latin_languages all_latin one)
 
 or_same : (o : Option Fields) → or_else o (or_else o (or_else o o)) ≡ o
-or_same None = refl
-or_same (Some f) = refl
+or_same o = grind arith
 
 or_alone : (none o : Option Fields) → none ≡ None → or_else none (or_else o (or_else none o)) ≡ o
-or_alone None None h = refl
-or_alone None (Some f) h = refl
-or_alone (Some g) o h = absurd cc
+or_alone none o h = grind arith
 
 pub likely_alone : (p region : List ℕ) → is_one p ≡ true → likely_of p [] region ≡ likely_for likely_subtags (alone p)
 likely_alone p [] one = or_same (likely_for likely_subtags (alone p))
@@ -121,11 +108,7 @@ likely_alone p (b ∷ region) one =
 
 -- these languages are written in no other script
 pub no_other_script : (p region : List ℕ) → is_one p ≡ true → unless_alike (likely_of p [] region) (likely_of p [] []) ≡ None
-no_other_script p region one = rw (likely_alone p region one, likely_alone p [] one) (by_option (likely_for likely_subtags (alone p)))
-  where
-    by_option : (o : Option Fields) → unless_alike o o ≡ None
-    by_option None = refl
-    by_option (Some f) = grind (arith, are_alike-decides)
+no_other_script p region one = rw (likely_alone p region one, likely_alone p [] one) (grind (arith, are_alike-decides))
 
 -- ---- records that are written in Latin letters
 
@@ -157,12 +140,7 @@ abbrev are_both : Option (List ℕ) → Option (List ℕ) → Bool
 are_both first second = option_map_or (λ own. option_map_or (are_alike own) second false) first false
 
 both_written : (r q : Record) → are_both r.script q.script ≡ true → IsWrittenAs r q
-both_written r q h = by_options r.script q.script refl refl h
-  where
-    by_options : (o u : Option (List ℕ)) → r.script ≡ o → q.script ≡ u → are_both o u ≡ true → IsWrittenAs r q
-    by_options None u is other h = absurd cc
-    by_options (Some own) None is other h = absurd cc
-    by_options (Some own) (Some script) is other h = rw (is, other) (alike_is own script h)
+both_written r q h = grind (arith, alike_is)
 
 -- ---- the rows
 
@@ -202,10 +180,7 @@ row_of holds (row ∷ rows) text parent all is =
 some_listed : (rows : List Row) (text parent : List ℕ) → row_for rows text ≡ Some parent → list_any (λ row. bytes_eq row.parent parent) rows ≡ true
 unfolding row_for
 some_listed [] text parent is = absurd cc
-some_listed (row ∷ rows) text parent is =
-    either_way (are_alike row.tag text)
-    (λ same. let it : Some row.parent ≡ Some parent = sym (rw same refl) ∙ is in let here : row.parent ≡ parent = cc in grind (arith, bytes_decides row.parent parent))
-    (λ other. let later = some_listed rows text parent (sym (rw other refl) ∙ is) in grind arith)
+some_listed (row ∷ rows) text parent is = grind (arith, some_listed rows text parent, bytes_decides row.parent parent)
 
 -- ---- another case changes nothing
 
@@ -213,28 +188,17 @@ latin_folded : Record → Bool
 latin_folded f = option_map_or (λ script. bytes_eq script (fold_text latin)) f.script (is_empty f.extended && list_any (λ one. bytes_eq (fold_text one) f.primary) latin_languages)
 
 empty-map : (es : List (List ℕ)) → is_empty (map fold_text es) ≡ is_empty es
-empty-map [] = refl
-empty-map (e ∷ es) = refl
+empty-map es = grind arith
 
 unfolding_latin : (r : Record) → latin_folded (fold_record r) ≡ is_latin r
 unfolding latin_folded
-unfolding_latin r = by_option r.script
-  where
-    by_option :
-        (o : Option (List ℕ)) →
-        option_map_or (λ script. bytes_eq script (fold_text latin)) (option_map fold_text o) (is_empty (map fold_text r.extended) && is_one r.primary)
-        ≡ option_map_or (λ script. are_alike script latin) o (is_empty r.extended && is_one r.primary)
-    by_option None = ap (λ b. b && is_one r.primary) (empty-map r.extended)
-    by_option (Some script) = refl
+unfolding_latin r = grind (arith, empty-map)
 
 latin-alike : (r q : Record) → AlikeRecords r q → is_latin r ≡ is_latin q
 latin-alike r q same = sym (unfolding_latin r) ∙ ap latin_folded same ∙ unfolding_latin q
 
 both-alike : (first second script : Option (List ℕ)) → option_map fold_text first ≡ option_map fold_text second → are_both first script ≡ are_both second script
-both-alike None None script same = refl
-both-alike None (Some b) script same = absurd cc
-both-alike (Some a) None script same = absurd cc
-both-alike (Some a) (Some b) script same = let alike : Alike a b = cc in ap (λ t. option_map_or (λ s. bytes_eq t (fold_text s)) script false) alike
+both-alike first second script same = grind (arith, are_alike-decides)
 
 -- ---- a parent that CLDR states
 
@@ -258,16 +222,13 @@ listed_parent r text parent spells some is =
     let it = row_of is_lawful parent_locales text parent all_lawful is in
     let there : is_there it.row.parent ≡ true = ap is_there it.is ∙ there-long parent some in
     let lawful : is_lawful it.row ≡ true = it.holds_of_it in
-    let rest = list_any (bytes_eq it.row.parent) parents && (is_simple it.row.tag && (is_simple it.row.parent && in_one_script (record_of it.row.tag) (record_of it.row.parent))) in
-    let all : rest ≡ true = sym (ap (λ b. not b || rest) there) ∙ lawful in
-    let k = and_parts (list_any (bytes_eq it.row.parent) parents) (is_simple it.row.tag && (is_simple it.row.parent && in_one_script (record_of it.row.tag) (record_of it.row.parent))) all in
-    let m = and_parts (is_simple it.row.tag) (is_simple it.row.parent && in_one_script (record_of it.row.tag) (record_of it.row.parent)) k.1 in
-    let n = and_parts (is_simple it.row.parent) (in_one_script (record_of it.row.tag) (record_of it.row.parent)) m.1 in
-    let (other, other_spells, same, _) = alike_parts it.row.tag text it.alike (record_of it.row.tag) (simple_spelled it.row.tag m.0) in
+    let (known, tag, simple, script) : (list_any (bytes_eq it.row.parent) parents ≡ true) × (is_simple it.row.tag ≡ true) × (is_simple it.row.parent ≡ true) × (in_one_script (record_of it.row.tag) (record_of it.row.parent) ≡ true) =
+    grind (arith, and_parts) in
+    let (other, other_spells, same, _) = alike_parts it.row.tag text it.alike (record_of it.row.tag) (simple_spelled it.row.tag tag) in
     let one : other ≡ r = spelled_once other r other_spells.0 spells.0 (other_spells.1 ∙ sym spells.1) in
     record {
       listed = some_listed parent_locales text parent is;
-      known = sym (ap (λ t. list_any (bytes_eq t) parents) it.is) ∙ k.0;
-      simple = sym (ap is_simple it.is) ∙ n.0;
-      written = subst (λ t. IsWrittenAs r (record_of t)) it.is (in_script r (record_of it.row.tag) (record_of it.row.parent) (subst (AlikeRecords (record_of it.row.tag)) one same) n.1);
+      known = sym (ap (λ t. list_any (bytes_eq t) parents) it.is) ∙ known;
+      simple = sym (ap is_simple it.is) ∙ simple;
+      written = subst (λ t. IsWrittenAs r (record_of t)) it.is (in_script r (record_of it.row.tag) (record_of it.row.parent) (subst (AlikeRecords (record_of it.row.tag)) one same) script);
     }

@@ -11,14 +11,15 @@ use Rattle.langtag_scan.specs.Case.{Alike, are_alike, fold_byte, fold_text}
 use Rattle.langtag_scan.specs.CaseLaws.{are_alike-decides}
 use Rattle.langtag_scan.specs.Class.{is_letter, is_digit, is_primary, is_script, is_region}
 use Rattle.langtag_scan.specs.Tag.{IsTag}
+use Rattle.langtag_scan.proofs.CaseLaw.{length-fold}
 use Rattle.langtag_scan.proofs.Disjoint.{script_four}
 use Rattle.langtag_language.specs.Language.{SpellsLanguage}
 use Rattle.langtag_tables.proofs.Letters.{primary_length}
 use Rattle.langtag.specs.Fields.{Fields}
-use Rattle.langtag.proofs.Alike.{alike_is, alike_length, are_alike-left}
-use Rattle.langtag_likely.specs.Likely.{Likely, are_alike_fields, likely_for, or_else}
+use Rattle.langtag.proofs.Alike.{alike_is}
+use Rattle.langtag_likely.specs.Likely.{Likely, likely_for, or_else}
 use Rattle.langtag_likely.specs.LikelySubtags.{likely_subtags, other_rows}
-use Rattle.langtag_likely.proofs.AddedTwice.{either_way}
+use Rattle.langtag_likely.proofs.AddedTwice.{found_row}
 use Rattle.langtag_likely.proofs.RowLaws.{all_other}
 use Rattle.langtag_parent.specs.Parent.{fields_text, likely_of, unless_alike}
 use Rattle.langtag_parent.specs.declared.tables.TheConstants.{SCRIPTED_LANGUAGES}
@@ -52,22 +53,6 @@ all_listed : list_all is_listed other_rows ≡ true
 unfolding other_rows fold_byte is_primary is_script is_region is_letter is_digit
 all_listed = refl
 
--- ---- the row that was found
-
-pub record Found (holds : Likely → Bool) (key to : Fields) : Type 0 where
-  pub row : Likely
-  pub here : row.to ≡ to
-  pub alike : are_alike_fields row.from key ≡ true
-  pub holds_of_it : holds row ≡ true
-
-pub found : (rows : List Likely) (holds : Likely → Bool) (key to : Fields) → list_all holds rows ≡ true → likely_for rows key ≡ Some to → Found holds key to
-found [] holds key to all is = absurd cc
-found (row ∷ rows) holds key to all is =
-    let k = and_parts (holds row) (list_all holds rows) all in
-    either_way (are_alike_fields row.from key)
-    (λ same. let it : Some row.to ≡ Some to = sym (rw same refl) ∙ is in let here : row.to ≡ to = cc in record { row = row; here = here; alike = same; holds_of_it = k.0 })
-    (λ other. found rows holds key to k.1 (sym (rw other refl) ∙ is))
-
 abbrev pub in_region : List ℕ → List ℕ → Fields
 in_region p region = record { language = p; script = []; region = region }
 
@@ -85,19 +70,12 @@ there-none (b ∷ text) none = absurd (omega (arith, none))
 
 row_stands : (p region : List ℕ) (here : Fields) → 0 < length p → 0 < length region → likely_for other_rows (in_region p region) ≡ Some here → Stands p here
 row_stands p region here some there is =
-    let it = found other_rows is_listed (in_region p region) here all_listed is in
-    let first = and_parts (are_alike it.row.from.language p) (are_alike it.row.from.script [] && are_alike it.row.from.region region) it.alike in
-    let second = and_parts (are_alike it.row.from.script []) (are_alike it.row.from.region region) first.1 in
-    let long = alike_length it.row.from.language p first.0 in
-    let none = alike_length it.row.from.script [] second.0 in
-    let wide = alike_length it.row.from.region region second.1 in
-    let of_region : is_of_region it.row ≡ true =
-    rw (there-long it.row.from.language (omega (arith, long, some)), there-none it.row.from.script none, there-long it.row.from.region (omega (arith, wide, there))) refl in
-    let held = sym (ap (λ b. not b || (are_alike it.row.from.language it.row.to.language && stands it.row.to)) of_region) ∙ it.holds_of_it in
+    let it = found_row other_rows is_listed (in_region p region) here all_listed is in
+    let of_region : is_of_region it.row ≡ true = grind (arith, it.from_is, length-fold) in
+    let held : (are_alike it.row.from.language it.row.to.language && stands it.row.to) ≡ true = grind (arith, it.holds_of_it) in
     let parts = and_parts (are_alike it.row.from.language it.row.to.language) (stands it.row.to) held in
-    let language : are_alike it.row.to.language p ≡ true =
-    are_alike-left it.row.to.language it.row.from.language p (sym (alike_is it.row.from.language it.row.to.language parts.0)) ∙ first.0 in
-    record { language = sym (ap (λ f. are_alike f.language p) it.here) ∙ language; stands = sym (ap stands it.here) ∙ parts.1 }
+    let language : are_alike it.row.to.language p ≡ true = (are_alike-decides it.row.to.language p).1 (sym (alike_is it.row.from.language it.row.to.language parts.0) ∙ it.from_is.language) in
+    record { language = sym (ap (λ f. are_alike f.language p) it.to_is) ∙ language; stands = sym (ap stands it.to_is) ∙ parts.1 }
 
 -- ---- where the script is another one, it is by a row of the region
 
@@ -133,11 +111,7 @@ same_found text o is = grind (arith, bytes_decides)
 
 text-alike : (p l s : List ℕ) → Alike l p → Alike (fields_text p s []) (fields_text l s [])
 unfolding fold_byte
-text-alike p l [] alike = sym alike
-text-alike p l (b ∷ s) alike = fold_text-append p (45 ∷ b ∷ s) ∙ ap (λ t. t ++ fold_text (45 ∷ b ∷ s)) (sym alike) ∙ sym (fold_text-append l (45 ∷ b ∷ s))
-  where
-    fold_text-append : (a c : List ℕ) → fold_text (a ++ c) ≡ fold_text a ++ fold_text c
-    fold_text-append a c = map-append fold_byte a c
+text-alike p l s alike = grind (arith, map-append fold_byte)
 
 pub listed : (p : List ℕ) (here : Fields) (script : List ℕ) → Stands p here → script ≡ here.script → IsListed p here script
 listed p here script stands is =
@@ -167,8 +141,7 @@ some_here None script is = absurd cc
 some_here (Some here) script is = (here, refl, cc)
 
 lone : (p : List ℕ) (es : List (List ℕ)) (language : List ℕ) → SpellsLanguage p es language → es ≡ [] → language ≡ p
-lone p [] language spells none = sym spells.joined
-lone p (e ∷ es) language spells none = absurd cc
+lone p es language spells none = grind arith
 
 pub region_two : (s : List ℕ) → is_region s ≡ true → 2 ≤ length s
 unfolding is_region
@@ -187,28 +160,18 @@ other_read language region script p es spells in_region script_is =
 -- ---- the texts that it writes
 
 pub whole_text : (p script region : List ℕ) → 0 < length script → 0 < length region → p ++ 45 ∷ (script ++ 45 ∷ (region ++ [])) ≡ fields_text p script region
-whole_text p [] region some there = absurd (omega (arith, some))
-whole_text p (s ∷ script) [] some there = absurd (omega (arith, there))
-whole_text p (s ∷ script) (g ∷ region) some there = ap (λ t. p ++ 45 ∷ ((s ∷ script) ++ 45 ∷ t)) (append-nil (g ∷ region))
+whole_text p script region some there = grind (arith, append-nil)
 
 pub short_text : (p script : List ℕ) → 0 < length script → p ++ 45 ∷ (script ++ []) ≡ fields_text p script []
-short_text p [] some = absurd (omega (arith, some))
-short_text p (s ∷ script) some = ap (λ t. p ++ 45 ∷ t) (append-nil (s ∷ script))
+short_text p script some = grind (arith, append-nil)
 
 pub whole_fits :
     (language script region : List ℕ) → length language ≤ 8 → length script ≡ 4 → length region ≤ 3 →
     length (language ++ 45 ∷ (script ++ 45 ∷ (region ++ []))) ≤ 17
-whole_fits language script region l s g =
-    let whole = length-append language (45 ∷ (script ++ 45 ∷ (region ++ []))) in
-    let rest = length-append script (45 ∷ (region ++ [])) in
-    let last = length-append region [] in
-    omega (arith, whole, rest, last, l, s, g)
+whole_fits language script region l s g = simp length-append (omega arith)
 
 pub short_fits : (language script : List ℕ) → length language ≤ 8 → length script ≡ 4 → length (language ++ 45 ∷ (script ++ [])) ≤ 17
-short_fits language script l s =
-    let whole = length-append language (45 ∷ (script ++ [])) in
-    let rest = length-append script [] in
-    omega (arith, whole, rest, l, s)
+short_fits language script l s = simp length-append (omega arith)
 
 pub primary_short : (p : List ℕ) → is_primary p ≡ true → length p ≤ 8
 unfolding is_primary
@@ -217,32 +180,23 @@ primary_short p h = grind (arith, nat_tests)
 -- ---- values of the code
 
 pub value_or : {A B : Type 0} (f : A → B) (o : Option A) (other v : B) → Some v ≡ option_map f o → v ≡ option_map_or f o other
-value_or f None other v is = absurd cc
-value_or f (Some a) other v is = cc
+value_or f o other v is = grind arith
 
 pub other_or : {A B : Type 0} (f : A → B) (o : Option A) (other : B) → None ≡ option_map f o → option_map_or f o other ≡ other
-other_or f None other is = refl
-other_or f (Some a) other is = absurd cc
+other_or f o other is = grind arith
 
 pub none_of : {A B : Type 0} (f : A → B) (o : Option A) → None ≡ option_map f o → o ≡ None
-none_of f None is = refl
-none_of f (Some a) is = absurd cc
+none_of f o is = grind arith
 
 pub whole_is :
     (whole before after language region script p : List ℕ) (es : List (List ℕ)) (it : IsOther language region script p es) → is_region region ≡ true →
     whole ≡ before ++ 45 ∷ (script ++ 45 ∷ (after ++ [])) → before ≡ language → after ≡ region → whole ≡ fields_text p it.here.script region
 whole_is whole before after language region script p es it in_region made before_is after_is =
-    let there = region_two region in_region in
-    let four = it.listed.four in
-    made ∙ ap (λ a. a ++ 45 ∷ (script ++ 45 ∷ (after ++ []))) (before_is ∙ it.language_is) ∙ ap (λ b. p ++ 45 ∷ (script ++ 45 ∷ (b ++ []))) after_is
-    ∙ whole_text p script region (omega (arith, four)) (omega (arith, there)) ∙ ap (λ s. fields_text p s region) it.script_is
+    grind (arith, region_two region in_region, it.listed.four, it.language_is, it.script_is, whole_text p script region)
 
 -- the table has the language with the script
 pub found_is :
     (whole before language region script p : List ℕ) (es : List (List ℕ)) (it : IsOther language region script p es) (list : List (List ℕ)) (result : Option (List ℕ)) →
     whole ≡ before ++ 45 ∷ (script ++ []) → before ≡ language → list ≡ scripted → result ≡ find (λ tag. are_alike tag whole) list →
     result ≡ Some (fields_text it.here.language it.here.script [])
-found_is whole before language region script p es it list result made before_is list_is is =
-    let four = it.listed.four in
-    let text = made ∙ ap (λ a. a ++ 45 ∷ (script ++ [])) (before_is ∙ it.language_is) ∙ short_text p script (omega (arith, four)) in
-    is ∙ ap (find (λ tag. are_alike tag whole)) list_is ∙ ap (λ t. find (λ tag. bytes_eq (fold_text tag) (fold_text t)) scripted) text ∙ it.listed.found
+found_is whole before language region script p es it list result made before_is list_is is = grind (arith, nat_tests, listed, short_text)

@@ -1,13 +1,12 @@
 -- From a tag to its parent: the record of the parent, its script, and what it keeps.
-use Rattle.std.proofs.Common.{◌≡◌, ℕ, ◌+◌, ◌-◌, ◌<◌, ◌⊎◌, inl, inr, true, false, cond, List, [], ◌∷◌, ◌++◌, length, take, drop, find, is_none, Option, None, Some, IsTrue, refl, sym, ap, ◌∙◌, subst, arith, ◌&&◌, option_map, length-append, append-nil}
+use Rattle.std.proofs.Common.{◌≡◌, ℕ, ◌+◌, ◌-◌, ◌<◌, ◌⊎◌, inl, inr, true, false, List, [], ◌∷◌, ◌++◌, length, take, drop, find, is_none, Option, None, Some, IsTrue, refl, sym, ap, ◌∙◌, subst, arith, ◌&&◌, option_map, length-append, append-nil}
 use Rattle.std.specs.Prelude.{IfSome, MatchOption}
 use Rattle.std.specs.List.{flat_map, list_any}
-use Rattle.std.specs.Option.{option_map_or}
 use Rattle.std.specs.Str.{bytes_eq}
 use Rattle.std.proofs.lemmas.Bool.{and_parts}
 use Rattle.std.proofs.lemmas.Grind.{common_steps}
 use Rattle.std.proofs.lemmas.List.{length-take, take-append-drop}
-use Rattle.langtag_scan.specs.Case.{Alike, are_alike, fold_text}
+use Rattle.langtag_scan.specs.Case.{Alike, are_alike}
 use Rattle.langtag_scan.specs.CaseLaws.{are_alike-decides}
 use Rattle.langtag_scan.specs.Class.{is_region, is_script}
 use Rattle.langtag_scan.specs.Record.{EachRecord, Extension, IsWellFormed, PrivateUse, Record, Spells, extension_flat, flat, one_flat, private_part_flat, spell}
@@ -21,13 +20,12 @@ use Rattle.langtag.specs.Fields.{Fields}
 use Rattle.langtag.proofs.Alike.{alike_is}
 use Rattle.langtag_likely.specs.Likely.{likely_for, or_else}
 use Rattle.langtag_likely.specs.LikelySubtags.{likely_subtags}
-use Rattle.langtag_likely.proofs.AddedTwice.{either_way}
-use Rattle.langtag_parent.specs.Parent.{IsParent, fields_text, is_base, is_empty, is_likely_script, likely_of, other_script, parent_in_script, parent_of, parent_of_region, parent_of_script, plain_parent, stated, stated_or, unless_alike, usual_parent, without_last_variant}
+use Rattle.langtag_parent.specs.Parent.{IsParent, fields_text, is_base, is_empty, is_likely_script, likely_of, other_script, parent_in_script, parent_of, parent_of_region, parent_of_script, plain_parent, stated_or, unless_alike, usual_parent, without_last_variant}
 use Rattle.langtag_parent.specs.ParentLaws.{AddsNothing, IsInOneScript, IsKeptOrListed, IsListed, IsWrittenAs, script_of}
 use Rattle.langtag_parent.specs.ParentLocales.{parent_locales}
 use Rattle.langtag_parent.specs.Plain.{IsPlain}
 use Rattle.langtag_parent.specs.Rows.{row_for}
-use Rattle.langtag_parent.proofs.Cuts.{base_parts, empty-nil, of_neither, of_region, of_script, plain_is, region_well, script_well, variant_well}
+use Rattle.langtag_parent.proofs.Cuts.{base_parts, empty-nil, region_well, script_well, variant_well}
 use Rattle.langtag_parent.proofs.ListedTags.{record_of, simple_spelled}
 use Rattle.langtag_parent.proofs.ListedParents.{listed_parent, parents}
 use Rattle.langtag_parent.proofs.OtherScript.{Stands, in_region, listed, other_stands, region_two, scripted}
@@ -60,39 +58,21 @@ pub flat-length :
     (r : Record) →
     length (flat r)
     ≡ 1 + (length r.extended + (length (one_flat r.script) + (length (one_flat r.region) + (length r.variants + length (flat_map extension_flat r.extensions ++ private_part_flat r.private_use)))))
-flat-length r =
-    let others = flat_map extension_flat r.extensions ++ private_part_flat r.private_use in
-    omega (
-      arith,
-      length-append r.extended (one_flat r.script ++ (one_flat r.region ++ (r.variants ++ others))),
-      length-append (one_flat r.script) (one_flat r.region ++ (r.variants ++ others)),
-      length-append (one_flat r.region) (r.variants ++ others),
-      length-append r.variants others,
-    )
+flat-length r = grind (arith, common_steps, length-append)
 
 others-some : (es : List Extension) (pu : Option PrivateUse) → (is_empty es && is_none pu) ≡ false → 0 < length (flat_map extension_flat es ++ private_part_flat pu)
-others-some [] None other = absurd cc
-others-some [] (Some p) other = omega arith
-others-some (e ∷ es) pu other = omega arith
+others-some es pu other = grind arith
 
 variants-fewer : (vs : List (List ℕ)) → is_empty vs ≡ false → length (take (length vs - 1) vs) < length vs
-variants-fewer [] some = absurd cc
-variants-fewer (v ∷ vs) some = omega (arith, length-take (length (v ∷ vs) - 1) (v ∷ vs))
+variants-fewer vs some = grind (arith, length-take)
 
 -- ---- scripts
 
 same_script : (r q : Record) → script_of r ≡ script_of q → IsWrittenAs r q
-same_script r q same = by_option (script_of r) (script_of q) same
-  where
-    by_option : (o u : Option (List ℕ)) → o ≡ u → IfSome u (λ script. MatchOption o ⊥ (λ own. Alike own script))
-    by_option o None same = tt
-    by_option None (Some script) same = absurd cc
-    by_option (Some own) (Some script) same = let is : own ≡ script = cc in ap fold_text is
+same_script r q same = grind arith
 
 none_alone : (o alone : Option Fields) → or_else o (or_else alone (or_else o alone)) ≡ None → or_else alone (or_else alone (or_else alone alone)) ≡ None
-none_alone None None none = refl
-none_alone None (Some f) none = absurd cc
-none_alone (Some f) alone none = absurd cc
+none_alone o alone none = grind arith
 
 likely_none : (p : List ℕ) (es : List (List ℕ)) (region : List ℕ) → likely_of p es region ≡ None → likely_of p es [] ≡ None
 likely_none p [] region none = none_alone (likely_for likely_subtags (in_region p region)) (likely_for likely_subtags (in_region p [])) none
@@ -104,9 +84,7 @@ script_in o = option_map (λ f. f.script) o
 unless_written :
     (here alone : Option Fields) → (here ≡ None → alone ≡ None) → unless_alike here alone ≡ None →
     IfSome (script_in alone) (λ script. MatchOption (script_in here) ⊥ (λ own. Alike own script))
-unless_written here None none is = tt
-unless_written None (Some f) none is = let never : Some f ≡ None = none refl in absurd cc
-unless_written (Some here) (Some alone) none is = grind (arith, are_alike-decides)
+unless_written here alone none is = grind (arith, are_alike-decides)
 
 -- ---- a tag with extensions, private use or variants
 
@@ -144,14 +122,7 @@ variant_step r parent well base some is = record {
 -- ---- a language with its script and its region
 
 kept_plain : (r q : Record) → IsPlain r → Alike q.primary r.primary → q.extended ≡ r.extended → q.region ≡ None → q.variants ≡ [] → q.extensions ≡ [] → q.private_use ≡ None → AddsNothing r q
-kept_plain r q plain language extended region variants extensions private_use = record {
-  language = language;
-  extended = extended;
-  region = inl region;
-  variants = ([], append-nil q.variants ∙ variants ∙ sym plain.variants);
-  extensions = extensions;
-  private_use = private_use;
-}
+kept_plain r q plain language extended region variants extensions private_use = grind (arith, common_steps, append-nil)
 
 region_step :
     (r : Record) (region parent : List ℕ) → IsWellFormed r → IsPlain r → r.region ≡ Some region → other_script r region ≡ None →
@@ -173,8 +144,7 @@ region_step r region parent well plain there none is = record {
         rw (same, there) (unless_written (likely_of r.primary r.extended region) (likely_of r.primary r.extended []) (likely_none r.primary r.extended region) unless)
 
 likely_written : (own : List ℕ) (o : Option Fields) → is_likely_script own o ≡ true → IfSome (option_map (λ f. f.script) o) (λ script. Alike own script)
-likely_written own None is = tt
-likely_written own (Some f) is = sym (alike_is f.script own is)
+likely_written own o is = grind (arith, alike_is)
 
 script_step :
     (r : Record) (own parent : List ℕ) → IsWellFormed r → IsPlain r → r.region ≡ None → r.script ≡ Some own →
@@ -206,29 +176,19 @@ of_fields language script region =
     record { primary = language; extended = []; script = Some script; region = region; variants = []; extensions = []; private_use = None }
 
 short-spelled : (language script : List ℕ) → 0 < length script → spell (of_fields language script None) ≡ fields_text language script []
-short-spelled language [] some = absurd (omega (arith, some))
-short-spelled language (b ∷ script) some = refl
+short-spelled language script some = grind arith
 
 whole-spelled : (language script region : List ℕ) → 0 < length script → 0 < length region → spell (of_fields language script (Some region)) ≡ fields_text language script region
-whole-spelled language [] region some there = absurd (omega (arith, some))
-whole-spelled language (b ∷ script) [] some there = absurd (omega (arith, there))
-whole-spelled language (b ∷ script) (c ∷ region) some there = refl
+whole-spelled language script region some there = grind arith
 
 unless_here : (here alone : Option Fields) (f : Fields) → unless_alike here alone ≡ Some f → here ≡ Some f
-unless_here None alone f is = absurd cc
-unless_here (Some here) None f is = grind arith
-unless_here (Some here) (Some alone) f is = grind (arith, are_alike-decides)
+unless_here here alone f is = grind (arith, are_alike-decides)
 
 stands_script : (p : List ℕ) (here : Fields) → Stands p here → IsTrue (is_script here.script)
 stands_script p here stands = (and_parts (is_script here.script) _ stands.stands).0
 
 other_way : (text : List ℕ) (other : Option (List ℕ)) (parent : List ℕ) → stated_or text other ≡ Some parent → ((row_for parent_locales text ≡ Some parent) × (0 < length parent)) ⊎ (other ≡ Some parent)
-other_way text other parent is = by_option (row_for parent_locales text) is
-  where
-    by_option : (o : Option (List ℕ)) → option_map_or stated o other ≡ Some parent → ((o ≡ Some parent) × (0 < length parent)) ⊎ (other ≡ Some parent)
-    by_option None is = inr is
-    by_option (Some []) is = absurd cc
-    by_option (Some (b ∷ text)) is = let same : b ∷ text ≡ parent = cc in inl (is, subst (λ t. 0 < length t) same (omega arith))
+other_way text other parent is = grind arith
 
 table_step :
     (r : Record) (region parent : List ℕ) (here : Fields) → IsWellFormed r → IsPlain r → r.script ≡ None → r.region ≡ Some region →
@@ -266,39 +226,14 @@ pub some_or : {A : Type 0} (o : Option A) → (o ≡ None) ⊎ ((a : A) × (o �
 some_or None = inl refl
 some_or (Some a) = inr (a, refl)
 
-other_none : (o : Option (List ℕ)) (other : Option Fields) → cond (is_none o) other None ≡ None ⊎ (o ≡ None)
-other_none None other = inr refl
-other_none (Some s) other = inl refl
-
 in_region_step : (r : Record) (region parent : List ℕ) → IsWellFormed r → IsPlain r → r.region ≡ Some region → parent_of_region r region ≡ Some parent → Step r parent
-in_region_step r region parent well plain there is = elim (some_or (other_script r region)) [
-  | inl none ↦
-      let cut : Some (spell (with_region r None)) ≡ Some parent = sym (rw none refl) ∙ is in
-      region_step r region parent well plain there none cc
-  | inr some ↦
-      let made : parent_in_script r.primary region some.0 ≡ Some parent = sym (rw some.1 refl) ∙ is in
-      elim (some_or r.script) [
-        | inl none ↦
-            let unless : unless_alike (likely_of r.primary r.extended region) (likely_of r.primary r.extended []) ≡ Some some.0 = sym (rw none refl) ∙ some.1 in
-            table_step r region parent some.0 well plain none there unless made
-        | inr script ↦ let never : None ≡ Some some.0 = sym (rw script.1 refl) ∙ some.1 in absurd cc
-      ]
-]
+in_region_step r region parent well plain there is = grind (arith, region_step r region parent, table_step r region parent)
 
 of_script_step : (r : Record) (own parent : List ℕ) → IsWellFormed r → IsPlain r → r.region ≡ None → r.script ≡ Some own → parent_of_script r own ≡ Some parent → Step r parent
-of_script_step r own parent well plain none there is =
-    either_way (is_likely_script own (likely_of r.primary r.extended []))
-    (λ likely. let cut : Some (spell (with_script r None)) ≡ Some parent = sym (rw likely refl) ∙ is in script_step r own parent well plain none there likely cc)
-    (λ other. let never : None ≡ Some parent = sym (rw other refl) ∙ is in absurd cc)
+of_script_step r own parent well plain none there is = grind (arith, script_step r own parent)
 
 usual_step : (r : Record) (parent : List ℕ) → IsWellFormed r → IsPlain r → usual_parent r ≡ Some parent → Step r parent
-usual_step r parent well plain is = elim (some_or r.region) [
-  | inr region ↦ in_region_step r region.0 parent well plain region.1 (sym (of_region r region.0 region.1) ∙ is)
-  | inl none ↦ elim (some_or r.script) [
-    | inr script ↦ of_script_step r script.0 parent well plain none script.1 (sym (of_script r script.0 none script.1) ∙ is)
-    | inl neither ↦ let never : None ≡ Some parent = sym (of_neither r none neither) ∙ is in absurd cc
-  ]
-]
+usual_step r parent well plain is = grind (arith, in_region_step r, of_script_step r)
 
 plain_step : (r : Record) (parent : List ℕ) → IsWellFormed r → IsPlain r → plain_parent r ≡ Some parent → Step r parent
 unfolding plain_parent
@@ -308,14 +243,7 @@ plain_step r parent well plain is = elim (other_way (spell r) (usual_parent r) p
 ]
 
 pub step : (r : Record) (parent : List ℕ) → IsWellFormed r → parent_of r ≡ Some parent → Step r parent
-step r parent well is =
-    either_way (is_base r)
-    (λ base. let parts = base_parts r base in
-    either_way (is_empty r.variants)
-    (λ none. let plain : IsPlain r = record { variants = empty-nil r.variants none; extensions = parts.0; private_use = parts.1 } in
-    plain_step r parent well plain (plain_is r (plain_parent r) plain refl ∙ is))
-    (λ some. let cut : Some (spell (without_last_variant r)) ≡ Some parent = sym (rw (base, some) refl) ∙ is in variant_step r parent well parts some cc))
-    (λ other. let cut : Some (spell (base_record r)) ≡ Some parent = sym (rw other refl) ∙ is in base_step r parent well other cc)
+step r parent well is = grind (arith, plain_step r parent, variant_step r parent, base_step r parent, base_parts r, empty-nil)
 
 -- ---- the laws
 

@@ -1,2 +1,4 @@
 pub mod Rules
 mod Numbers
+pub mod RepeatLaws
+mod VariantBlockLaws

@@ -12,12 +12,15 @@
 #![tactic(auto)]
 
 mod region;
+mod repeats;
 mod script;
 mod variant;
+mod variant_blocks;
 mod variants;
 mod variants_iter;
 
 pub use region::{InvalidRegion, Region, RegionBuf};
+pub use repeats::{first_repeated_variant, is_among_first};
 pub use script::{InvalidScript, Script, ScriptBuf};
 pub use variant::{InvalidVariant, Variant, VariantBuf};
 pub use variants::{InvalidVariants, Variants, VariantsBuf};

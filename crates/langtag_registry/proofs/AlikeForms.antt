@@ -7,7 +7,7 @@ use Rattle.langtag_scan.specs.Record.{Extension, PrivateUse, Record, spell}
 use Rattle.langtag_scan.specs.Tag.{IsNormal}
 use Rattle.langtag_scan.proofs.CaseLaw.{alike_normal, alike_parts, fold_byte-twice, fold_text-twice, map-twice, spelled_alike}
 use Rattle.langtag.specs.Registered.{IsGrandfathered, IsGrandfatheredAt}
-use Rattle.langtag_registry.specs.Canonical.{sorted_by, in_order, canonical_primary, canonical_extended, canonical_region, canonical_variants, canonical_record, IsCanonicalForm}
+use Rattle.langtag_registry.specs.Canonical.{in_order, canonical_primary, canonical_extended, canonical_region, canonical_variants, canonical_record, IsCanonicalForm}
 use Rattle.langtag_registry.specs.Fields.{preferred_region, preferred_variant, preferred_tag}
 use Rattle.langtag_registry.specs.Subtags.{tag_preferred}
 use Rattle.langtag_registry.proofs.ReplacedSubtags.{replaced-alike, IgnoresCase, value_for-alike, language-alike, region-alike, variant-alike, extlang-alike, registered_extlang-alike}
@@ -39,10 +39,7 @@ variants-fold (v ∷ vs) = grind (arith, common_steps, replaced-alike preferred_
 
 in_order-fold : (es : List Extension) → map fold_extension (in_order (map fold_extension es)) ≡ map fold_extension (in_order es)
 unfolding in_order
-in_order-fold es =
-    let moved : (xs : List Extension) → map fold_extension (sorted_by key xs) ≡ sorted_by key (map fold_extension xs) =
-    sorted_by-map fold_extension key key (λ e. fold_byte-twice e.singleton) in
-    moved (map fold_extension es) ∙ ap (sorted_by key) (map-twice fold_extension fold_extension-twice es) ∙ sym (moved es)
+in_order-fold es = grind (arith, common_steps, key, sorted_by-map, fold_byte-twice, map-twice, fold_extension-twice)
 
 canonical_record-fold : (r : Record) → AlikeRecords (canonical_record (fold_record r)) (canonical_record r)
 unfolding canonical_record

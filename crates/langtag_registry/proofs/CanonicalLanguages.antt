@@ -77,5 +77,4 @@ pub other_stays :
     (primary extlang : List ℕ) (extended : List (List ℕ)) (none : Bool) → extended ≡ extlang ∷ [] → is_registered_extlang extlang ≡ false →
     (none ≡ true) ↔ (unwrap_or (preferred_language primary) primary ≡ primary) →
     (none ≡ true) ↔ ((canonical_primary primary extended ≡ primary) × (canonical_extended extended ≡ extended))
-other_stays primary extlang extended none one other decided =
-    rw (one, extlang_none extlang other, other) (λ h. (decided.0 h, refl), λ stays. decided.1 stays.0)
+other_stays primary extlang extended none one other decided = grind (arith, common_steps, extlang_none)

@@ -1,5 +1,5 @@
 -- The canonical record, part by part, and what a tag becomes by it.
-use Rattle.std.proofs.Common.{◌≡◌, ◌++◌, ◌<◌, ℕ, List, drop, Option, None, Some, unwrap_or, ◌⊎◌, refl, sym, ap, subst, ◌∙◌, arith, inl}
+use Rattle.std.proofs.Common.{◌≡◌, ◌<◌, ℕ, List, Option, None, Some, unwrap_or, ◌⊎◌, refl, sym, ap, subst, ◌∙◌, arith, inl}
 use Rattle.std.proofs.lemmas.Grind.{common_steps}
 use Rattle.langtag_scan.specs.Record.{Record, Spells, spell}
 use Rattle.langtag_scan.specs.Tag.{IsNormal, IsTag}
@@ -55,12 +55,7 @@ form_is_tag old new is p = by_form (form_of old new p)
 pub form_written :
     (old text before after : List ℕ) (len : ℕ) → len < 18446744073709551616 → IsCanonicalForm old text → Writes (λ new. new ≡ text) before after len →
     WritesWhole (IsCanonicalForm old) before after len
-form_written old text before after len fits is w = record {
-  text = w.text;
-  is_so = subst (IsCanonicalForm old) (sym w.is_so) is;
-  whole = omega (arith, w.whole);
-  written = λ room. w.written (omega (arith, w.whole, room)) ∙ ap (λ k. w.text ++ drop k before) w.whole;
-}
+form_written old text before after len fits is w = grind (arith, common_steps)
 
 -- ---- where it is its own canonical form
 

@@ -5,10 +5,11 @@ use Rattle.std.proofs.lemmas.Bool.{and_parts, ltb-true}
 use Rattle.std.proofs.lemmas.Bool.Decides.{nat_tests}
 use Rattle.std.proofs.lemmas.Grind.{common_steps}
 use Rattle.langtag_scan.specs.Class.{is_primary, is_extended}
+use Rattle.langtag_scan.specs.Record.{EachRecord, spell}
 use Rattle.langtag_scan.specs.Tag.{IsNormal}
 use Rattle.langtag_scan.proofs.CaseLaw.{length-fold}
 use Rattle.langtag_language.specs.Language.{SpellsLanguage, IsLanguage}
-use Rattle.langtag_registry.specs.Canonical.{IsCanonicalForm, IsExtlangForm, is_full, extlang_primary, extlang_extended}
+use Rattle.langtag_registry.specs.Canonical.{IsCanonicalForm, IsExtlangForm, is_full, extlang_primary, extlang_extended, extlang_record}
 use Rattle.langtag_registry.specs.Entry.{Entry, value_for}
 use Rattle.langtag_registry.specs.Fields.{extlang_prefix}
 use Rattle.langtag_registry.specs.Subtags.{extlang_prefixes}
@@ -64,3 +65,7 @@ prefixed_language value old new (primary, extended, spells) known same = grind (
 pub other_form : (old form new : List ℕ) → IsCanonicalForm old form → (IsNormal form → ⊥) → new ≡ form → IsExtlangForm old new
 unfolding IsNormal
 other_form old form new is other same = record { form = form; canonical = is; kept = λ _. same; parts = λ r spells. absurd (other (r, spells)) }
+
+-- and one that is
+pub normal_form : (old form new : List ℕ) → IsCanonicalForm old form → IsNormal form → EachRecord form (λ r. new ≡ spell (extlang_record r)) → IsExtlangForm old new
+normal_form old form new is normal parts = record { form = form; canonical = is; kept = λ other. absurd (other normal); parts = parts }

@@ -97,7 +97,6 @@ fn matches_prefix(prefix: &str, before: &str) -> bool
     matches_extended(prefix, before)
 }
 
-#[tactic(auto, using(crate::proofs::PrefixTables::prefix_numbers, crate::proofs::PrefixTables::prefix_texts))]
 fn variant_prefixes() -> &'static [(u64, &'static str)]
     ensures numbers { map (λ pair. pair.0) result.now ≡ map (λ entry. folded_number entry.subtag) list.variant_prefixes }
     ensures values { map (λ pair. pair.1.now) result.now ≡ map (λ entry. entry.value) list.variant_prefixes }

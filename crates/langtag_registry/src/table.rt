@@ -1,5 +1,5 @@
 //! Tables of subtags, which are searched for a string, ignoring case.
-ghost use Rattle.std.specs.Prelude.{◌≡◌, ℕ, List, length, map};
+ghost use Rattle.std.specs.Prelude.{◌≡◌, ℕ, ◌==◌, IsTrue, List, length, map};
 ghost use Rattle.std.specs.Option.{option_map};
 ghost use Rattle.langtag_scan.proofs.SubtagFacts.{IsSubtag};
 ghost use Rattle.langtag_registry.specs.Entry.{Entry, value_for};
@@ -23,7 +23,7 @@ pub(crate) fn value_of(
     text: &[u8],
 ) -> Option<&'static str>
     requires subtag { IsSubtag text.now }
-    requires beside { length keys.now ≡ length values.now }
+    requires beside { IsTrue (length keys.now == length values.now) }
     ensures { (list : List Entry) → IsTableOf keys.now (map (λ text. text.now) values.now) list → option_map (λ text. text.now) result ≡ value_for list text.now }
 {
     match keys.binary_search(&folded_number(text)) {

@@ -1,5 +1,5 @@
 -- The case of letters changes no class, no segment and no stage; so it changes no kind of tag, no part and no end.
-use Rattle.std.proofs.Common.{◌≡◌, ℕ, Bool, false, eqb, List, [], ◌∷◌, ◌++◌, length, map, Option, inl, inr, refl, sym, ap, ◌∙◌, arith, IsTrue, IfSome}
+use Rattle.std.proofs.Common.{rules, ◌≡◌, ℕ, Bool, false, eqb, List, [], ◌∷◌, ◌++◌, length, map, Option, inl, inr, refl, sym, ap, ◌∙◌, arith, IsTrue, IfSome}
 use Rattle.std.specs.List.{AllByRecursion, list_all, flat_map}
 use Rattle.std.specs.Option.{option_map, option_map_or}
 use Rattle.std.proofs.lemmas.Bool.Decides.{nat_tests}

@@ -1,5 +1,5 @@
 -- The subtags over which the stages run are those of the parts of a record, which is found from the last subtag on.
-use Rattle.std.proofs.Common.{◌≡◌, drop, ℕ, suc, zero, ◌-◌, ◌≤◌, true, false, List, [], ◌∷◌, ◌++◌, length, get_or, Option, Some, None, ◌⊎◌, refl, ap, ◌∙◌, arith}
+use Rattle.std.proofs.Common.{◌≡◌, drop, ℕ, suc, zero, ◌-◌, ◌≤◌, true, false, List, [], ◌∷◌, ◌++◌, length, get_or, Option, Some, None, ◌⊎◌, refl, ◌∙◌, arith}
 use Rattle.std.specs.Prelude.{IsTrue, IfSome, ⊤}
 use Rattle.std.specs.List.{AllByRecursion, flat_map}
 use Rattle.std.specs.Option.{option_map_or}
@@ -180,10 +180,4 @@ decode_sound = over_run (λ stage ss. IsSound stage ss (decode stage ss)) none m
         (stage after : Stage) (s : List ℕ) (ss : List (List ℕ)) → next_stage stage s ≡ Some after → IsSound after ss (decode after ss) →
         IsSound stage (s ∷ ss) (decode stage (s ∷ ss))
     more stage after s ss next sound =
-        let step = next_step stage after s next in
-        let b = decode after ss in
-        rw (decode-cons stage after s ss next) (record {
-          ready = Ready-put stage after s b step.0 step.1 sound.ready;
-          fit = FitParts-put after s b step.1 sound.ready sound.fit;
-          spells = ap flatten (by_part-put stage after s b step.0 step.1) ∙ flatten-add after s b ∙ ap (λ us. s ∷ us) sound.spells;
-        })
+        grind (arith, common_steps, next_step stage after s next, decode-cons stage after s ss next, by_part-put stage after s, flatten-add after s)

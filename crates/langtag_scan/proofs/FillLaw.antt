@@ -8,7 +8,7 @@ use Rattle.langtag_scan.specs.Tag.{IsIrregular, IsIrregularAt, IsTag}
 use Rattle.langtag_scan.specs.Viable.{IsViable, IsIrregularPrefix, fill}
 use Rattle.langtag_scan.specs.Stage.{Stage, Start, after_stage}
 use Rattle.langtag_scan.specs.Subtags.{is_hyphen, segments}
-use Rattle.langtag_scan.specs.Machine.{outcome_of, IsRefused, all_at, end_at}
+use Rattle.langtag_scan.specs.Machine.{outcome_of, IsRefused, all_at}
 use Rattle.langtag_scan.specs.declared.ends.Ends.{Ends}
 use Rattle.langtag_scan.specs.declared.finding.Finding.{Finding}
 use Rattle.langtag_scan.proofs.Outcomes.{decided, Decides}
@@ -41,18 +41,12 @@ at_hyphen q u f (p, stage, e, k) is = by_next (after_stage stage (begun q)) refl
     by_next : (o : Option Stage) → after_stage stage (begun q) ≡ o → found_after e (length q) (segments u) o ≡ Some f → IsBegunPrefix (q ++ 45 ∷ [])
     by_next None next found = absurd cc
     by_next (Some after) next found =
-        let ends = end_at after (length q) e in
-        let part : IsPartRead (q ++ 45 ∷ []) [] (q ++ 45 ∷ []) after ends =
-        record { split = append-nil (q ++ 45 ∷ []); reads = reads_after k after next; begun = empty_begun after } in
-        (q ++ 45 ∷ [], after, ends, subst (λ s. IsPartRead (q ++ 45 ∷ []) s (q ++ 45 ∷ []) after ends) (sym (begun-hyphen q)) part)
+        grind (arith, common_steps, append-nil (q ++ 45 ∷ []), reads_after k after next, empty_begun after, begun-hyphen q)
 
 at_other :
     (q u : List ℕ) (b : ℕ) (f : Finding) → eqb b 45 ≡ false → IsBegunPrefix q → outcome_of ((q ++ b ∷ []) ++ u) ≡ Some f → IsBegunPrefix (q ++ b ∷ [])
 at_other q u b f other (p, stage, e, k) is =
-    let split : p ++ (begun q ++ b ∷ []) ≡ q ++ b ∷ [] = sym (append_assoc p (begun q) (b ∷ [])) ∙ ap (λ x. x ++ b ∷ []) k.split in
-    let part : IsPartRead p (begun q ++ b ∷ []) (q ++ b ∷ []) stage e =
-    record { split = split; reads = k.reads; begun = found_begun k b u f other is } in
-    (p, stage, e, subst (λ s. IsPartRead p s (q ++ b ∷ []) stage e) (sym (begun-push q b other)) part)
+    grind (arith, common_steps, append_assoc p (begun q) (b ∷ []), found_begun k b u f other is, begun-push q b other)
 
 -- byte by byte
 begins : (q p u : List ℕ) (f : Finding) → IsBegunPrefix q → outcome_of ((q ++ p) ++ u) ≡ Some f → IsBegunPrefix (q ++ p)
@@ -64,9 +58,7 @@ begins q (b ∷ p) u f k is =
     subst IsBegunPrefix rest (begins (q ++ b ∷ []) p u f next found)
   where
     by_hyphen : (v : Bool) → eqb b 45 ≡ v → outcome_of ((q ++ b ∷ []) ++ (p ++ u)) ≡ Some f → IsBegunPrefix (q ++ b ∷ [])
-    by_hyphen true e now =
-        subst (λ x. IsBegunPrefix (q ++ x ∷ [])) (sym (eqb-true b 45 e))
-        (at_hyphen q (p ++ u) f k (ap (λ x. outcome_of ((q ++ x ∷ []) ++ (p ++ u))) (sym (eqb-true b 45 e)) ∙ now))
+    by_hyphen true e now = grind (arith, common_steps, eqb-true b 45 e, at_hyphen q (p ++ u) f k)
     by_hyphen false e now = at_other q (p ++ u) b f e k now
 
 -- so its last subtag can be filled
@@ -85,10 +77,7 @@ filled_tag p u some = by_found (outcome_of (p ++ u)) refl
 prefix_from_irregular : (p u : List ℕ) (k : ℕ) → IsIrregularAt k (p ++ u) → IsIrregularPrefix p
 unfolding IsIrregularAt IsIrregularPrefix
 prefix_from_irregular p u k (name, at, same) =
-    let whole : fold_text name ≡ fold_text p ++ fold_text u = same ∙ map-append fold_byte p u in
-    let prefix : take (length p) (fold_text name) ≡ fold_text p =
-    ap (take (length p)) whole ∙ ap (λ n. take n (fold_text p ++ fold_text u)) (sym (length-map p fold_byte)) ∙ take-append_seam (fold_text p) (fold_text u) in
-    (k, name, at, sym prefix ∙ take-map fold_byte (length p) name)
+    grind (arith, common_steps, map-append fold_byte p u, length-map p fold_byte, take-append_seam (fold_text p) (fold_text u), take-map fold_byte (length p) name)
 
 irregular_from_prefix : (p : List ℕ) → IsIrregularPrefix p → IsViable p
 unfolding IsIrregularAt IsIrregularPrefix

@@ -1,5 +1,5 @@
 -- The kind of a subtag and its length tell its classes.
-use Rattle.std.proofs.Common.{◌≡◌, ℕ, suc, ◌≤◌, Bool, true, false, eqb, ne_eqb, not, ◌&&◌, List, [], ◌∷◌, length, refl, sym, ap, ◌∙◌, arith, fold}
+use Rattle.std.proofs.Common.{◌≡◌, ℕ, suc, ◌≤◌, Bool, true, false, eqb, ne_eqb, not, ◌&&◌, List, [], ◌∷◌, length, refl, sym, ◌∙◌, arith, fold}
 use Rattle.std.proofs.Math.Bool.{and-true, and_assoc}
 use Rattle.std.proofs.lemmas.Bool.{le-leb, and_parts, false_from_ne_true, both_ways}
 use Rattle.std.proofs.lemmas.Bool.Decides.{nat_tests}
@@ -41,11 +41,7 @@ letters-kind (b ∷ s) kind = cc (letters-kind s (kind_after kind b), has_letter
 
 digits-kind : (s : List ℕ) (kind : Kind) → are_alphanumeric s ≡ true → has_digits (fold kind_after kind s) ≡ (has_digits kind && are_digits s)
 digits-kind [] kind h = sym (and-true (has_digits kind))
-digits-kind (b ∷ s) kind h =
-    let k = and_parts (is_alphanumeric b) (are_alphanumeric s) h in
-    digits-kind s (kind_after kind b) k.1
-    ∙ ap (λ v. v && are_digits s) (has_digits-after kind b ∙ ap (λ v. has_digits kind && v) (sym (digit-letter b k.0)))
-    ∙ and_assoc (has_digits kind) (is_digit b) (are_digits s)
+digits-kind (b ∷ s) kind h = grind (arith, common_steps, and_parts, digits-kind s (kind_after kind b), has_digits-after, digit-letter, and_assoc)
 
 begins-kind : (s : List ℕ) (kind : Kind) → is_some_kind kind ≡ true → begins_with_digit (fold kind_after kind s) ≡ begins_with_digit kind
 begins-kind [] kind some = refl

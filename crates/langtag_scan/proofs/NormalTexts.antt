@@ -6,10 +6,10 @@ use Rattle.std.proofs.lemmas.List.Splits.{join_with_byte-slice_split}
 use Rattle.std.proofs.lemmas.Grind.{common_steps}
 use Rattle.langtag_scan.specs.Record.{Record, IsWellFormed, flat, spell}
 use Rattle.langtag_scan.specs.Stage.{Stage, Start, classes_of, after_stage}
-use Rattle.langtag_scan.specs.Subtags.{join, segments}
+use Rattle.langtag_scan.specs.Subtags.{segments}
 use Rattle.langtag_scan.specs.Tag.{IsNormal}
 use Rattle.langtag_scan.proofs.Steps.{leads_to, after_class, next_step}
-use Rattle.langtag_scan.proofs.Decoding.{Read, Ready, FitParts, decode, decode_sound, over_run}
+use Rattle.langtag_scan.proofs.Decoding.{Read, Ready, FitParts, decode_sound, over_run}
 use Rattle.langtag_scan.proofs.Complete.{decode_complete, flat_once}
 use Rattle.langtag_scan.proofs.SubtagFacts.{IsSubtag, of_primary, of_extended, of_script, of_region, of_variant, of_extension_subtag, of_private_subtag, of_one, of_mark, singleton_alphanumeric}
 use Rattle.langtag_scan.proofs.SubtagLists.{segments-joined}
@@ -43,11 +43,7 @@ well_formed b m k = grind (arith, common_steps)
 -- a text is normal where its segments may follow one another
 pub normal_from_runs : (t : List ℕ) → runs Start (segments t) ≡ true → IsNormal t
 unfolding IsNormal
-normal_from_runs t run =
-    let sound = decode_sound (segments t) Start run in
-    let b = decode Start (segments t) in
-    let spells : flat b.parts ≡ segments t = simp append-nil at sound.spells in
-    (b.parts, (well_formed b sound.ready sound.fit, ap join spells ∙ join_with_byte-slice_split 45 t))
+normal_from_runs t run = grind (arith, common_steps, decode_sound (segments t) Start run, append-nil, well_formed, join_with_byte-slice_split 45 t)
 
 -- and only there
 pub runs_from_normal : (t : List ℕ) → IsNormal t → runs Start (segments t) ≡ true

@@ -1,5 +1,5 @@
 -- No text is of two of the three cases of a tag.
-use Rattle.std.proofs.Common.{◌≡◌, ℕ, ◌<◌, Bool, false, List, map, refl, arith}
+use Rattle.std.proofs.Common.{rules, ◌≡◌, ℕ, ◌<◌, Bool, false, List, map, refl, arith}
 use Rattle.std.proofs.lemmas.Bool.{agree_below_at, both_ways}
 use Rattle.std.proofs.lemmas.Grind.{common_steps}
 use Rattle.langtag_scan.specs.Case.{fold_byte, fold_text}

@@ -1,12 +1,12 @@
 -- What the stages find of a text is what it is: a normal tag with the ends of its parts, a private use tag, or neither.
-use Rattle.std.proofs.Common.{◌≡◌, ℕ, Bool, false, cond, List, [], ◌∷◌, Some, None, refl, ap, arith, sym, subst, ◌∙◌, Option, MatchOption}
+use Rattle.std.proofs.Common.{◌≡◌, ℕ, Bool, false, cond, List, [], ◌∷◌, Some, None, refl, arith, sym, subst, ◌∙◌, Option, MatchOption}
 use Rattle.std.specs.Option.{option_map_or}
 use Rattle.std.proofs.lemmas.Bool.{both_ways}
 use Rattle.std.proofs.lemmas.Grind.{common_steps}
 use Rattle.langtag_scan.specs.Ends.{HasEnds}
 use Rattle.langtag_scan.specs.Found.{IsFoundOf}
 use Rattle.langtag_scan.specs.Machine.{all_at, end_at, index_after, outcome, outcome_of, IsRefused}
-use Rattle.langtag_scan.specs.Stage.{Stage, Start, InPrivate, AfterMark, AfterFirstMark, InPrivateTag, next_stage}
+use Rattle.langtag_scan.specs.Stage.{Stage, Start, InPrivate, AfterMark, AfterFirstMark, InPrivateTag}
 use Rattle.langtag_scan.specs.Subtags.{segments}
 use Rattle.langtag_scan.specs.Tag.{IsNormal}
 use Rattle.langtag_scan.specs.declared.ends.Ends.{Ends}
@@ -15,7 +15,7 @@ use Rattle.langtag_scan.specs.declared.finding.Finding.TheVariants.{Normal, Priv
 use Rattle.langtag_scan.proofs.EndsLaw.{ends_after-flat}
 use Rattle.langtag_scan.proofs.NormalTexts.{normal_from_runs, runs_from_normal, spelled_segments}
 use Rattle.langtag_scan.proofs.PrivateTexts.{runs_private, runs_from_private, private_from_runs, one_no_primary}
-use Rattle.langtag_scan.proofs.Running.{first_of, found_after}
+use Rattle.langtag_scan.proofs.Running.{first_of}
 use Rattle.langtag_scan.proofs.StageLaws.{is_outside, next_inside, after-inside}
 use Rattle.langtag_scan.proofs.Runs.{runs, ends_after}
 
@@ -37,10 +37,7 @@ normal_outcome :
     outcome stage e ss ≡ found_if (runs stage ss) (Normal (ends_after stage e ss))
 unfolding outcome runs ends_after is_outside
 normal_outcome [] stage e inside = grind (arith, common_steps)
-normal_outcome (s ∷ ss) stage e inside =
-    ap (found_after e (index_after stage e s) ss) (after-inside stage s inside)
-    ∙ one_more (λ after. outcome after (end_at after (index_after stage e s) e) ss) (λ after. runs after ss) (λ after. ends_after after (end_at after (index_after stage e s) e) ss) e (next_stage stage s)
-    (λ after at. normal_outcome ss after (end_at after (index_after stage e s) e) (next_inside stage after s at))
+normal_outcome (s ∷ ss) stage e inside = grind (arith, common_steps, after-inside, one_more, normal_outcome ss, next_inside)
 
 private_outcome : (ss : List (List ℕ)) (e : Ends) → outcome InPrivateTag e ss ≡ found_if (runs InPrivate ss) PrivateUse
 unfolding outcome runs

@@ -1,5 +1,5 @@
 -- What a position says is so: which tags may follow the bytes that led to it, and where their parts have ended.
-use Rattle.std.proofs.Common.{◌≡◌, ℕ, ◌+◌, ◌<◌, ◌≤◌, Bool, true, false, cond, eqb, eqb-true, ne_eqb, List, [], ◌∷◌, ◌++◌, length, get_or, set, Option, Some, None, refl, arith, append_assoc, append-nil, sym, ap, subst, ◌∙◌, MatchOption, replicate}
+use Rattle.std.proofs.Common.{◌≡◌, ℕ, ◌+◌, ◌<◌, ◌≤◌, Bool, true, false, cond, eqb, eqb-true, ne_eqb, List, [], ◌∷◌, ◌++◌, length, get_or, set, Option, Some, None, refl, arith, append_assoc, append-nil, sym, ap, ◌∙◌, MatchOption, replicate}
 use Rattle.std.specs.Option.{option_map, option_map_or}
 use Rattle.std.proofs.Math.Bool.{and-true}
 use Rattle.std.proofs.lemmas.Bool.{cases_lt, and_parts, and_left, lt-ltb, ltb-true, both_ways}
@@ -9,7 +9,7 @@ use Rattle.std.proofs.lemmas.List.Quantifiers.{position-Some}
 use Rattle.std.proofs.lemmas.List.Sums.{fold-append, fails_before_first}
 use Rattle.langtag_scan.specs.Case.{fold_byte, fold_text}
 use Rattle.langtag_scan.specs.Grandfathered.{grandfathered_tags, irregular_texts}
-use Rattle.langtag_scan.specs.Irregular.{folded_texts, is_prefix, is_possible, folded_at}
+use Rattle.langtag_scan.specs.Irregular.{folded_texts, is_prefix, is_possible}
 use Rattle.langtag_scan.specs.Kind.{kind_after, kind_of}
 use Rattle.langtag_scan.specs.Machine.{IsBegun, end_at, HasStopped, ends_at}
 use Rattle.langtag_scan.specs.Position.{Begun, fresh, nothing_read, may_grow, stage_after, begun_after, possible_index, irregular_after, position_after, position_of, place_of}
@@ -46,17 +46,7 @@ marked_on places n e m = grind (arith, common_steps, length-set, below_set, plac
 -- the part of a stage ends at the index
 ends_set : (places : List ℕ) (n : ℕ) (e : Ends) (after : Stage) → (after ≡ Start → ⊥) → IsMarked places n e → end_at after n e ≡ ends_at (set places (place_of after) n) (end_at after n e).whole
 ends_set places n e Start past m = absurd (past refl)
-ends_set places n e after past m =
-    let k = place_of after in
-    let within : k < length places = omega (arith, m.six) in
-    rw (placed places k n 0 within, placed places k n 1 within, placed places k n 2 within, placed places k n 3 within, placed places k n 4 within)
-    (ends_equal _ _
-    (omega (arith, m.below 0, m.below 1, m.below 2, m.below 3, m.below 4, ap (λ (x : Ends). x.language) m.is))
-    (omega (arith, m.below 0, m.below 1, m.below 2, m.below 3, m.below 4, ap (λ (x : Ends). x.script) m.is))
-    (omega (arith, m.below 0, m.below 1, m.below 2, m.below 3, m.below 4, ap (λ (x : Ends). x.region) m.is))
-    (omega (arith, m.below 0, m.below 1, m.below 2, m.below 3, m.below 4, ap (λ (x : Ends). x.variants) m.is))
-    (omega (arith, m.below 0, m.below 1, m.below 2, m.below 3, m.below 4, ap (λ (x : Ends). x.extensions) m.is))
-    refl)
+ends_set places n e after past m = grind (arith, common_steps, placed, ends_equal)
 
 pub marked_end : (places : List ℕ) (n : ℕ) (e : Ends) (after : Stage) → (after ≡ Start → ⊥) → IsMarked places n e → IsMarked (set places (place_of after) n) (n + 1) (end_at after n e)
 marked_end places n e after past m = grind (arith, common_steps, length-set, below_set, ends_set)
@@ -154,18 +144,13 @@ by_index q o at =
     grind (arith, common_steps, seventeen_folded, position-Some (is_prefix (fold_text q)) folded_texts, cases_lt, fails_before_first, lt-ltb)
 
 pub irregular_push : (q : List ℕ) (b : ℕ) (o : Option (List ℕ)) → FollowsIrregular q o → FollowsIrregular (q ++ b ∷ []) (option_map_or (irregular_after b) o None)
-irregular_push q b None none = λ k within.
-    rw (fold_text-push q b, is_prefix-push (fold_text q) (folded_at k) (fold_byte b)) (and_left (is_possible q k) _ (none k within))
+irregular_push q b None none = grind (arith, common_steps, fold_text-push, is_prefix-push, and_left)
 irregular_push q b (Some p) (is, k, at, within, possible) =
-    let same : p ++ fold_byte b ∷ [] ≡ fold_text (q ++ b ∷ []) = ap (λ x. x ++ fold_byte b ∷ []) is ∙ sym (fold_text-push q b) in
-    rw same (by_index (q ++ b ∷ []) (possible_index (fold_text (q ++ b ∷ []))) refl)
+    grind (arith, common_steps, fold_text-push q b, by_index (q ++ b ∷ []) (possible_index (fold_text (q ++ b ∷ []))) refl)
 
 follows_from : (p q : List ℕ) → FollowsIrregular p (position_of p).irregular → FollowsIrregular (p ++ q) (position_of (p ++ q)).irregular
 follows_from p [] known = rw (append-nil p) known
-follows_from p (b ∷ q) known =
-    let more = irregular_push p b (position_of p).irregular known in
-    let next : FollowsIrregular (p ++ b ∷ []) (position_of (p ++ b ∷ [])).irregular = rw (position_of-push p b) more in
-    subst (λ x. FollowsIrregular x (position_of x).irregular) (append_assoc p (b ∷ []) q) (follows_from (p ++ b ∷ []) q next)
+follows_from p (b ∷ q) known = grind (arith, common_steps, irregular_push, position_of-push, append_assoc, follows_from (p ++ b ∷ []) q)
 
 pub follows_irregular : (q : List ℕ) → FollowsIrregular q (position_of q).irregular
 unfolding folded_texts irregular_texts grandfathered_tags

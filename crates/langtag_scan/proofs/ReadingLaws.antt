@@ -1,5 +1,5 @@
 -- What is known of a text with which a tag may begin, while another of its subtags is read and once it has ended.
-use Rattle.std.proofs.Common.{◌≡◌, ℕ, false, eqb, List, [], ◌∷◌, ◌++◌, length, Some, None, refl, sym, ap, ◌∙◌, arith, append_assoc, append-nil, Option}
+use Rattle.std.proofs.Common.{rules, ◌≡◌, ℕ, false, eqb, List, [], ◌∷◌, ◌++◌, length, Some, None, refl, sym, ap, ◌∙◌, arith, append_assoc, append-nil, Option}
 use Rattle.std.proofs.lemmas.List.{length-append, length_push}
 use Rattle.std.proofs.lemmas.Grind.{common_steps}
 use Rattle.langtag_scan.specs.Machine.{IsBegun, all_at, end_at, index_after, outcome, outcome_of, Reads, HasStopped, IsRefused}

@@ -74,9 +74,7 @@ module _ (t places : List ℕ) (refused : IsRefused t) where
   -- what is neither normal nor for private use may be irregular
   refused_ended : (o : Option (List ℕ)) → FollowsIrregular t o → IsEnded t places (option_map_or irregular_ending o NoTag)
   unfolding IsIrregular
-  refused_ended None gone = no_tag t refused (λ (k, irregular).
-      let possible = possible_prefix t [] k (subst (IsIrregularAt k) (sym (append-nil t)) irregular) in
-      both_ways (is_possible t k) (gone k possible.0) possible.1)
+  refused_ended None gone = grind (arith, common_steps, no_tag t refused, possible_prefix t [], append-nil t, both_ways)
   refused_ended (Some p) (is, k, at, within, possible) = rw is (by_text (position (bytes_eq (fold_text t)) folded_texts) refl)
 
 -- the whole text is neither
@@ -99,9 +97,7 @@ module _ (t places : List ℕ) (s : Begun) (known : IsTracked t places s) (o : O
   unfolding outcome
   by_stage None next = refused_ended t places (subst (Decides t) (reads_ended known.part ∙ ap (found_after known.ends (length t) []) (sym (stage_is t places s known) ∙ next)) (decided t)) o follows
   by_stage (Some stage) next =
-      let led = sym (stage_is t places s known) ∙ next in
-      by_end stage (after_not_start s.stage stage known.bytes led) (may_end stage)
-      (subst (Decides t) (reads_ended known.part ∙ ap (found_after known.ends (length t) []) led) (decided t))
+      grind (arith, common_steps, stage_is t places s known, by_end stage, after_not_start s.stage stage known.bytes, reads_ended known.part, decided t)
 
 by_begun :
     (t places : List ℕ) (b : Option Begun) (o : Option (List ℕ)) → Tracks t places b → FollowsIrregular t o →

@@ -47,9 +47,7 @@ first_of (b ∷ u) = grind (arith, common_steps, first_of u, slice_split-cons_ye
 
 segments-prefix : (s u v : List ℕ) (ss : List (List ℕ)) → are_alphanumeric s ≡ true → segments u ≡ v ∷ ss → segments (s ++ u) ≡ (s ++ v) ∷ ss
 segments-prefix [] u v ss h e = e
-segments-prefix (b ∷ s) u v ss h e =
-    let k = and_parts (is_alphanumeric b) (are_alphanumeric s) h in
-    slice_split-cons_no is_hyphen b (s ++ u) (alphanumeric_no_hyphen b k.0) ∙ ap (onto_first b) (segments-prefix s u v ss k.1 e)
+segments-prefix (b ∷ s) u v ss h e = grind (arith, common_steps, and_parts, slice_split-cons_no, alphanumeric_no_hyphen, segments-prefix s u v ss)
 
 -- ---- a subtag that has begun
 

@@ -1,6 +1,6 @@
 -- A normal text: its one record, the offsets where its parts end, and what a fact of which only the truth is known
 -- says of them.
-use Rattle.std.proofs.Common.{◌≡◌, ℕ, List, length, refl, sym, ◌∙◌, arith, IsAscii}
+use Rattle.std.proofs.Common.{rules, ◌≡◌, ℕ, List, length, refl, sym, ◌∙◌, arith, IsAscii}
 use Rattle.std.proofs.Math.Logic.{∥∥₁_elim, ∥∥₁_prop}
 use Rattle.std.proofs.Props.{props}
 use Rattle.std.proofs.lemmas.Grind.{common_steps}

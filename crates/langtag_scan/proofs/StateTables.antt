@@ -61,14 +61,10 @@ pub irregular_by : (n : ℕ) → 8 ≤ n → Irregular (n - 8) ≡ ending_by n
 irregular_by n past = rw (le-ltb n 6 (omega arith), ne_eqb n 6 (λ e. omega (arith, e)), ne_eqb n 7 (λ e. omega (arith, e))) refl
 
 ending_from : (n : ℕ) (ending : Ending) → says n ending ≡ true → ending_by n ≡ ending
-ending_from n (Normal place) is =
-    let parts = and_parts (eqb n place) (ltb place 6) is in
-    rw (eqb-true n place parts.0, parts.1) refl
+ending_from n (Normal place) is = grind (arith, common_steps, and_parts, eqb-true)
 ending_from n NoTag is = ap ending_by (eqb-true n 6 is)
 ending_from n PrivateUse is = ap ending_by (eqb-true n 7 is)
-ending_from n (Irregular k) is =
-    ap ending_by (eqb-true n (k + 8) is)
-    ∙ sym (irregular_by (k + 8) (omega arith)) ∙ ap Irregular (omega arith)
+ending_from n (Irregular k) is = grind (arith, common_steps, eqb-true, irregular_by)
 
 -- one byte of a class leads from a position with this number to that of the next one, which is that of no state where no tag begins so
 abbrev leads : Position → ℕ → ℕ → Bool

@@ -24,12 +24,8 @@ segments_left-first text first rest free joined = grind (arith, common_steps, sl
 -- the segments before and after any hyphen
 pub slice_split-append : (prefix back : List ℕ) → segments (prefix ++ 45 ∷ back) ≡ segments prefix ++ segments back
 slice_split-append [] back = refl
-slice_split-append (b ∷ prefix) back = by_first (is_hyphen b) refl (slice_split-append prefix back)
-  where
-    by_first :
-        (cut : Bool) → is_hyphen b ≡ cut → segments (prefix ++ 45 ∷ back) ≡ segments prefix ++ segments back →
-        segments (b ∷ prefix ++ 45 ∷ back) ≡ segments (b ∷ prefix) ++ segments back
-    by_first cut kept others = grind (arith, common_steps, slice_split-cons_yes, slice_split-cons_no, length-slice_split)
+slice_split-append (b ∷ prefix) back =
+    grind (arith, common_steps, slice_split-append prefix back, slice_split-cons_yes, slice_split-cons_no, length-slice_split)
 
 -- one more segment, after a hyphen
 pub slice_split-push : (prefix last : List ℕ) → IsHyphenFree last → segments (prefix ++ 45 ∷ last) ≡ segments prefix ++ last ∷ []
@@ -50,10 +46,8 @@ onto_first-hyphen_free b (text ∷ texts) kept free =
 
 pub segments-hyphen_free : (text : List ℕ) → All IsHyphenFree (segments text)
 segments-hyphen_free [] = All-cons IsHyphenFree [] [] (All-nil (λ c. is_hyphen c ≡ false)) (All-nil IsHyphenFree)
-segments-hyphen_free (b ∷ text) = by_first (is_hyphen b) refl (segments-hyphen_free text)
-  where
-    by_first : (cut : Bool) → is_hyphen b ≡ cut → All IsHyphenFree (segments text) → All IsHyphenFree (segments (b ∷ text))
-    by_first cut kept free = grind (arith, common_steps, slice_split-cons_yes, All-cons, All-nil, slice_split-cons_no, onto_first-hyphen_free)
+segments-hyphen_free (b ∷ text) =
+    grind (arith, common_steps, segments-hyphen_free text, slice_split-cons_yes, slice_split-cons_no, onto_first-hyphen_free)
 
 -- ---- joining and splitting
 

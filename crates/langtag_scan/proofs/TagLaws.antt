@@ -51,16 +51,8 @@ stop_whole t viable = grind (arith, common_steps, take-length t, prefixes_viable
 
 -- a prefix that is viable, while one byte more is not
 pub viable_up_to : (t : List ℕ) (i : ℕ) → i ≤ length t → IsViable (take i t) → (IsViable (take (i + 1) t) → ⊥) → IsViableLength t i
-viable_up_to t i within viable dead = record {
-  within = within;
-  viable = λ k le. prefixes_viable t i k viable le;
-  longest = λ k above le longer. dead (prefixes_viable t k (i + 1) longer (omega arith));
-}
+viable_up_to t i within viable dead = grind (arith, common_steps, prefixes_viable)
 
 -- the length of the text, if it is viable as a whole
 pub viable_whole : (t : List ℕ) (i n : ℕ) → i ≡ length t → n ≡ i → IsViable (take i t) → IsViableLength t n
-viable_whole t i n at is viable = record {
-  within = omega (arith, at, is);
-  viable = λ k le. prefixes_viable t i k viable (omega (arith, is));
-  longest = λ k above le longer. omega (arith, at, is);
-}
+viable_whole t i n at is viable = grind (arith, common_steps, prefixes_viable)

@@ -11,7 +11,7 @@ use Rattle.std.specs.Option.{IfSome}
 use Rattle.std.proofs.lemmas.Bool.Decides.{nat_tests}
 use Rattle.langtag_range.specs.Element.{Element, is_comma, items}
 use Rattle.langtag_range.specs.Wanted.{digits_behind, wanted, wanted_elements, wanted_items}
-use Rattle.langtag_match.proofs.Offsets.{item_stands, width}
+use Rattle.langtag_span.proofs.Offsets.{item_stands, width}
 use Rattle.langtag_span.specs.RangePlaces.{IsRangeAt, has_range, range_count, spaces_before}
 use Rattle.langtag_span.specs.declared.span.Span.{Span}
 use Rattle.langtag_span.proofs.LookUps.{take_next}

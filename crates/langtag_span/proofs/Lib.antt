@@ -3,6 +3,7 @@ pub mod FoundExtension
 pub mod HeaderRanges
 pub mod ItemLaws
 pub mod LookUps
+pub mod Offsets
 pub mod PartLaws
 pub mod PlaceLaws
 pub mod RangesAt

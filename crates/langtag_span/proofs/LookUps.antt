@@ -19,7 +19,7 @@ use Rattle.langtag_range.specs.Element.{Element, is_comma, items}
 use Rattle.langtag_range.specs.Fallback.{fallbacks}
 use Rattle.langtag_match.specs.Stable.{with_key}
 use Rattle.langtag_match.specs.declared.accept_language_error.ElementPart.{ElementPart}
-use Rattle.langtag_match.proofs.Offsets.{item_stands, sum_by-slice_split, width}
+use Rattle.langtag_span.proofs.Offsets.{item_stands, sum_by-slice_split, width}
 use Rattle.langtag_span.specs.Spanned.{IsTagAt}
 use Rattle.langtag_span.specs.Heaviest.{heaviest}
 use Rattle.langtag_span.specs.LookUp.{IsBadAt, IsLookedUp, first_index_alike, first_found, index_alike}

@@ -1,5 +1,5 @@
 -- Parts by number, and setting a part of a normal tag to a text, or removing it (RFC 5646 sections 2.2.1 to 2.2.7).
-use Rattle.std.specs.Prelude.{ℕ, List, [], ◌∷◌, slice_get, Option, IfSome, MatchOption, IsTrue}
+use Rattle.std.specs.Prelude.{◌≡◌, ℕ, List, [], ◌∷◌, slice_get, Option, IfSome, MatchOption, IsTrue}
 use Rattle.langtag_scan.specs.Class.{is_script, is_region}
 use Rattle.langtag_language.specs.Language.{IsLanguage}
 use Rattle.langtag_place.specs.Variants.{IsVariants}
@@ -7,6 +7,7 @@ use Rattle.langtag_extension.specs.Spelling.{IsExtensions}
 use Rattle.langtag_private.specs.PrivateUse.{IsPrivateUse}
 use Rattle.langtag_keyword.specs.Transform.{some_text}
 use Rattle.langtag.specs.Edit.{SetsLanguage, SetsScript, SetsRegion, SetsVariants, SetsExtensions, SetsPrivateUse}
+use Rattle.langtag.specs.Text.{part_text}
 use Rattle.langtag.specs.declared.part.Part.{Part}
 use Rattle.langtag.specs.declared.part.Part.TheVariants.{Language, Script, Region, Variants, Extensions, PrivateUse}
 
@@ -35,6 +36,10 @@ IsTextOf region text = IfSome (some_text text) (λ s. IsTrue (is_region s))
 IsTextOf variants text = IsVariants text
 IsTextOf extensions text = IsExtensions text
 IsTextOf private_use text = IfSome (some_text text) IsPrivateUse
+
+-- the part has this name and this text, or it is `None` if the text is not a text of this part
+abbrev pub IsPartNamed : PartName → List ℕ → Option Part → Type 0
+IsPartNamed name text result = MatchOption result (IsTextOf name text → ⊥) (λ part. IsTextOf name text × (name_of part ≡ name) × (part_text part ≡ text))
 
 -- the second tag is the first tag with the part set to the text
 abbrev pub SetsNamedPart : PartName → List ℕ → List ℕ → List ℕ → Type 0

@@ -14,14 +14,14 @@ use Rattle.langtag_scan.proofs.SubtagLists.{each_subtag, subtags-joined}
 use Rattle.langtag_scan.specs.Case.{are_alike, fold_text}
 use Rattle.langtag_scan.specs.Class.{are_alphanumeric, has_length, is_extension_subtag}
 use Rattle.langtag_scan.specs.Subtags.{join, subtags}
-use Rattle.langtag_keyword.specs.Edit.{is_this_key, is_type, is_unicode_key, keyword_error, put_keyword, with_keyword, without_keyword, without_within}
+use Rattle.langtag_keyword.specs.Edit.{is_this_key, is_type, is_unicode_key, keyword_error, with_keyword, without_keyword, without_within}
 use Rattle.langtag_keyword.specs.Form as form
 use Rattle.langtag_keyword.specs.Form.{in_alphabet, keys_in_order, put_among, unicode_form, unicode_value}
 use Rattle.langtag_keyword.specs.Keywords.{before_key, is_key, value_of}
 use Rattle.langtag_keyword.proofs.Each.{each-alphabet}
 use Rattle.langtag_unicode.proofs.FormRecords.{Good, good-value, types-unicode}
 use Rattle.langtag_keyword.proofs.AscendingTexts.{KeySplit, among, among-put, key-split, lower-put, same-risen}
-use Rattle.langtag_keyword.proofs.KeywordBlocks.{AreValues, block, blocks, find-among, find-passed, found_key, put-among, put-passed, removed-among, without-passed}
+use Rattle.langtag_keyword.proofs.KeywordBlocks.{AreValues, block, blocks, find-among, find-passed, put-among, put-passed, removed-among, without-passed}
 use Rattle.langtag_keyword.proofs.KeywordsInForm as in_form
 use Rattle.langtag_keyword.proofs.KeywordsInForm.{blocks-put, flat-same, keys-have, plain-before}
 use Rattle.langtag_keyword.proofs.AlphabetLaws.{Rise, rise-in_alphabet, rise-put}
@@ -138,23 +138,15 @@ module _ (ss : List (List ℕ)) (good : Good ss) (own : unicode_form ss ≡ ss) 
 
   set-shape : (v : List (List ℕ)) → with_keyword key v ss ≡ spelled (key ∷ v)
   set-shape v =
-      ap (λ o. put_keyword key (is_some o) (unwrap_or o key ∷ v) ss) found ∙ by_value (values ss key) refl shape
-    where
-      found : find (is_this_key key) ss ≡ found_key key (values ss key)
-      found =
-          ap (find (is_this_key key)) shape
-          ∙ find-passed key attributes (blocks (values ss) s.before ++ (block (values ss) key ++ blocks (values ss) s.after)) plain
-          ∙ find-among (values ss) (values-are ss good) key s.before s.after s.early s.late s.before_others s.after_others (alike-itself key)
-
-      by_value :
-          (o : Option (List (List ℕ))) → values ss key ≡ o → ss ≡ spelled (option_map_or (λ w. key ∷ w) o []) →
-          put_keyword key (is_some (found_key key o)) (unwrap_or (found_key key o) key ∷ v) ss ≡ spelled (key ∷ v)
-      by_value None is same =
-          ap (put_keyword key false (key ∷ v)) same ∙ put-passed key false (key ∷ v) attributes _ plain
-          ∙ ap (λ t. attributes ++ t) (put-among (values ss) (values-are ss good) key s.before s.after s.early s.late s.before_others s.after_others (alike-itself key) v false None is refl)
-      by_value (Some old) is same =
-          ap (put_keyword key true (key ∷ v)) same ∙ put-passed key true (key ∷ v) attributes _ plain
-          ∙ ap (λ t. attributes ++ t) (put-among (values ss) (values-are ss good) key s.before s.after s.early s.late s.before_others s.after_others (alike-itself key) v true (Some old) is refl)
+      grind (
+        arith,
+        common_steps,
+        shape,
+        find-passed key attributes (blocks (values ss) s.before ++ (block (values ss) key ++ blocks (values ss) s.after)) plain,
+        find-among (values ss) (values-are ss good) key s.before s.after s.early s.late s.before_others s.after_others (alike-itself key),
+        λ (stands : Bool). put-passed key stands (key ∷ v) attributes (blocks (values ss) s.before ++ (block (values ss) key ++ blocks (values ss) s.after)) plain,
+        put-among (values ss) (values-are ss good) key s.before s.after s.early s.late s.before_others s.after_others (alike-itself key) v,
+      )
 
   -- the form of other subtags with these attributes, and with these values of other keys
   other-form :

@@ -187,13 +187,7 @@ module _ (ss : List (List ℕ)) (good : Good ss) (are : are_fields false false s
 
   -- a value is that of a key, and has no keys
   pub field_values : AreKeywords is_field_key (values_in_form is_field_key transform_value ss)
-  field_values key v is = by_value (value_of is_field_key key ss) refl is
-    where
-      by_value :
-          (o : Option (List (List ℕ))) → value_of is_field_key key ss ≡ o → option_map (λ w. map fold_text (subtags (transform_value key (join w)))) o ≡ Some v →
-          (is_field_key key ≡ true) × AreNoFields v
-      by_value o found is =
-          grind (arith, nat_tests, found-field false false key ss, lower-value, transform-value key, good-value is_field_key key ss, value-no_field)
+  field_values key v is = grind (arith, nat_tests, found-field false false key ss, lower-value, transform-value key, good-value is_field_key key ss, value-no_field)
 
   -- after subtags of a language
   pub are-fields : (language : List (List ℕ)) → AreNoFields language → are_fields false false (language ++ form.keywords_form is_field_key transform_value ss) ≡ true

@@ -5,11 +5,28 @@
 use crate::erased::registry::{is_canonical, write_canonical};
 use crate::spans::tag_of;
 
-/// Writes the canonical form of a tag, and returns its length in bytes: `he` for `iw`, `yue` for
-/// `zh-yue`. Replacements are in the case of the registry, and everything else keeps its case. If
-/// the buffer is too short, it stays unchanged, and the length says how long a buffer must be.
+/// Writes the canonical form of a tag to `buffer` ([RFC 5646 section 4.5]), and returns its length:
+/// iw becomes he, zh-yue becomes yue, art-lojban becomes jbo, en-b-ccc-a-aaa becomes
+/// en-a-aaa-b-ccc. The registry is that of `langtag_registry_date`.
 ///
-/// Returns 0 and writes nothing if the bytes are not a tag.
+/// ```c
+/// char buffer[64];
+/// size_t len = langtag_canonical("en-BU", 5, buffer, sizeof buffer);
+/// if (len > 0 && len <= sizeof buffer) printf("%.*s\n", (int)len, buffer); // en-MM
+/// ```
+///
+/// As with snprintf, the result may be greater than `buffer_len`. It is then the size that is
+/// needed, and nothing is written. The form may be longer than the tag: heploc becomes alalc97. No
+/// NUL is written, and bytes after the form are left unchanged.
+///
+/// Replacements are in the registry's case, everything else keeps its case, and variants keep their
+/// order. Step 2 of section 4.5 is repeated after step 3, so that canonicalizing a form again
+/// changes nothing: sgn-DD becomes gsg. The tag need not be valid: subtags that are not registered
+/// stay, and so do two extended languages and the language before them.
+///
+/// Returns 0 and writes nothing if the string is not a tag.
+///
+/// [RFC 5646 section 4.5]: https://www.rfc-editor.org/rfc/rfc5646#section-4.5
 #[inline]
 pub fn langtag_canonical(bytes: &[u8], buffer: &mut [u8]) -> usize {
     match tag_of(bytes) {
@@ -18,8 +35,8 @@ pub fn langtag_canonical(bytes: &[u8], buffer: &mut [u8]) -> usize {
     }
 }
 
-/// Returns whether the bytes are a tag that equals its canonical form, ignoring case: `true` for
-/// `he` and `HE`, `false` for `iw`, and for bytes that are not a tag.
+/// Returns whether a string is a tag that equals its canonical form, ignoring case: true for HE and
+/// x-iw, false for iw, for en-b-ccc-a-aaa, and for a string that is not a tag.
 #[inline]
 pub fn langtag_is_canonical(bytes: &[u8]) -> bool {
     match tag_of(bytes) {

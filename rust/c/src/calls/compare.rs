@@ -5,14 +5,21 @@
 use crate::erased::scan::{case_insensitive_cmp, case_insensitive_eq, into_smallcase};
 use core::cmp::Ordering;
 
-/// Returns whether two strings are equal, ignoring the case of ASCII letters.
+/// Returns whether two strings are equal, ignoring case, which has no meaning in tags ([RFC 5646
+/// section 2.1.1]). They may be any bytes.
+///
+/// [RFC 5646 section 2.1.1]: https://www.rfc-editor.org/rfc/rfc5646#section-2.1.1
 #[inline]
 pub fn langtag_eq(a: &[u8], b: &[u8]) -> bool {
     case_insensitive_eq(a, b)
 }
 
-/// Compares two strings by their lowercase bytes, and returns -1, 0 or 1. If one string begins with
-/// the other, the shorter text is greater.
+/// Compares two strings, ignoring case: returns -1, 0 or 1, and 0 if and only if `langtag_eq`
+/// returns true. They may be any bytes.
+///
+/// A string sorts after every longer string that begins with it: zh sorts after zh-Latn. For
+/// alphabetical order (de before de-AT), change copies with `langtag_fold`, and compare these as
+/// strings.
 #[inline]
 pub fn langtag_cmp(a: &[u8], b: &[u8]) -> i32 {
     match case_insensitive_cmp(a, b) {
@@ -22,7 +29,11 @@ pub fn langtag_cmp(a: &[u8], b: &[u8]) -> i32 {
     }
 }
 
-/// Returns the 64-bit FNV-1a hash of the lowercase bytes, starting from a state.
+/// Returns the 64-bit FNV-1a hash of a string in lowercase. `state` is `LANGTAG_HASH`, or the hash
+/// of the bytes that come before the string in a longer key.
+///
+/// An attacker who controls the strings can cause collisions. To prevent that, change a copy with
+/// `langtag_fold` and use a keyed hash.
 #[inline]
 pub fn langtag_hash(state: u64, bytes: &[u8]) -> u64 {
     let mut hash = state;
@@ -32,8 +43,7 @@ pub fn langtag_hash(state: u64, bytes: &[u8]) -> u64 {
     hash
 }
 
-/// Changes ASCII uppercase letters to lowercase, in place, for example to hash a string in another
-/// way.
+/// Changes the ASCII uppercase letters among any bytes to lowercase, in place.
 #[inline]
 pub fn langtag_fold(bytes: &mut [u8]) {
     bytes.make_ascii_lowercase();

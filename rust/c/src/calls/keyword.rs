@@ -5,11 +5,20 @@
 use crate::erased::keyword::Keys;
 use crate::spans::{before_key, extension_subtags, next_key, value_of, Span};
 
-/// Returns whether the extension `u` has a key ([RFC 6067 section 2.1]), ignoring case, and writes
-/// its value: `islamic-civil` for `ca` in `ar-u-ca-islamic-civil`. The value is empty if the key
-/// has none, which means `true`. If a key is repeated, its first value counts.
+/// Returns whether the extension u has a key ([RFC 6067 section 2.1]), ignoring case, and writes
+/// where its value is (out).
 ///
-/// If it returns `false`, `value` is unchanged.
+/// ```c
+/// const char *text = "ar-EG-u-ca-islamic-civil-nu-latn";
+/// langtag_span value;
+/// if (langtag_keyword(text, strlen(text), "ca", 2, &value))
+///     printf("%.*s\n", (int)value.len, text + value.start); // islamic-civil
+/// ```
+///
+/// The value is empty if the key has none, such as kn in de-u-kn. An empty value means true. If a
+/// key or the extension is repeated, the first one counts.
+///
+/// Returns false and leaves `value` unchanged if the key is absent, or the string is not a tag.
 ///
 /// [RFC 6067 section 2.1]: https://www.rfc-editor.org/rfc/rfc6067#section-2.1
 pub fn langtag_keyword(bytes: &[u8], key: &[u8], value: &mut Span) -> bool {
@@ -21,13 +30,19 @@ pub fn langtag_keyword(bytes: &[u8], key: &[u8], value: &mut Span) -> bool {
     true
 }
 
-/// Writes the next keyword of the extension `u` ([RFC 6067 section 2.1]). `passed` counts the
-/// subtags of `u` that a walk has passed, and is 0 at the start. Each key is returned once, with
-/// its first value. The value is empty if the key has none.
+/// Writes where the key and the value of the next keyword of the extension u are (out). The value
+/// may be empty. Each key is returned once, with its first value. `passed` counts the subtags of u
+/// that were passed. Begin with 0, and let the calls change it:
 ///
-/// Returns `false` and changes nothing if no keyword is left.
+/// ```c
+/// const char *text = "ar-u-ca-islamic-civil-nu-latn";
+/// size_t passed = 0, len = strlen(text);
+/// langtag_span key, value;
+/// while (langtag_next_keyword(text, len, &passed, &key, &value))
+///     printf("%.*s=%.*s ", (int)key.len, text + key.start, (int)value.len, text + value.start); // ca=islamic-civil nu=latn
+/// ```
 ///
-/// [RFC 6067 section 2.1]: https://www.rfc-editor.org/rfc/rfc6067#section-2.1
+/// Returns false and leaves all three unchanged if no keyword is left, or the string is not a tag.
 pub fn langtag_next_keyword(
     bytes: &[u8],
     passed: &mut usize,
@@ -43,11 +58,11 @@ pub fn langtag_next_keyword(
     true
 }
 
-/// Writes the span of the attributes of the extension `u` ([RFC 6067 section 2.1]), which precede
-/// its first key: `attr-foo` in `de-u-attr-foo-ca-buddhist`. A repeated attribute is included
-/// twice.
+/// Writes where the attributes of the extension u are (out), which come before its first key ([RFC
+/// 6067 section 2.1]): attr-foo in de-u-attr-foo-ca-buddhist. `langtag_next_subtag` returns them
+/// one by one. A repeated attribute, which has no meaning, is returned too.
 ///
-/// Returns `false`, and writes an empty span, if there are no attributes.
+/// Returns false, and writes an empty span, if there are none.
 ///
 /// [RFC 6067 section 2.1]: https://www.rfc-editor.org/rfc/rfc6067#section-2.1
 #[inline]

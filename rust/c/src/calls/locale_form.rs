@@ -5,8 +5,16 @@
 use crate::erased::locale::{is_locale, write_locale_form};
 use crate::spans::tag_of;
 
-/// Returns whether bytes are a Unicode locale identifier (UTS #35, part 1, section 'Unicode Locale
-/// Identifier'): `true` for `de-1996-u-co-phonebk`, `false` for `x-a` and `zh-yue`.
+/// Returns whether a string is a Unicode locale identifier (UTS #35, part 1, section "Unicode
+/// Locale Identifier"), as Intl of JavaScript requires: true for de-1996-u-co-phonebk, false for
+/// x-a, i-klingon, zh-yue and und-t-m0, which are tags, and for a string that is not a tag.
+///
+/// The language has two, three, or five to eight letters, and no extended language. No variant and
+/// no singleton is repeated. Each key of u ends with a letter. In t, the language meets the same
+/// rules, and each field has a value.
+///
+/// Time is quadratic beyond 1,152 variants, and beyond 512 in the language of t: less than a second
+/// for 1 MB.
 #[inline]
 pub fn langtag_is_locale(bytes: &[u8]) -> bool {
     match tag_of(bytes) {
@@ -15,11 +23,31 @@ pub fn langtag_is_locale(bytes: &[u8]) -> bool {
     }
 }
 
-/// Writes the canonical form of a tag as a Unicode locale identifier (UTS #35, part 1, Annex C),
-/// and returns its length in bytes: `ger-UK` becomes `de-GB`. If the buffer is too short, its bytes
-/// are not specified, and the length says how long a buffer must be.
+/// Writes the canonical form of a tag as a Unicode locale identifier to `buffer` (UTS #35, part 1,
+/// Annex C), and returns its length: eng becomes en, ger-UK becomes de-GB, and sh becomes sr-Latn.
+/// If the buffer is too short, its bytes are unspecified, and the result is the size that is
+/// needed.
 ///
-/// Returns 0 and writes nothing if the bytes are not a tag, or if the tag has no form.
+/// ```c
+/// char buffer[64];
+/// size_t len = langtag_locale_form("ger-UK-u-ca-islamicc", 20, buffer, sizeof buffer);
+/// if (len > 0 && len <= sizeof buffer) printf("%.*s\n", (int)len, buffer); // de-GB-u-ca-islamic-civil
+/// ```
+///
+/// CLDR's aliases replace the language, the script, the region and the variants. Variants are put
+/// in alphabetical order, and extensions in the order of their singletons. u and t get the form of
+/// `langtag_extensions_form`. The script is in titlecase, the region in uppercase, and everything
+/// else in lowercase. sgn-NO becomes nsl, as in the IANA registry, where CLDR has nsi.
+///
+/// A tag that is not a Unicode locale identifier is replaced first. A tag with a Preferred-Value in
+/// the IANA registry becomes that value: i-klingon becomes tlh. In any other tag, a registered
+/// extended language replaces the language before it: zh-yue-HK becomes yue-HK. If the result is
+/// not a Unicode locale identifier, either, the tag has no form.
+///
+/// Time is quadratic beyond 512 variants or attributes: up to 4 s for 1 MB.
+///
+/// Returns 0 and writes nothing if the tag has no form, such as x-a, i-default and und-t-m0, or if
+/// the string is not a tag.
 #[inline]
 pub fn langtag_locale_form(bytes: &[u8], buffer: &mut [u8]) -> usize {
     match tag_of(bytes) {

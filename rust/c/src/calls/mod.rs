@@ -4,6 +4,9 @@
 //! not allocate, keeps no state, and calls no function of the program. `bindings/include/langtag.h`
 //! declares its functions.
 //!
+//! The documentation of a function is its comment in that header, so it speaks of C: an argument
+//! marked with "(out)" is only written, and names in capitals are those of the header.
+//!
 //! A slice is passed as a pointer and a length. Bytes need not be UTF-8. No function requires more
 //! of its arguments than their types do.
 

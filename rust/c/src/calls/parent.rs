@@ -6,12 +6,27 @@ use crate::erased::output::write_text;
 use crate::erased::parent::parent;
 use crate::spans::tag_of;
 
-/// Writes the parent of a tag in CLDR, and returns its length in bytes: `pt-PT` for `pt-AO`,
-/// `zh-Hant` for `zh-TW`. If the buffer is too short, it stays unchanged, and the length says how
-/// long a buffer must be.
+/// Writes the parent of a tag in CLDR to `buffer` (UTS #35, part 1, Parent Locales), and returns
+/// its length: pt-PT for pt-AO, zh-Hant for zh-TW. If a catalogue has no string for a tag, it looks
+/// for the parent of the tag next. The data are those of `langtag_cldr_version`. As with
+/// `langtag_canonical`, nothing is written if the buffer is too short.
 ///
-/// Returns 0 and writes nothing if the tag has no parent, such as `pt`, or if the bytes are not a
-/// tag.
+/// ```c
+/// char tags[2][64] = {"pt-AO"};
+/// size_t len = 5;
+/// for (int at = 0; len > 0 && len <= sizeof tags[at]; at = !at) {
+///     printf("%.*s ", (int)len, tags[at]); // pt-AO pt-PT pt
+///     len = langtag_parent(tags[at], len, tags[!at], sizeof tags[!at]);
+/// }
+/// ```
+///
+/// A parent is written in the same script, so zh-Hant has none: zh is Simplified. Extensions and
+/// private use are removed first, then each variant, the last one first, then the region. A script
+/// is only removed if it is the likely script of the language. The tag should be in its canonical
+/// form, as CLDR does not list deprecated or extended languages. Case is ignored.
+///
+/// Returns 0 and writes nothing if the tag has no parent, such as pt and x-a, or if the string is
+/// not a tag.
 #[inline]
 pub fn langtag_parent(bytes: &[u8], buffer: &mut [u8]) -> usize {
     match parent_of(bytes) {

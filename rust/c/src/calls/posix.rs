@@ -6,12 +6,20 @@
 use crate::erased::likely::{unknown_modifier, write_from_posix, write_to_posix};
 use crate::spans::{tag_of, Span};
 
-/// Writes the tag for a POSIX locale name (IEEE Std 1003.1, section 8.2), and returns its length in
-/// bytes: `pt-BR` for `pt_BR.UTF-8`, `sr-Latn-RS` for `sr_RS@latin`. If the buffer is too short, it
-/// stays unchanged, and the length says how long a buffer must be. Names as Java, Android and .NET
-/// write them are read, too: `zh-TW` for `zh-rTW`.
+/// Writes the tag for a POSIX locale name to `buffer` (IEEE Std 1003.1, section 8.2), and returns
+/// its length: pt_BR.UTF-8 becomes pt-BR, sr_RS@latin becomes sr-Latn-RS, ca_ES@valencia becomes
+/// ca-ES-valencia, and zh_TW_#Hant, as Java prints it, becomes zh-Hant-TW. As with
+/// `langtag_canonical`, nothing is written if the buffer is too short. Names as Android and .NET
+/// write them are read, too: zh-rTW becomes zh-TW, b+sr+Latn becomes sr-Latn, zh-CHT becomes
+/// zh-Hant, and sr-SP-Latn becomes sr-Latn-RS.
 ///
-/// Returns 0 and writes nothing for a name without a tag, such as `C` or `POSIX`.
+/// The codeset is dropped. The modifiers latin, cyrillic, devanagari, iqtelif, valencia, tarask,
+/// ijekavian, ijekavianlatin and the codes of scripts are used, ignoring case. Other modifiers are
+/// dropped. If the only variant is POSIX, ignoring case, and there are no extensions, it becomes
+/// the keyword va-posix: en_US_POSIX becomes en-US-u-va-posix.
+///
+/// Returns 0 and writes nothing if language and territory do not form a tag (C), are POSIX, or have
+/// more than 255 bytes.
 #[inline]
 pub fn langtag_from_posix(name: &[u8], buffer: &mut [u8]) -> usize {
     match write_from_posix(name, buffer) {
@@ -20,14 +28,28 @@ pub fn langtag_from_posix(name: &[u8], buffer: &mut [u8]) -> usize {
     }
 }
 
-/// Writes the POSIX locale name for a tag (IEEE Std 1003.1, section 8.2), and returns its length in
-/// bytes, which is at most 28: `pt_BR` for `pt-BR`, `sr_RS@latin` for `sr-Latn-RS`, `zh_TW` for
-/// `zh-Hant-TW`. If the buffer is too short, it stays unchanged, and the length says how long a
-/// buffer must be. `langtag_from_posix` reads the name as the same tag, in its recommended case,
-/// without a script that is likely anyway.
+/// Writes the POSIX locale name for a tag to `buffer` (IEEE Std 1003.1, section 8.2), and returns
+/// its length, which is at most 28: pt-BR becomes pt_BR, sr-Latn-RS becomes sr_RS@latin,
+/// ca-ES-valencia becomes ca_ES@valencia, and en-US-u-va-posix becomes en_US_POSIX. As with
+/// `langtag_canonical`, nothing is written if the buffer is too short. The codeset is the caller's,
+/// as in pt_BR.UTF-8. `langtag_from_posix` reads the name as the same tag, in its recommended case,
+/// without a script that was left out.
 ///
-/// Returns 0 and writes nothing if a name cannot say all of the tag, such as `de-u-co-phonebk` or
-/// `zh-Hant-CN`, if it is `und`, or if the bytes are not a tag.
+/// ```c
+/// char name[28];
+/// size_t len = langtag_to_posix("zh-Hant-TW", 10, name, sizeof name);
+/// printf("%.*s\n", (int)len, name); // zh_TW
+/// ```
+///
+/// A script is left out if it is the likely script of the language, both alone and with its region:
+/// en_US for en-Latn-US. A script without a modifier is also left out if it is likely with the
+/// region. The modifiers are latin, cyrillic, devanagari, valencia, tarask, ijekavian and
+/// ijekavianlatin.
+///
+/// Returns 0 and writes nothing if no name expresses the whole tag: another script or variant, an
+/// extended language, another extension, private use, or a language of more than three letters.
+/// Also for und, and if the string is not a tag. To leave extensions out, ask for the first
+/// `langtag_base_len` bytes of the tag.
 #[inline]
 pub fn langtag_to_posix(bytes: &[u8], buffer: &mut [u8]) -> usize {
     let Some(tag) = tag_of(bytes) else {
@@ -37,10 +59,11 @@ pub fn langtag_to_posix(bytes: &[u8], buffer: &mut [u8]) -> usize {
 }
 
 /// Returns whether `langtag_from_posix` drops the modifier of a name because it is not known, and
-/// writes where the modifier is: `foo` in `de_DE@foo`. It returns `false` for `sr_RS@latin`,
-/// `de_DE@euro` and `de_DE`.
+/// writes where the modifier is (out): foo in de_DE@foo. A program may want to refuse such a name,
+/// because de_DE becomes the same tag.
 ///
-/// If it returns `false`, `modifier` is unchanged.
+/// Returns false and leaves `modifier` unchanged if there is no modifier, if `langtag_from_posix`
+/// reads it, or if it is not about the language, such as euro.
 pub fn langtag_unknown_modifier(name: &[u8], modifier: &mut Span) -> bool {
     let Some(found) = unknown_modifier(name) else {
         return false;

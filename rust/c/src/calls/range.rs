@@ -5,11 +5,7 @@
 use crate::erased::matching::LanguageRange;
 use crate::spans::tag_of;
 
-/// Returns 1 for a basic language range ([RFC 4647 section 2.1]), such as `de-CH` and `*`. Returns
-/// 2 for an extended range that is not basic (section 2.2), such as `de-*-DE`, and 0 if the bytes
-/// are not a range.
-///
-/// [RFC 4647 section 2.1]: https://www.rfc-editor.org/rfc/rfc4647#section-2.1
+/// Returns which kind of language range a string is, as an enum `langtag_range_kind_answer`.
 #[inline]
 pub fn langtag_range_kind(bytes: &[u8]) -> u32 {
     match range_of(bytes) {
@@ -19,9 +15,11 @@ pub fn langtag_range_kind(bytes: &[u8]) -> u32 {
     }
 }
 
-/// Returns whether a range matches a tag by basic filtering ([RFC 4647 section 3.3.1]): `de-DE`
-/// matches `de-DE-1996`, but not `de-Latn-DE`. Returns `false` if the first string is not a range,
-/// or the second is not a tag.
+/// Returns whether a range matches a tag by basic filtering ([RFC 4647 section 3.3.1]): the range
+/// is *, or equals the tag, or the tag begins with the range and a hyphen. Case is ignored. de-DE
+/// matches de-DE-1996, but neither de-Deva nor de-Latn-DE.
+///
+/// Returns false if the first string is not a language range, or the second is not a tag.
 ///
 /// [RFC 4647 section 3.3.1]: https://www.rfc-editor.org/rfc/rfc4647#section-3.3.1
 pub fn langtag_matches_basic(range: &[u8], tag: &[u8]) -> bool {
@@ -31,9 +29,10 @@ pub fn langtag_matches_basic(range: &[u8], tag: &[u8]) -> bool {
     }
 }
 
-/// Returns whether a range matches a tag by extended filtering ([RFC 4647 section 3.3.2]): `de-DE`
-/// and `de-*-DE` match `de-Latn-DE`. Returns `false` if the first string is not a range, or the
-/// second is not a tag.
+/// Returns whether a range matches a tag by extended filtering ([RFC 4647 section 3.3.2]): de-DE
+/// and de-*-DE match de-Latn-DE-1996, but not de-x-DE, since no subtag of one byte may be skipped.
+///
+/// Returns false if the first string is not a language range, or the second is not a tag.
 ///
 /// [RFC 4647 section 3.3.2]: https://www.rfc-editor.org/rfc/rfc4647#section-3.3.2
 pub fn langtag_matches_extended(range: &[u8], tag: &[u8]) -> bool {

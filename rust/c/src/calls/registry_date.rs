@@ -4,8 +4,11 @@
 
 use crate::erased::registry::FILE_DATE;
 
-/// Returns the File-Date of the registry as one number, whose digits are year, month and day:
-/// 20250131 for 2025-01-31.
+/// Returns the date of the IANA registry inside this library (its File-Date, [RFC 5646 section
+/// 3.1.1]) as one number: year, month and day, so that 20250131 is 2025-01-31. A later date is a
+/// greater number.
+///
+/// [RFC 5646 section 3.1.1]: https://www.rfc-editor.org/rfc/rfc5646#section-3.1.1
 #[inline]
 pub fn langtag_registry_date() -> u32 {
     number_of(FILE_DATE.as_bytes())

@@ -5,11 +5,11 @@
 use crate::erased::keyword::Keys;
 use crate::spans::{before_key, extension_subtags, next_key, value_of, Span};
 
-/// Returns whether a tag has the extension `t` ([RFC 6497 section 2.2]), and writes the span of its
-/// language, which precedes its first field: `ja-latn` in `und-t-ja-latn-m0-hepburn`. The language
-/// is empty if there is none, as in `und-t-m0-hepburn`.
+/// Returns whether a tag has the extension t ([RFC 6497 section 2.2]), and writes where the
+/// language of t is (out), before its first field: ja-latn in und-t-ja-latn-m0-hepburn. The
+/// language is empty if there is none, and it need not be a tag.
 ///
-/// If it returns `false`, `language` is unchanged.
+/// Returns false and leaves `language` unchanged if there is no t.
 ///
 /// [RFC 6497 section 2.2]: https://www.rfc-editor.org/rfc/rfc6497#section-2.2
 #[inline]
@@ -22,13 +22,8 @@ pub fn langtag_transform(bytes: &[u8], language: &mut Span) -> bool {
     true
 }
 
-/// Returns whether the extension `t` has a field ([RFC 6497 section 2.2]), ignoring case, and
-/// writes its value: `hepburn` for `m0` in `und-t-ja-m0-hepburn`. If a field is repeated, its first
-/// value counts.
-///
-/// If it returns `false`, `value` is unchanged.
-///
-/// [RFC 6497 section 2.2]: https://www.rfc-editor.org/rfc/rfc6497#section-2.2
+/// Finds the value of a field of the extension t, as `langtag_keyword` does for u: hepburn for m0
+/// in und-t-ja-m0-hepburn.
 pub fn langtag_field(bytes: &[u8], key: &[u8], value: &mut Span) -> bool {
     let subtags = extension_subtags(bytes, b't');
     let Some(found) = value_of(bytes, subtags, Keys::Transform, key) else {
@@ -38,13 +33,7 @@ pub fn langtag_field(bytes: &[u8], key: &[u8], value: &mut Span) -> bool {
     true
 }
 
-/// Writes the next field of the extension `t` ([RFC 6497 section 2.2]). `passed` counts the subtags
-/// of `t` that a walk has passed, and is 0 at the start. Each key is returned once, with its first
-/// value.
-///
-/// Returns `false` and changes nothing if no field is left.
-///
-/// [RFC 6497 section 2.2]: https://www.rfc-editor.org/rfc/rfc6497#section-2.2
+/// Writes the next field of the extension t, as `langtag_next_keyword` does for the keywords of u.
 pub fn langtag_next_field(
     bytes: &[u8],
     passed: &mut usize,

@@ -6,8 +6,22 @@ use crate::erased::extension::first_extension_end;
 use crate::erased::scan::segment_end;
 use crate::spans::Span;
 
-/// Removes the first subtag from a span, with the hyphen after it. Returns `false` and changes
-/// nothing if nothing is left, or if the span reaches beyond the bytes.
+/// Removes the first subtag from `rest`, and writes it to `subtag` (out). `rest` then begins after
+/// the next hyphen. Begin with a copy of the span of a part:
+///
+/// ```c
+/// const char *text = "sl-rozaj-1994";
+/// size_t len = strlen(text);
+/// langtag_parts parts;
+/// langtag_parse(text, len, &parts);
+/// langtag_span rest = parts.variants, variant;
+/// while (langtag_next_subtag(text, len, &rest, &variant))
+///     printf("%.*s ", (int)variant.len, text + variant.start); // rozaj 1994
+/// ```
+///
+/// Returns false if and only if `rest` is empty or reaches beyond the string, and then leaves both
+/// spans unchanged. So an empty subtag after the last hyphen is not returned: "a-" has one subtag.
+/// In "a--b", the second of three subtags is empty.
 #[inline]
 pub fn langtag_next_subtag(bytes: &[u8], rest: &mut Span, subtag: &mut Span) -> bool {
     let Some(part) = rest.of(bytes) else {
@@ -17,11 +31,9 @@ pub fn langtag_next_subtag(bytes: &[u8], rest: &mut Span, subtag: &mut Span) -> 
     true
 }
 
-/// Removes the first extension from a span ([RFC 5646 section 2.2.6]), with the hyphen after it. An
-/// extension is a singleton and the subtags after it. Returns `false` when [`langtag_next_subtag`]
-/// would return `false`.
-///
-/// [RFC 5646 section 2.2.6]: https://www.rfc-editor.org/rfc/rfc5646#section-2.2.6
+/// Removes the first extension, such as u-co-pinyin, from `rest`, as `langtag_next_subtag` removes
+/// a subtag. Begin with `parts.extensions`. From any other span, the bytes before the first hyphen
+/// that is followed by a subtag of one byte are removed.
 #[inline]
 pub fn langtag_next_extension(bytes: &[u8], rest: &mut Span, extension: &mut Span) -> bool {
     let Some(part) = rest.of(bytes) else {

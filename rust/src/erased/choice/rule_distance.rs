@@ -11,7 +11,7 @@ pub(crate) fn language_distance(desired: TagFields<'_>, supported: TagFields<'_>
     if case_insensitive_eq(desired.language, supported.language) {
         return 0;
     }
-    if desired.language.len() > 3 || supported.language.len() > 3 {
+    if desired.language.len().max(supported.language.len()) > 3 {
         return 80;
     }
     match language_rule_keys().binary_search(&language_pair(desired, supported)) {
@@ -25,7 +25,7 @@ pub(crate) fn script_distance(desired: TagFields<'_>, supported: TagFields<'_>) 
     if case_insensitive_eq(desired.script, supported.script) {
         return 0;
     }
-    if desired.language.len() > 3 || supported.language.len() > 3 {
+    if desired.language.len().max(supported.language.len()) > 3 {
         return 50;
     }
     match script_rule_keys().binary_search(&script_pair(desired, supported)) {

@@ -2,98 +2,52 @@
 
 //! Subtags in lowercase and in alphabetical order, written to an output.
 
-use crate::erased::keyword::least_numbers::{order_number, LeastNumbers};
+use crate::erased::keyword::least_numbers::{order_number, push_numbers, LeastNumbers, FEW, MANY};
 use crate::erased::keyword::subtags::split_first;
 use crate::erased::output::Output;
 use crate::erased::scan::{into_smallcase, Subtags};
-
-/// If subtags take at most this many bytes, each is found by a walk over all of them.
-const FEW: usize = 40;
 
 /// Appends subtags in lowercase and in alphabetical order, each once.
 #[inline]
 pub(crate) fn push_in_alphabet(out: &mut Output<'_>, rest: Option<&str>) {
     if are_few(rest) {
-        return push_few(out, rest);
+        return push_with_room::<FEW>(out, rest);
     }
-    push_many(out, rest);
+    push_with_room::<MANY>(out, rest);
 }
 
-/// Returns whether subtags take so few bytes that they are put in order one by one.
+/// Returns whether subtags take so few bytes that room for [`FEW`] numbers is enough.
 #[inline]
 #[must_use]
 pub fn are_few(rest: Option<&str>) -> bool {
     match rest {
-        Some(text) => text.len() <= FEW,
+        Some(text) => text.len() <= 128,
         None => true,
     }
 }
 
-/// Appends what [`push_in_alphabet`] appends, in a time proportional to the square of the number of
-/// subtags.
-#[inline]
-fn push_few(out: &mut Output<'_>, rest: Option<&str>) {
-    let mut last = None;
-    while let Some(next) = first_after(rest, last) {
-        push_lowercase(out, next);
-        last = Some(next);
-    }
-}
-
-/// Appends what [`push_in_alphabet`] appends. Each walk over the subtags finds the next 512 of
-/// them, or more.
-// This function is not inlined, so that callers with few subtags do not use its stack.
+/// Appends what [`push_in_alphabet`] appends. Each walk over the subtags finds the next `ROOM / 2`
+/// of them, or more.
+// This function is not inlined, so that callers with few subtags do not use the stack that many take.
 #[inline(never)]
-fn push_many(out: &mut Output<'_>, rest: Option<&str>) {
-    let mut least = LeastNumbers::new();
+fn push_with_room<const ROOM: usize>(out: &mut Output<'_>, rest: Option<&str>) {
+    let mut least = LeastNumbers::<ROOM>::new();
     let mut more = true;
     while more {
         offer_each(&mut least, rest);
-        more = least.push_to(out);
+        least.sort();
+        push_numbers(out, least.kept());
+        more = least.advance();
     }
 }
 
 /// Offers the number of each subtag to `least`.
-fn offer_each(least: &mut LeastNumbers, rest: Option<&str>) {
+fn offer_each<const ROOM: usize>(least: &mut LeastNumbers<ROOM>, rest: Option<&str>) {
     let mut rest = rest;
     while let Some(text) = rest {
         let (subtag, others) = split_first(text);
         least.offer(order_number(subtag.as_bytes()));
         rest = others;
-    }
-}
-
-/// Returns the first subtag, in alphabetical order, that comes after `last`.
-fn first_after<'a>(rest: Option<&'a str>, last: Option<&str>) -> Option<&'a str> {
-    let mut best = None;
-    let mut rest = rest;
-    while let Some(text) = rest {
-        let (subtag, others) = split_first(text);
-        if is_after(subtag, last) && is_before_best(subtag, best) {
-            best = Some(subtag);
-        }
-        rest = others;
-    }
-    best
-}
-
-/// Returns whether a subtag comes after `last`, or there is no `last`.
-#[inline]
-#[must_use]
-pub fn is_after(subtag: &str, last: Option<&str>) -> bool {
-    match last {
-        Some(last) => is_before(last.as_bytes(), subtag.as_bytes()),
-        None => true,
-    }
-}
-
-/// Returns whether a subtag comes before `best`, or there is no `best`.
-#[inline]
-#[must_use]
-pub fn is_before_best(subtag: &str, best: Option<&str>) -> bool {
-    match best {
-        Some(best) => is_before(subtag.as_bytes(), best.as_bytes()),
-        None => true,
     }
 }
 

@@ -5,23 +5,25 @@
 use crate::erased::output::Output;
 use crate::erased::scan::folded_number;
 
-/// The number of numbers for which there is room. They take 8 KiB of stack.
-const ROOM: usize = 1024;
+/// Room for the numbers of a few subtags.
+pub const FEW: usize = 32;
 
-/// The least of the numbers above `last` that were offered. If there are too many, those above
-/// `limit` are left out.
-pub struct LeastNumbers {
+/// Room for the numbers of many subtags. They take 8 KiB of stack.
+pub const MANY: usize = 1024;
+
+/// The least of the numbers above `last` that were offered. If there is no room for all, those
+/// above `limit` are left out.
+pub struct LeastNumbers<const ROOM: usize> {
     numbers: [u64; ROOM],
     count: usize,
     last: u64,
     limit: u64,
 }
 
-impl LeastNumbers {
+impl<const ROOM: usize> LeastNumbers<ROOM> {
     /// Returns room for the least of all numbers but zero.
     #[inline]
-    #[must_use]
-    pub fn new() -> LeastNumbers {
+    pub(crate) fn new() -> LeastNumbers<ROOM> {
         LeastNumbers {
             numbers: [0; ROOM],
             count: 0,
@@ -38,23 +40,61 @@ impl LeastNumbers {
         }
         self.numbers[self.count] = number;
         self.count += 1;
-        if self.count == ROOM {
-            self.numbers.sort_unstable();
+        if self.count < ROOM {
+            return;
+        }
+        self.count = settle(&mut self.numbers);
+        if self.count > ROOM / 2 {
             self.count = ROOM / 2;
             self.limit = self.numbers[ROOM / 2 - 1];
         }
     }
 
-    /// Appends the subtags of the numbers in ascending order, each once, and makes room for the
-    /// numbers above them. Returns whether such numbers may have been left out.
-    pub fn push_to(&mut self, out: &mut Output<'_>) -> bool {
-        self.numbers[..self.count].sort_unstable();
-        push_ascending(out, &self.numbers[..self.count], self.last);
+    /// Puts the numbers that are kept in ascending order, each once.
+    #[inline]
+    pub fn sort(&mut self) {
+        self.count = settle(&mut self.numbers[..self.count]);
+    }
+
+    /// Returns the numbers that are kept.
+    #[inline]
+    #[must_use]
+    pub fn kept(&self) -> &[u64] {
+        &self.numbers[..self.count]
+    }
+
+    /// Makes room for the numbers above those that are kept. Returns whether such numbers may have
+    /// been left out.
+    #[inline]
+    pub fn advance(&mut self) -> bool {
         self.last = self.limit;
         self.limit = u64::MAX;
         self.count = 0;
         self.last < u64::MAX
     }
+}
+
+/// Puts numbers in ascending order, each once and without zero. Returns how many these are.
+#[inline]
+fn settle(numbers: &mut [u64]) -> usize {
+    numbers.sort_unstable();
+    keep_rising(numbers)
+}
+
+/// Moves each number that is greater than all numbers before it, and than zero, to the start.
+/// Returns how many these are.
+fn keep_rising(numbers: &mut [u64]) -> usize {
+    let mut last = 0;
+    let mut count = 0;
+    for index in 0..numbers.len() {
+        let number = numbers[index];
+        if number > last {
+            numbers[count] = number;
+            count += 1;
+            last = number;
+        }
+    }
+    count
 }
 
 /// Returns the number of a subtag. Numbers are in the order of their subtags, ignoring case.
@@ -64,15 +104,11 @@ pub fn order_number(subtag: &[u8]) -> u64 {
     folded_number(subtag) << (64 - 8 * subtag.len())
 }
 
-/// Appends the subtag of each number that is greater than `last` and than the numbers before it.
+/// Appends the subtags of numbers.
 #[inline]
-fn push_ascending(out: &mut Output<'_>, numbers: &[u64], last: u64) {
-    let mut last = last;
+pub fn push_numbers(out: &mut Output<'_>, numbers: &[u64]) {
     for number in numbers {
-        if *number > last {
-            push_number(out, *number);
-            last = *number;
-        }
+        push_number(out, *number);
     }
 }
 

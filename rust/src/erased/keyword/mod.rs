@@ -25,14 +25,14 @@ pub use keyword_error::KeywordError;
 
 // For langtag_unicode, langtag_locale and langtag_span.
 pub(crate) use alias::{alias_for, type_alias_for};
-pub(crate) use alphabet::{are_few, is_after, is_before_best, push_lowercase};
+pub(crate) use alphabet::{are_few, push_lowercase};
 pub(crate) use extension_form::{is_of, push_extensions, push_unicode, subtags_of};
 pub(crate) use key_set::KeySet;
 pub(crate) use keyword_check::{invalid_type, is_unicode_key};
 pub(crate) use keyword_edit::{push_edited, KeywordEdit};
 pub(crate) use keyword_form::push_keywords;
 pub(crate) use language_id::{is_among, is_unicode_language, take_region, take_script};
-pub(crate) use least_numbers::{order_number, LeastNumbers};
+pub(crate) use least_numbers::{order_number, push_numbers, LeastNumbers, FEW, MANY};
 pub(crate) use subtags::{
     before_key, is_earlier_subtag, nonempty, preceding, split_first, value_in,
 };

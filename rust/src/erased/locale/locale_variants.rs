@@ -3,8 +3,8 @@
 //! The variants in the form of a Unicode locale identifier (UTS #35, part 1, Annex C).
 
 use crate::erased::keyword::{
-    alias_for, are_few, is_after, is_among, is_before_best, order_number, push_lowercase,
-    split_first, type_alias_for, LeastNumbers,
+    alias_for, are_few, is_among, order_number, push_numbers, split_first, type_alias_for,
+    LeastNumbers, FEW, MANY,
 };
 use crate::erased::locale::locale_tables as tables;
 use crate::erased::output::Output;
@@ -15,26 +15,36 @@ use crate::erased::tag::case_insensitive_eq;
 #[inline]
 pub(crate) fn push_variants(out: &mut Output<'_>, language: &[u8], variants: Option<&str>) {
     if are_few(variants) {
-        return push_few(out, language, variants);
+        return push_with_room::<FEW>(out, language, variants);
     }
-    push_many(out, language, variants);
+    push_with_room::<MANY>(out, language, variants);
 }
 
-/// Appends what [`push_variants`] appends. Each walk over the variants finds the next 512 forms, or
-/// more.
-// This function is not inlined, so that callers with few variants do not use its stack.
+/// Appends what [`push_variants`] appends. Each walk over the variants finds the next `ROOM / 2`
+/// forms, or more.
+// This function is not inlined, so that callers with few variants do not use the stack that many take.
 #[inline(never)]
-fn push_many(out: &mut Output<'_>, language: &[u8], variants: Option<&str>) {
-    let mut least = LeastNumbers::new();
+fn push_with_room<const ROOM: usize>(
+    out: &mut Output<'_>,
+    language: &[u8],
+    variants: Option<&str>,
+) {
+    let mut least = LeastNumbers::<ROOM>::new();
     let mut more = true;
     while more {
         offer_forms(&mut least, language, variants);
-        more = least.push_to(out);
+        least.sort();
+        push_numbers(out, least.kept());
+        more = least.advance();
     }
 }
 
 /// Offers the numbers of the forms of variants.
-fn offer_forms(least: &mut LeastNumbers, language: &[u8], variants: Option<&str>) {
+fn offer_forms<const ROOM: usize>(
+    least: &mut LeastNumbers<ROOM>,
+    language: &[u8],
+    variants: Option<&str>,
+) {
     let mut rest = variants;
     while let Some(text) = rest {
         let (variant, others) = split_first(text);
@@ -44,7 +54,12 @@ fn offer_forms(least: &mut LeastNumbers, language: &[u8], variants: Option<&str>
 }
 
 /// Offers the number of the form of a variant, unless the variant is left out.
-fn offer_form(least: &mut LeastNumbers, language: &[u8], variants: Option<&str>, variant: &str) {
+fn offer_form<const ROOM: usize>(
+    least: &mut LeastNumbers<ROOM>,
+    language: &[u8],
+    variants: Option<&str>,
+    variant: &str,
+) {
     let number = order_number(variant.as_bytes());
     if may_change(number) {
         return offer_changed(least, variant_form(language, variants, variant));
@@ -61,46 +76,10 @@ fn may_change(number: u64) -> bool {
 
 /// Offers the number of a form, unless the form is empty.
 #[inline]
-fn offer_changed(least: &mut LeastNumbers, form: &str) {
+fn offer_changed<const ROOM: usize>(least: &mut LeastNumbers<ROOM>, form: &str) {
     if !form.is_empty() {
         least.offer(order_number(form.as_bytes()));
     }
-}
-
-/// Appends what [`push_variants`] appends, in a time proportional to the square of the number of
-/// variants.
-#[inline]
-fn push_few(out: &mut Output<'_>, language: &[u8], variants: Option<&str>) {
-    let mut last = None;
-    while let Some(next) = first_form_after(language, variants, last) {
-        push_lowercase(out, next);
-        last = Some(next);
-    }
-}
-
-/// Returns the first form of a variant, in alphabetical order, that comes after `last`.
-fn first_form_after<'a>(
-    language: &[u8],
-    variants: Option<&'a str>,
-    last: Option<&str>,
-) -> Option<&'a str> {
-    let mut best = None;
-    let mut rest = variants;
-    while let Some(text) = rest {
-        let (variant, others) = split_first(text);
-        let form = variant_form(language, variants, variant);
-        if is_better(form, last, best) {
-            best = Some(form);
-        }
-        rest = others;
-    }
-    best
-}
-
-/// Returns whether a form is not empty, comes after `last`, and comes before `best`.
-#[inline]
-fn is_better(form: &str, last: Option<&str>, best: Option<&str>) -> bool {
-    !form.is_empty() && is_after(form, last) && is_before_best(form, best)
 }
 
 /// Returns a variant, the variant that replaces it, or the empty string if it is left out.

@@ -8,6 +8,7 @@ use crate::erased::matching::element::element_at;
 use crate::erased::matching::lookup::tag_for;
 use crate::erased::matching::weighted_range::WeightedRange;
 use crate::erased::range::is_empty_element;
+use crate::erased::scan::split_at_byte;
 use crate::erased::tag::LangTag;
 #[cfg(feature = "alloc")]
 use crate::shim::{AllocError, TryItems};
@@ -176,8 +177,10 @@ pub fn tag_for_header<'h, 't>(
 #[inline]
 fn elements(header: &str) -> Result<Vec<WeightedRange<'_>>, AcceptLanguageError<'_>> {
     let mut elements = Vec::new();
-    for (index, item) in header.split(',').enumerate() {
-        let item = item.as_bytes();
+    let mut left = header.as_bytes();
+    let mut index = 0;
+    while !left.is_empty() {
+        let (item, rest) = split_at_byte(left, b',');
         match element_at(item) {
             Ok(element) => elements
                 .try_push(element.weighted)
@@ -187,11 +190,13 @@ fn elements(header: &str) -> Result<Vec<WeightedRange<'_>>, AcceptLanguageError<
                 return Err(AcceptLanguageError::BadElement {
                     header,
                     index,
-                    offset: offset_of(header, index),
+                    offset: header.len() - left.len(),
                     part,
                 });
             }
         }
+        index += 1;
+        left = rest;
     }
     Ok(elements)
 }
@@ -201,22 +206,15 @@ fn elements(header: &str) -> Result<Vec<WeightedRange<'_>>, AcceptLanguageError<
 #[inline]
 fn good_elements(header: &str) -> Result<Vec<WeightedRange<'_>>, AllocError> {
     let mut elements = Vec::new();
-    for item in header.split(',') {
-        if let Ok(element) = element_at(item.as_bytes()) {
+    let mut left = header.as_bytes();
+    while !left.is_empty() {
+        let (item, rest) = split_at_byte(left, b',');
+        if let Ok(element) = element_at(item) {
             elements
                 .try_push(element.weighted)
                 .map_err(AllocError::from)?;
         }
+        left = rest;
     }
     Ok(elements)
-}
-
-/// Returns the offset in bytes of the item at an index.
-#[inline]
-fn offset_of(header: &str, index: usize) -> usize {
-    header
-        .split(',')
-        .take(index)
-        .map(|item| item.len() + 1)
-        .sum()
 }

@@ -17,14 +17,17 @@
 //! ```
 
 mod region;
+mod repeats;
 mod script;
 mod variant;
+mod variant_blocks;
 mod variants;
 mod variants_iter;
 
 #[cfg(feature = "alloc")]
 pub use region::RegionBuf;
 pub use region::{InvalidRegion, Region};
+pub use repeats::{first_repeated_variant, is_among_first};
 #[cfg(feature = "alloc")]
 pub use script::ScriptBuf;
 pub use script::{InvalidScript, Script};

@@ -28,7 +28,7 @@ pub(crate) fn set_part(text: &mut String, ends: Ends, part: Part<'_>) -> Result<
 #[cfg(feature = "alloc")]
 #[inline]
 fn replace(text: &mut String, new: Replacement<'_>) -> Result<(), AllocError> {
-    if new.hyphen.is_empty() && new.part.is_empty() {
+    if new.part.is_empty() {
         return text.try_replace_range(new.start..new.end, "");
     }
     *text = join(text.as_str(), new)?;

@@ -62,7 +62,6 @@ mod refusal;
 mod repeats;
 mod text_of_parts;
 mod typed_lang_tag;
-mod variant_blocks;
 mod written;
 
 pub use crate::erased::case::{is_in_recommended_case, make_recommended_case, InRecommendedCase};
@@ -81,8 +80,8 @@ pub use crate::erased::language::{
     ExtendedLangTagBuf, LanguageBuf, LanguageExtensionBuf, PrimaryLanguageBuf,
 };
 pub use crate::erased::place::{
-    InvalidRegion, InvalidScript, InvalidVariant, InvalidVariants, Region, Script, Variant,
-    Variants, VariantsIter,
+    is_among_first, InvalidRegion, InvalidScript, InvalidVariant, InvalidVariants, Region, Script,
+    Variant, Variants, VariantsIter,
 };
 #[cfg(feature = "alloc")]
 pub use crate::erased::place::{RegionBuf, ScriptBuf, VariantBuf, VariantsBuf};
@@ -113,7 +112,6 @@ pub use private_use_lang_tag::PrivateUseLangTag;
 #[cfg(feature = "alloc")]
 pub use private_use_lang_tag::PrivateUseLangTagBuf;
 pub use refusal::{Refusal, RefusalKind};
-pub use repeats::is_among_first;
 pub use typed_lang_tag::TypedLangTag;
 
 // For langtag_registry, langtag_likely, langtag_unicode, langtag_locale and langtag_c.

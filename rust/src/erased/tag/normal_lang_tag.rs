@@ -5,7 +5,7 @@
 use crate::erased::case::{is_in_recommended_case, InRecommendedCase};
 use crate::erased::extension::{Extensions, Singleton};
 use crate::erased::language::Language;
-use crate::erased::place::{Region, Script, Variant, Variants};
+use crate::erased::place::{first_repeated_variant, Region, Script, Variant, Variants};
 use crate::erased::private::{PrivateUse, PrivateUseIter};
 use crate::erased::scan::{Caseless, Ends, Subtags};
 use crate::erased::tag::lang_tag::LangTag;
@@ -13,7 +13,7 @@ use crate::erased::tag::lang_tag::LangTag;
 use crate::erased::tag::normal_lang_tag_buf::NormalLangTagBuf;
 use crate::erased::tag::recognise_text::normal_ends;
 use crate::erased::tag::recognised::Recognised;
-use crate::erased::tag::repeats::{first_repeated_singleton, first_repeated_variant};
+use crate::erased::tag::repeats::first_repeated_singleton;
 #[cfg(feature = "alloc")]
 use crate::shim::{try_string, AllocError};
 use core::fmt;

@@ -92,19 +92,16 @@ impl Refusal {
         let end = refused_end(bytes, viable);
         let start = segment_start(bytes, end);
         let other = first_other(bytes, start, end);
-        if other == end {
-            return Some(Refusal {
-                kind: RefusalKind::Subtag,
-                start,
-                end,
-                offset: start,
-            });
-        }
+        let (kind, offset) = if other == end {
+            (RefusalKind::Subtag, start)
+        } else {
+            (RefusalKind::Byte, other)
+        };
         Some(Refusal {
-            kind: RefusalKind::Byte,
+            kind,
             start,
             end,
-            offset: other,
+            offset,
         })
     }
 }

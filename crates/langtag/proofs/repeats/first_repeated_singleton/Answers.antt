@@ -2,8 +2,9 @@ use Rattle.std.proofs.Common.{◌≡◌, true, false, take, length, arith, refl,
 use Rattle.std.specs.List.{list_any}
 use Rattle.std.proofs.lemmas.List.{get_or-replicate, length-set}
 use Rattle.langtag_extension.specs.Text.{singleton_byte}
-use Rattle.langtag.specs.Repeat.{are_alike_bytes}
-use Rattle.langtag.proofs.RepeatLaws.{next_singleton, singletons, fold_singleton-below, AreFlagsOf-set, IsAt-drop, repeat-found, repeat-later}
+use Rattle.langtag_place.specs.Repeat.{are_alike_bytes}
+use Rattle.langtag_place.proofs.RepeatLaws.{IsAt-drop, repeat-found, repeat-later}
+use Rattle.langtag.proofs.SingletonRepeats.{next_singleton, singletons, fold_singleton-below, AreFlagsOf-set}
 use Rattle.langtag.proofs.repeats.first_repeated_singleton.Goals as goal
 
 pub loop-index-init : goal.loop-index-init

@@ -3,8 +3,8 @@ use Prim.Native.Nat.{◌^◌}
 use Rattle.langtag_scan.specs.Record.{Extension}
 use Rattle.langtag_extension.specs.Spelling.{SpellsExtensions, extension_spelling}
 use Rattle.langtag_extension.specs.Text.{extensions_left, extensions_text}
-use Rattle.langtag.specs.Repeat.{repeat_index, repeat_index_after, are_alike_bytes}
-use Rattle.langtag.proofs.RepeatLaws.{AreFlagsOf, singletons}
+use Rattle.langtag_place.specs.Repeat.{repeat_index, repeat_index_after, are_alike_bytes}
+use Rattle.langtag.proofs.SingletonRepeats.{AreFlagsOf, singletons}
 use Rattle.langtag.proofs.repeats.first_repeated_singleton.Given as goal
 
 -- no repeat stands among the extensions before this index, the flags say which singletons they have, and the walk has the others

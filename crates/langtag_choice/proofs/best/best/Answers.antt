@@ -1,10 +1,14 @@
-use Rattle.std.proofs.Common.{Some}
-use Rattle.langtag_choice.proofs.FoundLaws.{first_best, first_open}
+use Rattle.std.proofs.Common.{None, Some, true, refl}
+use Rattle.langtag_choice.proofs.FoundLaws.{best_found}
 use Rattle.langtag_choice.proofs.best.best.Goals as goal
 
 pub returns-then-is_chosen : goal.returns-then-is_chosen
 returns-then-is_chosen g c =
-    first_best _ _ _ (Some c.in-Some.found) c.in-Some.is c.first_by_ranges-has_zero.ensures.least c.first_by_ranges-has_zero.ensures.real (c.is_chosen.ensures c.if-is_chosen.true)
+    best_found _ _ (λ place index. true) (Some c.in-Some.found) (rw c.in-Some.is at c.first_by_ranges-has_zero.ensures.first) (λ place index free. refl) (λ found is tried. cc (c.is_chosen.ensures c.if-is_chosen.true))
 
 pub returns : goal.returns
-returns g c = first_open _ _ _ c.first_by_tags.ensures.least c.first_by_tags.ensures.real c.first_by_tags.ensures.unrefused
+returns g c = best_found _ _ _ _ c.first_by_tags.ensures (λ place index free. free) (λ found is free. free)
+
+pub returns-in_default : goal.returns-in_default
+returns-in_default g c =
+    best_found (g.R.RangeList.elements c.args.ranges) (g.T.TagList.texts c.args.tags.now) (λ place index. true) None (rw c.in_default.is at c.first_by_ranges-has_zero.ensures.first) (λ place index free. refl) (λ found is. absurd cc)

@@ -1,10 +1,10 @@
 use Rattle.std.proofs.Common.{option_map, sym, ap, ◌∙◌}
 use Rattle.std.proofs.lemmas.Bool.{not-true}
 use Rattle.langtag.specs.Text.{lang_tag_text}
-use Rattle.langtag_choice.proofs.FoundLaws.{open_at, none_refused}
+use Rattle.langtag_choice.proofs.FoundLaws.{none_refused, unrefused_entry}
 use Rattle.langtag_choice.proofs.best.is_chosen.Goals as goal
 
 pub returns-then-not-has_zero : goal.returns-then-not-has_zero
 returns-then-not-has_zero g c = λ yes.
-    open_at _ _ _ _ c.requires.inside (sym c.tag_at.ensures ∙ ap (option_map lang_tag_text) c.in-Some.is)
+    unrefused_entry (g.R.RangeList.elements c.args.ranges) (g.T.TagList.texts c.args.tags.now) c.args.index (lang_tag_text c.in-Some.tag) (sym c.tag_at.ensures ∙ ap (option_map lang_tag_text) c.in-Some.is)
     (none_refused _ _ (sym c.requires.zero ∙ not-true c.args.has_zero yes))

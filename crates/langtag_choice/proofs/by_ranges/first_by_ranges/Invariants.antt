@@ -1,7 +1,7 @@
-use Rattle.std.proofs.Common.{◌≡◌, ◌⊎◌, ◌||◌, ◌+◌, ◌<◌, ◌^◌, length}
+use Rattle.std.proofs.Common.{◌≡◌, ◌⊎◌, ◌||◌, ◌+◌, ◌<◌, ◌^◌, None, length, nat_lt}
 use Rattle.std.specs.List.{list_any}
 use Rattle.langtag_choice.specs.Best.{is_excluded}
-use Rattle.langtag_choice.specs.Found.{Covers, IsReal}
+use Rattle.langtag_choice.specs.Found.{Tries}
 use Rattle.langtag_choice.proofs.FoundLaws.{IsRest}
 use Rattle.langtag_choice.proofs.by_ranges.first_by_ranges.Given as goal
 
@@ -10,8 +10,7 @@ invariant-loop-wanted g l = record {
   few : (l.place ≡ 0) ⊎ (l.place + length (g.R.RangeList.elements l.left) < 2 ^ 64);
   rest : IsRest (g.R.RangeList.elements l.fn.ranges) (g.R.RangeList.elements l.left) l.place;
   zero : (l.has_zero || list_any is_excluded (g.R.RangeList.elements l.left)) ≡ list_any is_excluded (g.R.RangeList.elements l.fn.ranges);
-  covers : Covers (g.R.RangeList.elements l.fn.ranges) (g.T.TagList.texts l.tags) l.place l.first;
-  real : IsReal (g.R.RangeList.elements l.fn.ranges) (g.T.TagList.texts l.tags) l.first;
+  tries : Tries (g.R.RangeList.elements l.fn.ranges) (g.T.TagList.texts l.tags) (λ place index. nat_lt place l.place) None l.first;
 }
 
 abbrev pub decreases-loop-wanted : goal.decreases-loop-wanted

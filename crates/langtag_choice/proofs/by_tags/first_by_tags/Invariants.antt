@@ -1,13 +1,11 @@
-use Rattle.std.proofs.Common.{◌-◌, ◌≤◌, length}
-use Rattle.langtag_choice.specs.Found.{AreOpen, CoversOpen, IsReal}
+use Rattle.std.proofs.Common.{◌-◌, ◌≤◌, ◌&&◌, None, length, nat_lt}
+use Rattle.langtag_choice.specs.Found.{Tries, is_unrefused_at}
 use Rattle.langtag_choice.proofs.by_tags.first_by_tags.Given as goal
 
 abbrev pub invariant-loop-start : goal.invariant-loop-start
 invariant-loop-start g l = record {
   within : l.start ≤ length (g.T.TagList.texts l.tags);
-  covers : CoversOpen (g.R.RangeList.elements l.ranges) (g.T.TagList.texts l.tags) l.start l.first;
-  real : IsReal (g.R.RangeList.elements l.ranges) (g.T.TagList.texts l.tags) l.first;
-  unrefused : AreOpen (g.R.RangeList.elements l.ranges) (g.T.TagList.texts l.tags) l.first;
+  tries : Tries (g.R.RangeList.elements l.ranges) (g.T.TagList.texts l.tags) (λ place index. is_unrefused_at (g.R.RangeList.elements l.ranges) (g.T.TagList.texts l.tags) index && nat_lt index l.start) None l.first;
 }
 
 abbrev pub decreases-loop-start : goal.decreases-loop-start

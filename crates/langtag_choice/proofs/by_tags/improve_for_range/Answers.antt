@@ -1,7 +1,8 @@
-use Rattle.std.proofs.Common.{◌+◌, sym, subst}
+use Rattle.std.proofs.Common.{◌+◌, ◌&&◌, ◌||◌, ◌==◌, arith, nat_lt, sym, subst, ap, ◌∙◌}
+use Rattle.std.proofs.lemmas.Bool.Decides.{nat_tests}
 use Rattle.langtag_range.specs.Listed.{listed_element}
-use Rattle.langtag_choice.specs.Found.{ImprovesFor}
-use Rattle.langtag_choice.proofs.FoundLaws.{improves_next, improves_past}
+use Rattle.langtag_choice.specs.Found.{TriesRange, is_flagged}
+use Rattle.langtag_choice.proofs.FoundLaws.{all_flags, flag_next, one_more_entry, tries_same}
 use Rattle.langtag_choice.proofs.by_tags.improve_for_range.Goals.{then-unrefused-offset, else-unrefused-offset}
 use Rattle.langtag_choice.proofs.by_tags.improve_for_range.Goals as goal
 
@@ -10,13 +11,17 @@ loop-offset-preserved g c =
     let texts = g.T.TagList.texts c.args.tags.now in
     let element = listed_element c.args.wanted in
     let flags = c.args.unrefused.now in
+    let start = c.args.start in
     let offset = c.loop-offset.offset in
-    let so_far = c.loop-offset.invariant.improves in
-    record {
-      improves = elim c.if-unrefused-offset.branch [
-        | then-unrefused-offset w ↦ subst (ImprovesFor element c.args.place texts c.args.start flags (offset + 1) c.args.found.now) (sym w.found-is)
-            (improves_next texts c.args.start flags element c.args.place offset c.in-Some.wish _ _ _ c.in-Some.ensures.0 c.in-Some.ensures.1 so_far w.if-unrefused-offset.true w.improve_entry.ensures)
-        | else-unrefused-offset w ↦ subst (ImprovesFor element c.args.place texts c.args.start flags (offset + 1) c.args.found.now) (sym w.found-is)
-            (improves_past texts c.args.start flags element c.args.place offset _ _ so_far w.if-unrefused-offset.false)
-      ];
-    }
+    elim c.if-unrefused-offset.branch [
+      | then-unrefused-offset w ↦ subst (TriesRange element c.args.place texts (λ i. is_flagged start flags i && nat_lt i (start + (offset + 1))) c.args.found.now) (sym w.found-is)
+          (one_more_entry texts c.in-Some.wish element c.args.place (λ i. is_flagged start flags i && nat_lt i (start + offset)) (λ i. i == (start + offset)) _ _ _ _ c.in-Some.ensures.0 c.in-Some.ensures.1 c.loop-offset.invariant w.improve_entry.ensures
+          (λ i. flag_next start flags offset i ∙ ap (λ b. (is_flagged start flags i && nat_lt i (start + offset)) || (b && (i == (start + offset)))) w.if-unrefused-offset.true))
+      | else-unrefused-offset w ↦ subst (TriesRange element c.args.place texts (λ i. is_flagged start flags i && nat_lt i (start + (offset + 1))) c.args.found.now) (sym w.found-is)
+          (λ elements wanted. tries_same elements texts _ _ _ _ (c.loop-offset.invariant elements wanted) (λ p i among inside. grind (arith, nat_tests, flag_next start flags offset i)))
+    ]
+
+pub returns : goal.returns
+returns g c = λ elements wanted.
+    tries_same elements (g.T.TagList.texts c.args.tags.now) _ _ _ _ (c.loop-offset.invariant elements wanted)
+    (λ p i among inside. grind (arith, nat_tests, all_flags c.args.start c.args.unrefused.now i))

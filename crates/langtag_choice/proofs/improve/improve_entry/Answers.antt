@@ -10,3 +10,7 @@ returns-else-not-is_far_from g c =
     let found = c.args.found.now in
     takes_at (g.T.TagList.texts c.args.tags.now) wish known c.args.index found found c.requires c.known_at.ensures
     (far_takes wish known c.args.index found (λ is. c.is_far_from.ensures.far is yes) (λ is. c.is_far_from.ensures.kept is yes))
+
+pub returns-then-not-is_far_from : goal.returns-then-not-is_far_from
+returns-then-not-is_far_from g c =
+    takes_at (g.T.TagList.texts c.args.tags.now) c.args.wish.now c.known_at-then-not-is_far_from.result c.args.index c.args.found.now c.improve_near.new.found c.requires c.known_at-then-not-is_far_from.ensures c.improve_near.ensures

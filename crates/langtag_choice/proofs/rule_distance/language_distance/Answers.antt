@@ -1,19 +1,14 @@
-use Rattle.std.proofs.Common.{None, Some, refl, sym, ap, ◌∙◌}
+use Rattle.std.proofs.Common.{None, Some, refl, sym, ap, ◌∙◌, arith}
 use Rattle.std.specs.Result.{result_ok}
 use Rattle.langtag_likely.specs.Texts.{field_texts}
-use Rattle.langtag_choice.proofs.MatchingTables.{language_long_desired, language_long_supported, language_found}
+use Rattle.langtag_choice.proofs.MatchingTables.{language_found, language_long}
 use Rattle.langtag_likely.proofs.FieldClasses.{language_letters}
 use Rattle.langtag_likely.proofs.KeyNumbers.{index_searched}
 use Rattle.langtag_choice.proofs.rule_distance.language_distance.Goals as goal
-use Rattle.langtag_choice.proofs.rule_distance.language_distance.Goals.{then-desired-gt3-via-then-desired-gt3, then-desired-gt3-via-else-desired-gt3+then-supported-gt3}
 
-pub returns-then-desired-gt3-clause-distance : goal.returns-then-desired-gt3-clause-distance
-returns-then-desired-gt3-clause-distance c =
-    let other = sym c.case_insensitive_eq.ensures.test ∙ c.if-case_insensitive_eq.false in
-    elim c.then-desired-gt3.branch [
-      | then-desired-gt3-via-then-desired-gt3 w ↦ language_long_desired (field_texts c.args.desired) (field_texts c.args.supported) other w.if-desired-gt3.true
-      | then-desired-gt3-via-else-desired-gt3+then-supported-gt3 w ↦ language_long_supported (field_texts c.args.desired) (field_texts c.args.supported) other w.if-supported-gt3.true
-    ]
+pub returns-then-max-gt3-clause-distance : goal.returns-then-max-gt3-clause-distance
+returns-then-max-gt3-clause-distance c =
+    language_long (field_texts c.args.desired) (field_texts c.args.supported) (sym c.case_insensitive_eq.ensures.test ∙ c.if-case_insensitive_eq.false) (omega (arith, c.max.ensures, c.if-max-gt3.true))
 
 pub returns-in-Ok-clause-distance : goal.returns-in-Ok-clause-distance
 returns-in-Ok-clause-distance c =

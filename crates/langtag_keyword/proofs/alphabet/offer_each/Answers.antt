@@ -7,7 +7,7 @@ use Rattle.langtag_keyword.proofs.LeastTexts.{offered-both, offered-none}
 use Rattle.langtag_keyword.proofs.alphabet.offer_each.Goals as goal
 
 pub loop-rest-preserved : goal.loop-rest-preserved
-loop-rest-preserved c =
+loop-rest-preserved g c =
     let others = segments_left c.split_first.result.1 in
     let here : segments_left c.loop-rest.rest ≡ c.split_first.result.0.now ∷ others = ap segments_left c.in-Some.is ∙ c.split_first.ensures in
     let number = c.order_number.ensures ∙ ap order_number c.as_bytes.ensures.value in
@@ -20,6 +20,6 @@ loop-rest-preserved c =
     }
 
 pub returns : goal.returns
-returns c =
+returns g c =
     c.loop-rest.invariant.so_far c.loop-rest.least
     (subst (λ rest. IsOffered (map order_number (segments_left rest)) c.loop-rest.least c.loop-rest.least) (sym c.in_default.is) (offered-none c.loop-rest.least))

@@ -1,4 +1,4 @@
-use Rattle.std.proofs.Common.{◌≡◌, ◌∷◌, map, sym, ap, subst, ◌∙◌}
+use Rattle.std.proofs.Common.{◌≡◌, ◌∷◌, map, rules, sym, ap, subst, ◌∙◌}
 use Rattle.std.proofs.lemmas.List.{map-append}
 use Rattle.langtag.specs.Fields.{subtag_of}
 use Rattle.langtag_scan.specs.Record.{one_flat}
@@ -10,12 +10,12 @@ use Rattle.langtag_locale.specs.LocaleForm.{forms, variant_form}
 use Rattle.langtag_locale.proofs.locale_variants.offer_forms.Goals as goal
 
 pub offer_form-requires : goal.offer_form-requires
-offer_form-requires c =
+offer_form-requires g c =
     let here = ap segments_left c.in-Some.is ∙ c.split_first.ensures in
-    (subst AreVariants here c.loop-rest.invariant.each).0
+    (search rules, (subst AreVariants here c.loop-rest.invariant.each).0)
 
 pub loop-rest-preserved : goal.loop-rest-preserved
-loop-rest-preserved c =
+loop-rest-preserved g c =
     let v = c.split_first.result.0.now in
     let vs = segments_left c.args.variants in
     let others = segments_left c.split_first.result.1 in
@@ -33,7 +33,7 @@ loop-rest-preserved c =
     }
 
 pub returns : goal.returns
-returns c =
+returns g c =
     c.loop-rest.invariant.so_far c.loop-rest.least
     (subst (λ rest. IsOffered (map order_number (forms c.args.language.now (segments_left c.args.variants) (segments_left rest))) c.loop-rest.least c.loop-rest.least) (sym c.in_default.is)
     (offered-none c.loop-rest.least))

@@ -7,7 +7,7 @@ use Rattle.langtag_locale.proofs.locale_variants.offer_forms.Given as goal
 
 -- the forms of those that are left are offered after those before them
 abbrev pub invariant-loop-rest : goal.invariant-loop-rest
-invariant-loop-rest l =
+invariant-loop-rest g l =
     let vs = segments_left l.variants in
     record {
       each : AreVariants (segments_left l.rest);
@@ -17,4 +17,4 @@ invariant-loop-rest l =
     }
 
 abbrev pub decreases-loop-rest : goal.decreases-loop-rest
-decreases-loop-rest l = length (segments_left l.rest)
+decreases-loop-rest g l = length (segments_left l.rest)

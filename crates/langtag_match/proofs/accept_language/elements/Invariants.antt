@@ -1,7 +1,9 @@
-use Rattle.std.proofs.Common.{length, take}
-use Rattle.langtag_range.specs.Element.{items}
-use Rattle.langtag_match.proofs.Elements.{IsRead}
+use Rattle.std.proofs.Common.{length}
+use Rattle.langtag_match.proofs.Elements.{IsReadTo}
 use Rattle.langtag_match.proofs.accept_language.elements.Given as goal
 
-abbrev pub invariant-loop-index : goal.invariant-loop-index
-invariant-loop-index l = IsRead (take (length l.yielded) (items l.header)) l.elements.items
+abbrev pub invariant-loop-left : goal.invariant-loop-left
+invariant-loop-left l = IsReadTo l.header l.left l.index l.elements.items
+
+abbrev pub decreases-loop-left : goal.decreases-loop-left
+decreases-loop-left l = length l.left

@@ -1,8 +1,11 @@
 use Rattle.std.proofs.Common.{arith}
 use Rattle.std.proofs.lemmas.Grind.{common_steps}
-use Rattle.langtag_registry.proofs.FieldTables.{tag_entries}
+use Rattle.langtag_registry.proofs.FieldTables.{tag_ends, tag_entries}
 use Rattle.langtag_registry.proofs.WholeTags.{preferred_is_tag}
 use Rattle.langtag_registry.proofs.preferred.preferred_for.Goals as goal
 
 pub from_checked-requires : goal.from_checked-requires
 from_checked-requires c = grind (arith, common_steps, preferred_is_tag c.args.text.now c.in_ok-text.text.now, tag_entries)
+
+pub value_beside-requires : goal.value_beside-requires
+value_beside-requires c = tag_ends

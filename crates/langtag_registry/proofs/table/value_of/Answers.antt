@@ -1,4 +1,5 @@
 use Rattle.std.proofs.Common.{◌<◌, [], Some, Ok, Err, get_or, length, sym, ap, ◌∙◌, arith}
+use Rattle.std.proofs.lemmas.Bool.{eqb-true}
 use Rattle.std.proofs.lemmas.List.{get_or-map}
 use Rattle.std.proofs.lemmas.List.Sorted.{searched}
 use Rattle.langtag_tables.proofs.Rising.{climb_searched}
@@ -11,7 +12,7 @@ returns-in-Ok c = λ list of.
     let values = c.args.values.now in
     let at = searched keys c.folded_number.result (Ok c.in-Ok.index) c.in-Ok.ensures.position (climb_searched keys of.numbers.climb) in
     let within : c.in-Ok.index < length values =
-    omega (arith, at.0, c.requires.beside) in
+    omega (arith, at.0, eqb-true (length keys) (length values) c.requires.beside) in
     sym (value_searched keys list c.args.text.now c.folded_number.result (Ok c.in-Ok.index) of.numbers c.requires.subtag.alphanumeric c.folded_number.ensures.number at
     ∙ ap (λ texts. Some (get_or texts c.in-Ok.index [])) (sym of.beside)
     ∙ ap Some (get_or-map (λ text. text.now) values c.in-Ok.index _ [] within))

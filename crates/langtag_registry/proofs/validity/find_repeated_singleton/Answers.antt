@@ -2,7 +2,7 @@ use Rattle.std.proofs.Common.{None, Some, map, slice_get, sym, ap, ◌∙◌, op
 use Rattle.std.proofs.lemmas.Iterator.Consumers.{YieldsList-from_first, nth_from_yields_List}
 use Rattle.langtag_extension.specs.Spelling.{extension_spelling}
 use Rattle.langtag_extension.specs.Text.{extension_text, extensions_left, singleton_byte}
-use Rattle.langtag.proofs.RepeatLaws.{singleton_at, singletons}
+use Rattle.langtag.proofs.SingletonRepeats.{singleton_at, singletons}
 use Rattle.langtag_registry.proofs.validity.find_repeated_singleton.Goals as goal
 
 pub returns-in_err-extension-clause-first : goal.returns-in_err-extension-clause-first

@@ -4,7 +4,7 @@ use Rattle.langtag_scan.specs.Class.{is_variant}
 use Rattle.langtag_scan.specs.Subtags.{subtags}
 use Rattle.langtag_scan.proofs.SubtagFacts.{of_variant}
 use Rattle.langtag_scan.proofs.SubtagLists.{each_subtag, subtags-joined}
-use Rattle.langtag.specs.Repeat.{repeat_index}
+use Rattle.langtag_place.specs.Repeat.{repeat_index}
 use Rattle.langtag.proofs.normal_lang_tag.NormalLangTag.repeated_variant_index.Goals as goal
 
 pub returns-clause-repeated : goal.returns-clause-repeated

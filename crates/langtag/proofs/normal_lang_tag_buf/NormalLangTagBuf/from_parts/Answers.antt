@@ -1,12 +1,10 @@
 use Rattle.std.proofs.Common.{◌≤◌, arith}
+use Rattle.std.proofs.lemmas.Grind.{common_steps}
 use Rattle.langtag.proofs.EditLaws.{is_region-member, is_script-member, made_of_parts, short_region, short_script}
 use Rattle.langtag.proofs.normal_lang_tag_buf.NormalLangTagBuf.from_parts.Goals as goal
 
 pub ends-ends-requires : goal.ends-ends-requires
-ends-ends-requires c =
-    let script : c.length_with_hyphen.result ≤ 9 = rw (c.length_with_hyphen.ensures, c.as_str-script.ensures) (short_script _ (is_script-member c.args.script)) in
-    let region : c.length_with_hyphen-2.result ≤ 9 = rw (c.length_with_hyphen-2.ensures, c.as_str-region.ensures) (short_region _ (is_region-member c.args.region)) in
-    omega (arith, script, region)
+ends-ends-requires c = grind (arith, common_steps, short_script, is_script-member, short_region, is_region-member)
 
 pub with_ends-requires : goal.with_ends-requires
 with_ends-requires c =

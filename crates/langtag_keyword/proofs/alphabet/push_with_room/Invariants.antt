@@ -1,0 +1,12 @@
+use Rattle.std.proofs.Common.{◌-◌, ◌∷◌, []}
+use Rattle.langtag_scan.specs.Subtags.{segments_left}
+use Rattle.langtag_keyword.specs.Least.{number_text}
+use Rattle.langtag_keyword.proofs.LeastTexts.{Rounds}
+use Rattle.langtag_keyword.proofs.alphabet.push_with_room.Given as goal
+
+-- the subtags that are left are put after those before them
+abbrev pub invariant-loop-more : goal.invariant-loop-more
+invariant-loop-more g l = Rounds (λ n. number_text n ∷ []) (segments_left l.rest) l.least l.more l.fn.out l.out
+
+abbrev pub decreases-loop-more : goal.decreases-loop-more
+decreases-loop-more g l = 18446744073709551615 - l.least.last

@@ -1,0 +1,18 @@
+use Rattle.std.proofs.Common.{map}
+use Rattle.std.specs.List.{AllByRecursion, filter}
+use Rattle.langtag_scan.proofs.SubtagFacts.{IsSubtag}
+use Rattle.langtag_scan.specs.Subtags.{subtags}
+use Rattle.langtag_keyword.specs.Keys.{opens_keyword}
+use Rattle.langtag_keyword.specs.Least.{IsOffered, Least, order_number}
+use Rattle.langtag_keyword.proofs.keyword_form.offer_keys.Given as goal
+
+-- the keys that are left are offered after those before them
+abbrev pub invariant-loop-subtag : goal.invariant-loop-subtag
+invariant-loop-subtag g l = record {
+  can_next : (goal.iterator-loop-subtag g).can_next l.subtag-iterator;
+  is_finite : (goal.iterator-loop-subtag g).is_finite l.subtag-iterator;
+  each : AllByRecursion IsSubtag l.subtag-iterator;
+  so_far :
+      (new : Least) → IsOffered (map order_number (filter (opens_keyword l.keys) l.subtag-iterator)) l.least new →
+      IsOffered (map order_number (filter (opens_keyword l.keys) (subtags l.text))) l.fn.least new;
+}

@@ -1,0 +1,23 @@
+use Rattle.std.proofs.Common.{ap, arith}
+use Rattle.std.specs.List.{flat_map}
+use Rattle.std.proofs.lemmas.List.{drop_all}
+use Rattle.langtag_output.proofs.Pushed.{pushes_ended, pushes_same}
+use Rattle.langtag_scan.specs.Subtags.{subtags}
+use Rattle.langtag_keyword.specs.Form.{keyword_form}
+use Rattle.langtag_keyword.specs.Keys.{canonical_value_of, opens_keyword}
+use Rattle.langtag_keyword.specs.Least.{key_of}
+use Rattle.langtag_keyword.proofs.LeastTexts.{put_more}
+use Rattle.langtag_keyword.proofs.keyword_form.push_each.Goals as goal
+
+pub loop-number-preserved : goal.loop-number-preserved
+loop-number-preserved c = λ new these.
+    let of = keyword_form (opens_keyword c.args.keys) (canonical_value_of c.args.keys) (subtags c.args.text.now) in
+    c.loop-number.invariant new
+    (put_more (λ n. of (key_of n)) c.args.numbers.now c.loop-number.number-index _ _ new c.loop-number-test.true
+    (pushes_same _ _ _ _ (ap of c.key_of.ensures) c.push_keyword.ensures) these)
+
+pub returns : goal.returns
+returns c =
+    let of = keyword_form (opens_keyword c.args.keys) (canonical_value_of c.args.keys) (subtags c.args.text.now) in
+    c.loop-number.invariant _
+    (pushes_ended _ _ (ap (flat_map (λ n. of (key_of n))) (drop_all c.loop-number.number-index c.args.numbers.now (omega (arith, c.loop-number-test.false)))))

@@ -1,0 +1,32 @@
+use Rattle.std.specs.List.{filter}
+use Rattle.langtag_output.proofs.Pushed.{pushes_same}
+use Rattle.langtag_scan.specs.Subtags.{subtags}
+use Rattle.langtag_keyword.specs.Form.{keyword_form}
+use Rattle.langtag_keyword.specs.Keys.{canonical_value_of, opens_keyword}
+use Rattle.langtag_keyword.specs.Least.{key_of}
+use Rattle.langtag_keyword.proofs.KeySetLaws.{are-keys}
+use Rattle.langtag_keyword.proofs.LeastTexts.{keys-fit, put-keys_in_order, rounds-ended, rounds-first, rounds-next, rounds-smaller}
+use Rattle.langtag_keyword.proofs.keyword_form.push_with_room.Goals as goal
+
+pub loop-more-init : goal.loop-more-init
+loop-more-init g c =
+    let ss = subtags c.args.text.now in
+    let keys = filter (opens_keyword c.args.keys) ss in
+    rounds-first (λ n. keyword_form (opens_keyword c.args.keys) (canonical_value_of c.args.keys) ss (key_of n)) keys _ _ (keys-fit keys (are-keys c.args.keys ss c.requires.subtags)) c.new-least.ensures.empty
+    c.new-least.ensures.last
+
+pub loop-more-preserved : goal.loop-more-preserved
+loop-more-preserved g c =
+    rounds-next c.loop-more.invariant c.sort.new.self c.advance-more.new.self c.loop-more-test.true c.offer_keys.ensures c.sort.ensures.kept c.sort.ensures.limit
+    c.advance-more.ensures.next _ _ _ c.advance-more.ensures.empty c.advance-more.ensures.more c.kept.ensures c.push_each.ensures
+
+pub loop-more-smaller : goal.loop-more-smaller
+loop-more-smaller g c =
+    rounds-smaller c.loop-more.invariant c.sort.new.self c.advance-more.new.self c.loop-more-test.true c.offer_keys.ensures c.sort.ensures.kept c.sort.ensures.limit c.advance-more.ensures.next
+
+pub returns : goal.returns
+returns g c =
+    let ss = subtags c.args.text.now in
+    pushes_same _ _ _ _
+    (put-keys_in_order (keyword_form (opens_keyword c.args.keys) (canonical_value_of c.args.keys) ss) (filter (opens_keyword c.args.keys) ss) (are-keys c.args.keys ss c.requires.subtags))
+    (rounds-ended c.loop-more.invariant c.loop-more-test.false)

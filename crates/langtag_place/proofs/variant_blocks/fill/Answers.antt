@@ -1,0 +1,10 @@
+use Rattle.std.proofs.Common.{arith}
+use Rattle.std.proofs.lemmas.List.{length-drop, take_more_set}
+use Rattle.std.proofs.lemmas.Grind.{common_steps}
+use Rattle.langtag_place.proofs.RepeatLaws.{IsAt-drop}
+use Rattle.langtag_place.proofs.VariantBlockLaws.{numbers-more}
+use Rattle.langtag_place.proofs.variant_blocks.fill.Goals.{in-Some, in_default}
+use Rattle.langtag_place.proofs.variant_blocks.fill.Goals as goal
+
+pub loop-number-preserved : goal.loop-number-preserved
+loop-number-preserved c = grind (arith, common_steps, in-Some, IsAt-drop, take_more_set c.loop-number.block, numbers-more, in_default, length-drop)
