@@ -7,6 +7,7 @@
 #     end_all               stops what was started, each process by its id, and removes FOLDER
 
 pg_config=$(command -v "${PG_CONFIG:-pg_config}")
+pg_tests=$(cd "$(dirname "${BASH_SOURCE[0]}")" && pwd)
 started=()
 
 place() {
@@ -42,12 +43,7 @@ begin() {
         -c fsync=off -c max_connections=30 -c shared_buffers="${SHARED_BUFFERS:-64MB}" -c max_stack_depth=2MB \
         >"$data/log" 2>&1) &
     started+=($!)
-    for _ in $(seq 100); do
-        "$pg_bin/pg_isready" -q -p "$port" && return 0
-        sleep 0.1
-    done
-    tail "$data/log"
-    return 1
+    PGPORT=$port python3 "$pg_tests/server.py" || { tail "$data/log"; return 1; }
 }
 
 end_all() {

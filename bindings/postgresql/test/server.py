@@ -1,6 +1,11 @@
-"""Runs statements on the servers that the tests started. PGHOST, PGPORT and PGUSER name the first server, as for psql."""
+"""Runs statements on the servers that the tests started. PGHOST, PGPORT and PGUSER name the first server, as for psql. As a program, it
+waits until the server is ready."""
 import os
 import subprocess
+import sys
+import time
+
+READY = "SELECT count(*) = 0 FROM pg_stat_activity WHERE backend_type = 'client backend' AND pid <> pg_backend_pid()"
 
 ENCODINGS = {}  # for databases whose texts cannot be converted to UTF-8: psql uses the database's encoding
 
@@ -32,3 +37,19 @@ def fresh(database, port=None, template="template0", encoding="UTF8"):
 
 def quoted(text):
     return "'" + text.replace("'", "''") + "'"
+
+
+def wait(seconds=60):
+    """Waits until the server accepts connections, which it refuses while it recovers from a crash, and all earlier sessions have ended."""
+    end = time.monotonic() + seconds
+    while True:
+        asked = subprocess.run(["psql", "-X", "-At", "-c", READY, "postgres"], capture_output=True, text=True, check=False)
+        if asked.stdout == "t\n":
+            return
+        if time.monotonic() > end:
+            sys.exit(f"the server is not ready after {seconds} s: {asked.stderr or 'an earlier session has not ended'}")
+        time.sleep(0.1)
+
+
+if __name__ == "__main__":
+    wait()

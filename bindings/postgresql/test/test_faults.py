@@ -18,6 +18,9 @@ class Faults(unittest.TestCase):
     def setUpClass(cls):
         server.fresh("faults")
 
+    def setUp(self):
+        server.wait()  # a test that ended the server fails alone
+
     def refused(self, statement, *words, database="faults"):
         said, complaint = server.run("\\set VERBOSITY verbose\n" + statement, database, stop=False)
         for word in words:
