@@ -16,4 +16,3 @@ if [ -d "$work/dist" ]; then
 else
     not_run "documents: the commands that install" "there are no packages"
 fi
-check "documents: planted false results are seen" env LANGTAG_ARCHIVE="$work/lib/liblangtag_c.a" LANGTAG_JS="$work/bindings/js" python3 "$root/.ci/test_examples"

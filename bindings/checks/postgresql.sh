@@ -61,7 +61,6 @@ else
     PGPORT=$(port_of hub)
     SHARDS="$(port_of shard_a) $(port_of shard_b)"
     check "PostgreSQL: the examples of the documents" "$root/.ci/examples" sql
-    check "PostgreSQL: a planted false result in the documents is seen" python3 "$root/.ci/test_examples" Examples.test_sql
     check "PostgreSQL: make installcheck" postgresql_regress
     check "PostgreSQL: the rows, and tags of the registry beside a plain reading of it" in_postgresql test_rows
     check "PostgreSQL: ranges by each scan" in_postgresql test_ranges
