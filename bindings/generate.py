@@ -8,7 +8,6 @@
     bindings/python/native/functions.h        the same
     bindings/python/langtag/_declarations.py  the functions and structs for ctypes
     bindings/js/calls.js                      the functions in JavaScript, over the memory of the WebAssembly module
-    bindings/js/test/signatures.js            the functions, for a test that calls each of them
     docs/CALLS.md, README.md                  the calls of each language, by task, from bindings/calls.txt
 
 It also compares the numbers that stand in several files (check_numbers.py).
@@ -173,19 +172,6 @@ def python(it: Interface) -> str:
     return text + "}\n"
 
 
-# ---- bindings/js/test/signatures.js
-
-
-def word_of_js(it: Parameter) -> str:
-    words = {"&[u8]": "text", "&[Span]": "spans", "&[PreparedTag]": "prepared", "&mut [usize]": "numbers", "&mut [u8]": "buffer" if it.name == "buffer" else "bytes"}
-    return words.get(it.kind, "out" if it.kind.startswith("&") and not it.is_read else it.name if it.is_writable() else it.kind)
-
-
-def signatures(it: Interface) -> str:
-    lines = "".join(f'    {function.name}: "{" ".join(map(word_of_js, function.parameters))}",\n' for function in it.functions)
-    return f"/** The parameters of each function of langtag.h. {WRITTEN} */\nexport const SIGNATURES = {{\n{lines}}};\n"
-
-
 # ---- bindings/include/langtag.h
 
 
@@ -247,7 +233,6 @@ FILES = {
     "bindings/python/native/functions.h": functions_for_c,
     "bindings/python/langtag/_declarations.py": python,
     "bindings/js/calls.js": lambda it: javascript(it, WRITTEN),
-    "bindings/js/test/signatures.js": signatures,
 }
 
 

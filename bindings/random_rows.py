@@ -392,9 +392,14 @@ def long_text(numbers: random.Random) -> bytes:
 
 def questions_of(numbers: random.Random) -> Rows:
     one, other = (numbers.choice([long_text, random_text])(numbers) for _ in "ab")
-    for call in ("tag", "validity", "suggestion", "canonical", "refused", "maximized", "minimized", "right-to-left", "posix", "posix-name"):
+    for call in ("tag", "validity", "suggestion", "canonical", "refused", "maximized", "minimized", "right-to-left", "posix", "posix-name",
+                 "keywords", "attributes", "transform", "extensions-form", "is-locale", "locale-form"):
         yield call, shown(one)
     yield "distance", shown(one), shown(numbers.choice([other, one.swapcase()]))
+    yield "parents", shown(random_text(numbers))
+    header, tags = shown(random_header(numbers)), [it for it in (b"de", b"zh", one, other) if kind(it) != "none"]
+    for call in ("best", "best-match", "suitable"):
+        yield call, header, " ".join(map(shown, tags))
 
 
 def main(what: str, count: str, seed: str) -> None:

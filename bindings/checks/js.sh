@@ -41,14 +41,6 @@ echo "Node $(node --version)$(has wasm-opt && echo ", $(wasm-opt --version)")"
 check "JavaScript: no import, and the functions of the header" wasm_symbols
 js_tests() { (cd js && LANGTAG_ANSWERS=$work/answers node --test --test-reporter=spec test/rows.test.js test/langtag.test.js test/examples.test.js); }
 check "JavaScript: tests, the example, the rows, and C's answers to random calls" js_tests
-js_wide() { (cd js && node --experimental-wasm-memory64 test/lowering.js "$work/answers"); }
-if [ ! -e js/langtag64.wasm ]; then
-    not_run "JavaScript: the module of 64-bit addresses" "cargo builds none"
-elif node --experimental-wasm-memory64 -e '' 2>/dev/null; then
-    check "JavaScript: the module of 32-bit addresses answers as that of 64" js_wide
-else
-    not_run "JavaScript: the module of 64-bit addresses" "this Node does not take it"
-fi
 js_written() { js/compile && cmp js/index.js "$here/js/index.js" && cmp js/index.d.ts "$here/js/index.d.ts"; }
 js_types() {
     mkdir -p "$work/types/node_modules/langtag-verified" && cd "$work/types" || return 1

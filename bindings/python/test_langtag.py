@@ -552,49 +552,22 @@ class Threads(unittest.TestCase):
         self.assertEqual(str(Tag("de")), "de")
 
 
-#: Calls that raise an error, for both backends. The signatures of functions are left out: there, Python itself words the errors.
-WRONG_CALLS = """
-import langtag
-from langtag import Range, Tag
-made = Tag.__new__(Tag)
-for call in (
-    *(lambda it=it: Tag(it) for it in (5, None, ["en"], Range("en"), bytearray(b"en"), made, "de_", b"d\\xff", "d\\udc80")),
-    *(lambda it=it: Range(it) for it in (5, None, made, "de_", Range.__new__(Range))),
-    *(lambda it=it, call=call: call(it) for it in (5, None, Tag("de")) for call in (
-        langtag.kind, langtag.viable_len, langtag.stop_len, Tag.from_posix, langtag.unknown_modifier, Tag("de").keyword)),
-    *(lambda it=it, call=call: call(it) for it in (5, None, Range("de"), made, "de_") for call in (
-        Range("de").matches_basic, Range("de").matches_extended, lambda it: langtag.distance("de", it), lambda it: langtag.distance(it, "de"), langtag.describe, langtag.autonym)),
-    *(lambda it=it, call=call: call(it) for it in ([5], [None], [Range("de")], [made], ["de_"], 5, None, "de", {5: 6}) for call in (
-        lambda tags: langtag.best_for_header("de", tags), lambda tags: langtag.match_for_header("de", tags), lambda tags: langtag.tag_for_header("de", tags),
-        lambda tags: langtag.best_for_ranges(["de"], tags), lambda tags: langtag.look_up(["de"], tags), lambda tags: langtag.best_for_header("de," * 2000, tags))),
-    *(lambda it=it, call=call: call(it, ["de"]) for it in (5, [5], [made]) for call in (langtag.best_for_ranges, langtag.look_up, langtag.best_for_header)),
-    *(lambda call=call: call(made) for call in (str, repr, hash, Tag.canonical, Tag.folded, lambda it: it.script, lambda it: it == Tag("de"), lambda it: it < Tag("de"))),
-    lambda: Tag("de").__init__("en"), lambda: Range("de").__init__("en"), lambda: Tag("de") < Range("de"), lambda: Tag("de").replace(script=5),
-    lambda: Tag("de").replace(script="\\ud800"), lambda: Tag("de").replace(keywords={"ca": 5}), lambda: Tag("de").replace(keywords=5),
-):
-    try:
-        print(call())
-    except Exception as error:
-        print(type(error).__name__, ascii(str(error)))
-"""
-
-
+@unittest.skipUnless(IS_NATIVE and "LANGTAG_OTHER" in os.environ, "there is one")
 class Backends(unittest.TestCase):
-    @unittest.skipUnless(IS_NATIVE and "LANGTAG_OTHER" in os.environ, "there is one")
-    def test_that_both_have_the_same_words(self):
-        said = [subprocess.run([sys.executable, "-c", WRONG_CALLS], capture_output=True, text=True, check=True,
-                               env={**os.environ, "LANGTAG_LIBRARY": library}).stdout for library in ("", os.environ["LANGTAG_OTHER"])]
-        self.assertEqual(*said)
-        self.assertGreater(said[0].count("Error "), 110)
+    """Compares the C module and the ctypes module. LANGTAG_OTHER names the library."""
 
-    @unittest.skipUnless(IS_NATIVE and "LANGTAG_OTHER" in os.environ, "there is one")
-    def test_that_both_have_the_same(self):
-        """The C module and the ctypes module have the same members. LANGTAG_OTHER names the library."""
-        code = """import langtag
-print(*sorted(name for base in (langtag._backend.TagBase, langtag._backend.RangeBase) for name in vars(base) if name[0] != "_"))"""
-        said = [subprocess.run([sys.executable, "-c", code], capture_output=True, text=True, check=True,
-                               env={**os.environ, "LANGTAG_LIBRARY": library}).stdout for library in ("", os.environ["LANGTAG_OTHER"])]
+    def said(self, *program):
+        """Returns what a program prints over each of them, which has to be the same."""
+        said = [subprocess.run([sys.executable, *program], capture_output=True, text=True, check=True, env={**os.environ, "LANGTAG_LIBRARY": library}).stdout
+                for library in ("", os.environ["LANGTAG_OTHER"])]
         self.assertEqual(*said)
+        return said[0]
+
+    def test_that_both_have_the_same_words(self):
+        self.assertGreater(self.said("wrong_calls.py").count("Error "), 140)
+
+    def test_that_both_have_the_same(self):
+        self.said("-c", "import langtag\nfor base in (langtag._backend.TagBase, langtag._backend.RangeBase): print(*sorted(it for it in vars(base) if it[0] != '_'))")
 
 
 class Help(unittest.TestCase):

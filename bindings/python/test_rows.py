@@ -12,8 +12,23 @@ from langtag import (GRANDFATHERED, AcceptLanguage, AcceptLanguageError, EditErr
                      tag_for_header, tag_for_header_lenient)
 
 KINDS = {None: "none", langtag.Kind.NORMAL: "normal", langtag.Kind.PRIVATE_USE: "private", langtag.Kind.IRREGULAR: "irregular"}
-# The result if a header finds none of the tags.
-DEFAULT = "-"
+MATCHES = {(True, True): "both", (True, False): "basic", (False, True): "extended", (False, False): "neither"}
+
+
+def shown(answer):
+    """Returns what a call returned as the rows have it."""
+    if answer is None or isinstance(answer, bool):
+        return {None: "-", True: "yes", False: "no"}[answer]
+    if isinstance(answer, (list, tuple)):
+        return " ".join(map(str, answer)) or "-"
+    return str(answer) or "''"
+
+
+def alike(*answers):
+    """Returns the answers of several calls, which have to be the same."""
+    said = list(map(shown, answers))
+    assert len(set(said)) == 1, said
+    return said[0]
 
 
 def made(kind, text):
@@ -28,12 +43,8 @@ def of_tag(ask, otherwise="-"):
     """Returns a function that answers a row about a tag. For a string that is not a tag, it answers `otherwise`."""
     def answer(text, *more):
         tag = made(Tag, text)
-        return otherwise if tag is None else ask(tag, *more)
+        return otherwise if tag is None else shown(ask(tag, *more))
     return answer
-
-
-def yes_or_no(answer):
-    return "yes" if answer else "no"
 
 
 def copied(error):
@@ -41,6 +52,10 @@ def copied(error):
     again = pickle.loads(pickle.dumps(error))
     assert (type(again), str(again), vars(again)) == (type(error), str(error), vars(error))
     return again
+
+
+def extensions_of(tag):
+    return [[key, *subtags] for key, subtags in tag.extensions.items()]
 
 
 def parts(tag):
@@ -53,40 +68,33 @@ def answer_tag(text):
         return kind
     assert KINDS[tag.kind] == kind and str(tag).encode() == text and repr(tag) == f"Tag('{text.decode()}')"
     assert hash(tag) == hash(text.lower())
-    lines = [kind]
-    if tag.language:
-        assert tag.language == "-".join([tag.primary_language, *tag.extended_language])
-        lines.append(" ".join(["  language", tag.primary_language, *tag.extended_language]))
-    lines += [f"  {name} {getattr(tag, name)}" for name in ("script", "region") if getattr(tag, name) is not None]
-    if tag.variants:
-        lines.append(" ".join(["  variants", *tag.variants]))
-    if tag.extensions:
-        lines.append(" ".join(["  extensions"] + ["-".join([key, *subtags]) for key, subtags in tag.extensions.items()]))
-    if tag.private_use:
-        lines.append(f"  private_use {tag.private_use.replace('-', ' ')}")
-    lines += [f"  {name} {getattr(tag, name)}" for name in ("repeated_variant", "repeated_singleton") if getattr(tag, name)]
     assert parts(tag.recommended()) == parts(Tag(str(tag.recommended())))
-    return "\n".join(lines + [f"  recommended {tag.recommended()}", f"  folded {tag.folded()}", f"  hash {tag.fnv1a():016x}"])
+    languages = [tag.primary_language, *tag.extended_language]
+    assert tag.language is None or tag.language == "-".join(languages)
+    found = {
+        "language": tag.language and " ".join(languages), "script": tag.script, "region": tag.region, "variants": " ".join(tag.variants) or None,
+        "extensions": " ".join(map("-".join, extensions_of(tag))) or None, "private_use": tag.private_use and tag.private_use.replace("-", " "),
+        "repeated_variant": tag.repeated_variant, "repeated_singleton": tag.repeated_singleton,
+        "recommended": tag.recommended(), "folded": tag.folded(), "hash": f"{tag.fnv1a():016x}",
+    }
+    return "\n".join([kind, *(f"  {name} {value}" for name, value in found.items() if value is not None)])
+
+
+def first_of_each(line):
+    """Returns a line of the answer to `tag` with only the first extension of each singleton, in lowercase."""
+    name, *words = line.split()
+    first = {}
+    for word in words if name == "extensions" else ():
+        first.setdefault(word[0].lower(), word[0].lower() + word[1:])
+    return " ".join(["  extensions", *first.values()]) if first else line
 
 
 def adapted(row):
-    """Returns the answer as Python gives it: of the extensions of a tag only the first of each singleton, in lowercase, and no
-    offsets of repeats."""
+    """Returns the answer as Python gives it: of the extensions of a tag only the first of each singleton, and no offsets of repeats."""
     if row.call in ("keywords", "transform"):
         return re.sub(r"\w\w=", lambda key: key[0].lower(), row.wanted)  # a dict has lowercase keys
-    if row.call != "tag":
-        return row.wanted
-    lines = []
-    for line in row.wanted.split("\n"):
-        name, *words = line.split()
-        if name == "extensions":
-            first = {}
-            for word in words:
-                first.setdefault(word[0].lower(), word[0].lower() + word[1:])
-            line = " ".join(["  extensions", *first.values()])
-        if not name.startswith("at_"):
-            lines.append(line)
-    return "\n".join(lines)
+    lines = row.wanted.split("\n")
+    return "\n".join(first_of_each(line) for line in lines if not line.startswith("  at_")) if row.call == "tag" else row.wanted
 
 
 def answer_validity(tag):
@@ -99,10 +107,23 @@ def answer_validity(tag):
     return f"{wrong.fault} {wrong.start} {wrong.subtag}"
 
 
+def formed(tag, call):
+    """Returns the form of a tag, which has to be a Tag and its own form."""
+    form = call(tag)
+    assert form is None or (type(form) is Tag and str(call(form)) == str(form))
+    return form
+
+
 def answer_canonical(tag):
-    form = tag.canonical()
-    assert tag.is_canonical == (form == tag) and form.is_canonical and type(form) is Tag
-    return str(form)
+    form = formed(tag, Tag.canonical)
+    assert tag.is_canonical == (form == tag) and form.is_canonical
+    return form
+
+
+def answer_locale_form(tag):
+    form = formed(tag, Tag.locale_form)
+    assert form.is_locale if form else not tag.is_locale
+    return form
 
 
 def answer_grandfathered(text):
@@ -115,18 +136,16 @@ def answer_grandfathered(text):
 def answer_scan(text):
     """Returns how many bytes have to be read, how many prefixes are tags, and the kind of the text with the ends of its parts."""
     tag, fronts = made(Tag, text), sum(langtag.kind(text[:end]) is not None for end in range(len(text) + 1))
-    what = KINDS[langtag.kind(text)]
+    what = [langtag.stop_len(text), fronts, KINDS[langtag.kind(text)]]
     if tag is not None and tag.kind is langtag.Kind.IRREGULAR:
-        what += f" {GRANDFATHERED.index(tag.grandfathered)}"
+        what.append(GRANDFATHERED.index(tag.grandfathered))
     if tag is not None and tag.kind is langtag.Kind.NORMAL:
-        ends = [len(tag.language)]
-        extensions = "-".join("-".join([key, *subtags]) for key, subtags in tag.extensions.items())
         if tag.repeated_singleton:  # a dict has only the first extension of a singleton
             return None
-        for part in (tag.script, tag.region, "-".join(tag.variants), extensions, tag.private_use):
-            ends.append(ends[-1] + (1 + len(part) if part else 0))
-        what = " ".join([what, *map(str, ends)])
-    return f"{langtag.stop_len(text)} {fronts} {what}"
+        what.append(len(tag.language))
+        for part in (tag.script, tag.region, "-".join(tag.variants), "-".join(map("-".join, extensions_of(tag))), tag.private_use):
+            what.append(what[-1] + (1 + len(part) if part else 0))
+    return shown(what)
 
 
 def answer_range(text):
@@ -134,11 +153,9 @@ def answer_range(text):
     return "none" if range is None else "basic" if range.is_basic else "extended"
 
 
-def answer_match(range, tag):
-    range, text, tag = made(Range, range), tag, made(Tag, tag)
-    how = (range.matches_basic(text), range.matches_extended(text)) if range else (False, False)
-    assert not (range and tag) or (range.matches_basic(tag), range.matches_extended(tag)) == how
-    return {(True, True): "both", (True, False): "basic", (False, True): "extended", (False, False): "neither"}[how]
+def answer_match(range, text):
+    range, tag = made(Range, range), made(Tag, text)
+    return alike(*(MATCHES[range.matches_basic(it), range.matches_extended(it)] if range else "neither" for it in (text, tag) if it is not None))
 
 
 def answer_order(a, b):
@@ -157,7 +174,7 @@ def answer_order(a, b):
 
 def strict(header, tags):
     try:
-        return str(tag_for_header(header, tags, DEFAULT))
+        return shown(tag_for_header(header, tags))
     except AcceptLanguageError as error:
         assert error.header == header and str(error) == f"element {error.index} has a bad {error.part}"
         copied(error)
@@ -165,10 +182,9 @@ def strict(header, tags):
 
 
 def answer_header(header, tags):
-    tags = [Tag(text) for text in tags.split()]
-    accepted = AcceptLanguage.lenient(header)
-    assert look_up([it.range for it in accepted.ranges], tags) is accepted.look_up(tags), "by its ranges"
-    return f"{strict(header.decode(), tags)} | {tag_for_header_lenient(header, iter(tags), DEFAULT)}"
+    tags, accepted = [Tag(text) for text in tags.split()], AcceptLanguage.lenient(header)
+    found = alike(tag_for_header_lenient(header, iter(tags)), look_up([it.range for it in accepted.ranges], tags), accepted.look_up(tags))
+    return f"{strict(header.decode(), tags)} | {found}"
 
 
 def answer_elements(header):
@@ -178,15 +194,6 @@ def answer_elements(header):
         return listed
     except AcceptLanguageError as error:
         return f"{error} | {listed}"
-
-
-def answer_fallbacks(text):
-    range = made(Range, text)
-    return " ".join(map(str, range.fallbacks())) if range else "refused"
-
-
-def answer_ranges(ranges, tags):
-    return str(look_up(map(Range, ranges.split()), map(Tag, tags.split()), DEFAULT))
 
 
 def replaced(tag, part, value, given):
@@ -236,21 +243,6 @@ def answer_with_keyword(tag, key, value):
     return found
 
 
-def answer_extensions_form(tag):
-    form = tag.extensions_form()
-    assert form.extensions_form() == form and type(form) is Tag
-    return str(form)
-
-
-def answer_locale_form(tag):
-    form = tag.locale_form()
-    if form is None:
-        assert not tag.is_locale
-        return "-"
-    assert form.is_locale and str(form.locale_form()) == str(form) and type(form) is Tag
-    return str(form)
-
-
 def answer_refused(text):
     """Returns the kind of the error, which it reads from the message."""
     try:
@@ -283,12 +275,12 @@ def answer_message(text, kind=Tag, error=InvalidTag):
 
 def answer_distance(desired, supported):
     desired, supported = made(Tag, desired), made(Tag, supported)
-    return "-" if desired is None or supported is None else str(langtag.distance(desired, supported))
+    return shown(desired and supported and langtag.distance(desired, supported))
 
 
 def answer_parents(tag):
     assert tag.parents[0] is tag and tag.parent == (tag.parents[1] if len(tag.parents) > 1 else None)
-    return " ".join(map(str, tag.parents))
+    return tag.parents
 
 
 def answer_posix(name):
@@ -302,103 +294,83 @@ def answer_posix_name(tag):
     name = tag.to_posix()
     read = tag if name is None else Tag.from_posix(name)
     assert read == tag or read.maximized() == tag.maximized()
-    return name or "-"
+    return name
 
 
-def chosen(call, wanted, tags):
-    """Returns what a call chooses among strings, which has to be what it chooses among tags."""
-    texts = tags.decode().split()
-    found = call(wanted, texts, DEFAULT)
-    assert call(wanted, map(Tag, texts), DEFAULT) == (found if found == DEFAULT else Tag(found))
-    return found
+def words(list):
+    return list.decode().split()
+
+
+def among(call, wanted, tags):
+    """Returns what a call chooses among strings, and what it chooses among tags."""
+    return call(wanted, words(tags)), call(wanted, map(Tag, words(tags)))
 
 
 def answer_best(header, tags):
-    texts, found = tags.decode().split(), chosen(langtag.best_for_header, header, tags)
-    assert b";" in header or langtag.best_for_ranges(header.split(b","), texts, DEFAULT) == found
-    assert langtag.Site(texts).best_for_header(header, DEFAULT) == found
-    return found
+    by_ranges = [] if b";" in header else [langtag.best_for_ranges(header.split(b","), words(tags))]
+    return alike(*among(langtag.best_for_header, header, tags), langtag.Site(words(tags)).best_for_header(header), *by_ranges)
 
 
 def answer_best_accepted(header, tags):
     accepted = AcceptLanguage.lenient(header)
     assert AcceptLanguage(str(accepted)) == accepted
-    return chosen(AcceptLanguage.best, accepted, tags)
+    return alike(*among(AcceptLanguage.best, accepted, tags))
 
 
 def answer_best_ranges(ranges, tags):
-    found = chosen(langtag.best_for_ranges, ranges.split(), tags)
-    assert chosen(langtag.best_for_ranges, list(map(Range, ranges.split())), tags) == found
-    assert langtag.Site(tags.decode().split()).best_for_ranges(ranges.split(), DEFAULT) == found
-    return found
+    wanted = ranges.split()
+    return alike(*among(langtag.best_for_ranges, wanted, tags), langtag.best_for_ranges(list(map(Range, wanted)), words(tags)),
+                 langtag.Site(words(tags)).best_for_ranges(wanted))
 
 
-def answer_suitable(header, tags):
-    texts = tags.decode().split()
-    found = langtag.suitable_for_header(header, texts)
-    assert langtag.suitable_for_header(header, map(Tag, texts)) == [Tag(it) for it in found]
-    return " ".join(found) or "-"
-
-
-def answer_suitable_ranges(ranges, tags):
-    return " ".join(langtag.suitable_for_ranges(ranges.split(), tags.decode().split())) or "-"
-
-
-def answer_keyword(tag, key):
-    value = tag.keyword(key)
-    return "-" if value is None else value or "''"
-
-
-def said(pairs):
-    return " ".join(f"{key}={value}" for key, value in pairs.items())
+def told(pairs):
+    return [f"{key}={value}" for key, value in pairs.items()]
 
 
 def answer_keywords(tag):
     assert all(tag.keyword(key) == value for key, value in tag.keywords.items())
-    return said(tag.keywords) or "-"
+    return told(tag.keywords)
 
 
 def answer_transform(tag):
-    transform = tag.transform
-    return "-" if transform is None else f"{transform.language or chr(39) * 2} {said(transform.fields)}".rstrip()
+    return tag.transform and [tag.transform.language or "''", *told(tag.transform.fields)]
 
 
 def answer_best_match(header, tags):
-    texts = tags.decode().split()
-    found = langtag.match_for_header(header, texts)
-    assert langtag.Site(texts).match_for_header(header) == found
-    again = langtag.match_for_header(header, map(Tag, texts))
-    if found is None or again is None:
-        assert found is again
+    texts = words(tags)
+    found, again = langtag.match_for_header(header, texts), langtag.match_for_header(header, map(Tag, texts))
+    assert langtag.Site(texts).match_for_header(header) == found and (found is None) == (again is None)
+    if found is None:
         return "-"
-    assert (again.index, again.tag, again.distance, again.range) == (found.index, Tag(found.tag), found.distance, found.range)
-    assert found.tag is texts[found.index] and found.tag == langtag.best_for_header(header, texts)
-    return f"{found.index} {found.distance} {found.range}"
+    assert found.tag is texts[found.index] and found.tag == langtag.best_for_header(header, texts) and again.tag == Tag(found.tag)
+    return alike(*(f"{it.index} {it.distance} {it.range}" for it in (found, again)))
 
 
-def answer_name(tag, call):
-    """Returns the name for a tag, and checks that it is the same for its text."""
-    assert call(tag) == call(str(tag)) == call(str(tag).encode())
-    return call(tag) or "-"
+def answer_name(call):
+    """Returns a function that returns the name for a tag, which has to be the same for its text."""
+    return of_tag(lambda tag: alike(call(tag), call(str(tag)), call(str(tag).encode())))
 
 
 ANSWERS = {
-    "describe": of_tag(lambda tag: answer_name(tag, langtag.describe)), "autonym": of_tag(lambda tag: answer_name(tag, langtag.autonym)),
-    "with-keyword": answer_with_keyword, "extensions-form": of_tag(answer_extensions_form), "base": of_tag(lambda tag: str(tag.base)),
-    "is-locale": of_tag(lambda tag: yes_or_no(tag.is_locale), "no"), "locale-form": of_tag(answer_locale_form), "cldr-version": lambda: langtag.CLDR_VERSION,
-    "keyword": of_tag(answer_keyword), "keywords": of_tag(answer_keywords), "transform": of_tag(answer_transform),
-    "attributes": of_tag(lambda tag: " ".join(tag.attributes) or "-"), "refused": answer_refused,
+    "describe": answer_name(langtag.describe), "autonym": answer_name(langtag.autonym), "cldr-version": lambda: langtag.CLDR_VERSION,
+    "with-keyword": answer_with_keyword, "extensions-form": of_tag(lambda tag: formed(tag, Tag.extensions_form)), "base": of_tag(lambda tag: tag.base),
+    "is-locale": of_tag(lambda tag: tag.is_locale, "no"), "locale-form": of_tag(answer_locale_form),
+    "keyword": of_tag(Tag.keyword), "keywords": of_tag(answer_keywords), "transform": of_tag(answer_transform),
+    "attributes": of_tag(lambda tag: tag.attributes), "refused": answer_refused,
     "fault": of_tag(lambda tag: str(tag.invalid_subtag or "valid").partition(": did you mean ")[0]),
     "message": answer_message, "range-message": lambda text: answer_message(text, Range, InvalidRange), "distance": answer_distance,
-    "right-to-left": of_tag(lambda tag: yes_or_no(tag.is_right_to_left)), "posix": answer_posix, "posix-name": of_tag(answer_posix_name),
-    "unknown-modifier": lambda name: langtag.unknown_modifier(name) or "-", "best": answer_best, "best-ranges": answer_best_ranges,
-    "best-accepted": answer_best_accepted, "best-match": answer_best_match, "suitable": answer_suitable, "suitable-ranges": answer_suitable_ranges,
-    "parents": of_tag(answer_parents), "maximized": of_tag(lambda tag: str(tag.maximized())), "minimized": of_tag(lambda tag: str(tag.minimized())),
-    "tag": answer_tag, "scan": answer_scan, "recommended": of_tag(lambda tag: str(tag.recommended()), None), "validity": of_tag(answer_validity, "none"),
-    "suggestion": of_tag(lambda tag: tag.invalid_subtag and tag.invalid_subtag.suggestion or "-"),
+    "right-to-left": of_tag(lambda tag: tag.is_right_to_left), "posix": answer_posix, "posix-name": of_tag(answer_posix_name),
+    "unknown-modifier": lambda name: shown(langtag.unknown_modifier(name)), "best": answer_best, "best-ranges": answer_best_ranges,
+    "best-accepted": answer_best_accepted, "best-match": answer_best_match,
+    "suitable": lambda header, tags: alike(*among(langtag.suitable_for_header, header, tags)),
+    "suitable-ranges": lambda ranges, tags: alike(*among(langtag.suitable_for_ranges, ranges.split(), tags)),
+    "parents": of_tag(answer_parents), "maximized": of_tag(Tag.maximized), "minimized": of_tag(Tag.minimized),
+    "tag": answer_tag, "scan": answer_scan, "recommended": of_tag(Tag.recommended, None), "validity": of_tag(answer_validity, "none"),
+    "suggestion": of_tag(lambda tag: tag.invalid_subtag and tag.invalid_subtag.suggestion),
     "canonical": of_tag(answer_canonical), "grandfathered": answer_grandfathered, "order": answer_order, "edit": answer_edit,
     "viable": lambda text: f"{langtag.viable_len(text)} {langtag.stop_len(text)}", "range": answer_range, "match": answer_match,
-    "header": answer_header, "ranges": answer_ranges, "elements": answer_elements, "fallbacks": answer_fallbacks,
+    "header": answer_header, "elements": answer_elements, "ranges": lambda ranges, tags: shown(look_up(map(Range, ranges.split()), map(Tag, tags.split()))),
+    "fallbacks": lambda text: shown(list(made(Range, text).fallbacks()) if made(Range, text) else "refused"),
 }
 
 

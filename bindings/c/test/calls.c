@@ -59,12 +59,7 @@ static void put_changed(text *to, const char *name, text from, void (*change)(ch
 }
 
 static const char *name_of_kind(uint32_t kind) {
-    static const char *const names[] = {
-        [LANGTAG_NONE] = "none",
-        [LANGTAG_NORMAL] = "normal",
-        [LANGTAG_PRIVATE_USE] = "private",
-        [LANGTAG_IRREGULAR] = "irregular",
-    };
+    static const char *const names[] = {[LANGTAG_NONE] = "none", [LANGTAG_NORMAL] = "normal", [LANGTAG_PRIVATE_USE] = "private", [LANGTAG_IRREGULAR] = "irregular"};
     return NAMED(names, kind);
 }
 
@@ -105,15 +100,9 @@ OF_ONE(tag, a) {
 
 OF_ONE(validity, a) {
     static const char *const names[] = {
-        [LANGTAG_VALIDITY_NONE] = "none",
-        [LANGTAG_VALID] = "valid",
-        [LANGTAG_INVALID_LANGUAGE] = "language",
-        [LANGTAG_INVALID_EXTLANG] = "extlang",
-        [LANGTAG_INVALID_SECOND_EXTLANG] = "second-extlang",
-        [LANGTAG_INVALID_SCRIPT] = "script",
-        [LANGTAG_INVALID_REGION] = "region",
-        [LANGTAG_INVALID_VARIANT] = "variant",
-        [LANGTAG_INVALID_REPEATED_VARIANT] = "repeated-variant",
+        [LANGTAG_VALIDITY_NONE] = "none", [LANGTAG_VALID] = "valid", [LANGTAG_INVALID_LANGUAGE] = "language", [LANGTAG_INVALID_EXTLANG] = "extlang",
+        [LANGTAG_INVALID_SECOND_EXTLANG] = "second-extlang", [LANGTAG_INVALID_SCRIPT] = "script", [LANGTAG_INVALID_REGION] = "region",
+        [LANGTAG_INVALID_VARIANT] = "variant", [LANGTAG_INVALID_REPEATED_VARIANT] = "repeated-variant",
         [LANGTAG_INVALID_REPEATED_SINGLETON] = "repeated-singleton",
     };
     langtag_span invalid = {1, 2}; /* the call does not read an out argument */
@@ -262,42 +251,28 @@ OF_ONE(grandfathered, a) {
 }
 
 OF_ONE(refused, a) {
-    static const char *const names[] = {
-        [LANGTAG_REFUSED_NONE] = "none",
-        [LANGTAG_REFUSED_SUBTAG] = "subtag",
-        [LANGTAG_REFUSED_BYTE] = "byte",
-        [LANGTAG_REFUSED_END] = "end",
-    };
+    static const char *const names[] = {[LANGTAG_REFUSED_NONE] = "none", [LANGTAG_REFUSED_SUBTAG] = "subtag", [LANGTAG_REFUSED_BYTE] = "byte", [LANGTAG_REFUSED_END] = "end"};
     langtag_span subtag = {1, 2}; /* the call does not read an out argument */
     size_t offset = 3;
     uint32_t answer = langtag_refused(a.at, a.len, &subtag, &offset);
     put_word(to, " "), put_word(to, NAMED(names, answer));
-    put_number(to, "", subtag.start);
-    put_number(to, "", subtag.len);
-    put_number(to, "", offset);
+    put_number(to, "", subtag.start), put_number(to, "", subtag.len), put_number(to, "", offset);
 }
 
 OF_ONE(viable, a) {
-    put_number(to, "", langtag_viable_len(a.at, a.len));
-    put_number(to, "", langtag_stop_len(a.at, a.len));
+    put_number(to, "", langtag_viable_len(a.at, a.len)), put_number(to, "", langtag_stop_len(a.at, a.len));
 }
 
-/* Where each part of a normal tag ends, including absent parts. */
-static void put_ends(text *to, langtag_parts parts) {
-    const langtag_span spans[] = {parts.language, parts.script,     parts.region,
-                                  parts.variants, parts.extensions, parts.private_use};
-    for (size_t k = 0; k < sizeof spans / sizeof *spans; k++) put_number(to, "", spans[k].start + spans[k].len);
-}
-
-/* How many bytes have to be read, how many prefixes are tags, and the kind of the text. */
+/* How many bytes have to be read, how many prefixes are tags, the kind of the text, and where the parts of a normal tag end. */
 OF_ONE(scan, a) {
     size_t tags = 0;
     langtag_parts parts;
     uint32_t kind = langtag_parse(a.at, a.len, &parts);
+    const langtag_span spans[] = {parts.language, parts.script, parts.region, parts.variants, parts.extensions, parts.private_use};
     for (size_t len = 0; len <= a.len; len++) tags += langtag_kind(a.at, len) != LANGTAG_NONE;
     put_number(to, "", langtag_stop_len(a.at, a.len)), put_number(to, "", tags);
     put_word(to, " "), put_word(to, name_of_kind(kind));
-    if (kind == LANGTAG_NORMAL) put_ends(to, parts);
+    for (size_t k = 0; k < sizeof spans / sizeof *spans && kind == LANGTAG_NORMAL; k++) put_number(to, "", spans[k].start + spans[k].len);
     if (kind == LANGTAG_IRREGULAR) put_number(to, "", langtag_grandfathered(a.at, a.len));
 }
 
@@ -347,11 +322,7 @@ OF_ONE(elements, a) {
 }
 
 OF_ONE(range, a) {
-    static const char *const names[] = {
-        [LANGTAG_RANGE_NONE] = "none",
-        [LANGTAG_RANGE_BASIC] = "basic",
-        [LANGTAG_RANGE_EXTENDED] = "extended",
-    };
+    static const char *const names[] = {[LANGTAG_RANGE_NONE] = "none", [LANGTAG_RANGE_BASIC] = "basic", [LANGTAG_RANGE_EXTENDED] = "extended"};
     put_word(to, " "), put_word(to, NAMED(names, langtag_range_kind(a.at, a.len)));
 }
 
@@ -422,13 +393,14 @@ static void put_tag(text *to, text words, size_t count, size_t index) {
     else put_word(to, index == count ? " -" : " beyond the tags");
 }
 
-/* The tag that a call chooses, without and with a span that reaches beyond the text. */
-static void put_chosen(text *to, choice *choose, text header, text words) {
+/* Writes the tag that a call chooses, without and with a span that reaches beyond the text. Returns its index. */
+static size_t put_chosen(text *to, choice *choose, text header, text words) {
     size_t count = find_tags(words, tags);
     size_t index = choose(header.at, header.len, words.at, words.len, tags, count);
     put_tag(to, words, count, index);
     size_t again = choose(header.at, header.len, words.at, words.len, tags, count + 1);
     if (again != (index < count ? index : count + 1)) put_word(to, " but another beside a span out of the text");
+    return index;
 }
 
 /* The result of the strict call: the tag, or the malformed element. */
@@ -550,16 +522,11 @@ static bool is_current(size_t index) {
 
 /* The choice of a site is that of the tags, and no tag is chosen for which it was not prepared. */
 OF_TWO(best, header, words) {
-    text by_site = {NULL, 0, 0};
-    put_chosen(to, langtag_best_for_header, header, words);
-    put(&by_site, "", 0);
-    size_t count = prepare_tags(words), index = langtag_site_best_for_header(header.at, header.len, words.at, words.len, site, count + 1);
-    if (index < count) put_bytes(&by_site, words.at + site[index].tag.start, site[index].tag.len);
-    else put_word(&by_site, index == count + 1 ? " -" : " beyond the tags");
-    if (by_site.len > to->len || memcmp(to->at + to->len - by_site.len, by_site.at, by_site.len) != 0) put_word(to, " but another of a site");
+    size_t index = put_chosen(to, langtag_best_for_header, header, words), count = prepare_tags(words);
+    size_t of_site = langtag_site_best_for_header(header.at, header.len, words.at, words.len, site, count + 1);
+    if (of_site != (index < count ? index : count + 1)) put_word(to, " but another of a site");
     size_t wrong = langtag_site_best_for_header(header.at, header.len, words.at, words.len, stale, count);
     if (wrong > count || (wrong < count && !is_current(wrong))) put_word(to, " but a stale tag of a site");
-    free(by_site.at);
 }
 
 /* Also with spans that reach beyond the texts. */
@@ -625,46 +592,18 @@ OF_TWO(suitable_ranges, from, words) {
     put_tags(to, words, count, found, found_len);
 }
 
+#define CALL(name, answer) {name, answer_##answer, 0, 0}
 call calls[] = {
-    {"tag", answer_tag, 0, 0},
-    {"validity", answer_validity, 0, 0},
-    {"suggestion", answer_suggestion, 0, 0},
-    {"canonical", answer_canonical, 0, 0},
-    {"maximized", answer_maximized, 0, 0},
-    {"minimized", answer_minimized, 0, 0},
-    {"parents", answer_parents, 0, 0},
-    {"posix", answer_posix, 0, 0},
-    {"posix-name", answer_posix_name, 0, 0},
-    {"unknown-modifier", answer_unknown_modifier, 0, 0},
-    {"right-to-left", answer_right_to_left, 0, 0},
-    {"distance", answer_distance, 0, 0},
-    {"grandfathered", answer_grandfathered, 0, 0},
-    {"viable", answer_viable, 0, 0},
-    {"refused", answer_refused, 0, 0},
-    {"range", answer_range, 0, 0},
-    {"fallbacks", answer_fallbacks, 0, 0},
-    {"elements", answer_elements, 0, 0},
-    {"scan", answer_scan, 0, 0},
-    {"recommended", answer_recommended, 0, 0},
-    {"match", answer_match, 0, 0},
-    {"order", answer_order, 0, 0},
-    {"edit", answer_edit, 0, 0},
-    {"header", answer_header, 0, 0},
-    {"ranges", answer_ranges, 0, 0},
-    {"best", answer_best, 0, 0},
-    {"best-ranges", answer_best_ranges, 0, 0},
-    {"suitable", answer_suitable, 0, 0},
-    {"suitable-ranges", answer_suitable_ranges, 0, 0},
-    {"keyword", answer_keyword, 0, 0},
-    {"keywords", answer_keywords, 0, 0},
-    {"attributes", answer_attributes, 0, 0},
-    {"transform", answer_transform, 0, 0},
-    {"best-match", answer_best_match, 0, 0},
-    {"with-keyword", answer_with_keyword, 0, 0},
-    {"extensions-form", answer_extensions_form, 0, 0},
-    {"base", answer_base, 0, 0},
-    {"is-locale", answer_is_locale, 0, 0},
-    {"locale-form", answer_locale_form, 0, 0},
-    {"cldr-version", answer_cldr_version, 0, 0},
+    CALL("tag", tag), CALL("validity", validity), CALL("suggestion", suggestion), CALL("canonical", canonical),
+    CALL("maximized", maximized), CALL("minimized", minimized), CALL("parents", parents), CALL("posix", posix),
+    CALL("posix-name", posix_name), CALL("unknown-modifier", unknown_modifier), CALL("right-to-left", right_to_left),
+    CALL("distance", distance), CALL("grandfathered", grandfathered), CALL("viable", viable), CALL("refused", refused),
+    CALL("range", range), CALL("fallbacks", fallbacks), CALL("elements", elements), CALL("scan", scan),
+    CALL("recommended", recommended), CALL("match", match), CALL("order", order), CALL("edit", edit), CALL("header", header),
+    CALL("ranges", ranges), CALL("best", best), CALL("best-ranges", best_ranges), CALL("suitable", suitable),
+    CALL("suitable-ranges", suitable_ranges), CALL("keyword", keyword), CALL("keywords", keywords),
+    CALL("attributes", attributes), CALL("transform", transform), CALL("best-match", best_match),
+    CALL("with-keyword", with_keyword), CALL("extensions-form", extensions_form), CALL("base", base),
+    CALL("is-locale", is_locale), CALL("locale-form", locale_form), CALL("cldr-version", cldr_version),
     {NULL, NULL, 0, 0},
 };

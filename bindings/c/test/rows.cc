@@ -29,13 +29,31 @@ static std::string shown(bool answer) { return answer ? "yes" : "no"; }
 static std::string shown(const std::string &text) { return escaped(text); }
 static std::string shown(const tag &tag) { return std::string(tag.text()); }
 template <class Text> static std::string shown(const std::optional<Text> &found) {
-    return !found ? "-" : found->empty() ? "''" : escaped(*found);
+    if constexpr (std::is_same_v<Text, tag>) return found ? shown(*found) : "-";
+    else return !found ? "-" : found->empty() ? "''" : escaped(*found);
+}
+template <class Text> static std::string shown(const std::vector<Text> &list) {
+    std::string out;
+    for (const auto &one : list) out.append(out.empty() ? "" : " ").append(shown(one));
+    return out.empty() ? "-" : out;
 }
 
-/* Returns what a call returns for a tag. */
-template <auto Ask> static std::string of_tag(const strings &asked) {
-    const auto one = tag::parse(asked[0]);
-    return one ? shown(std::invoke(Ask, *one)) : "-";
+/* Returns what several calls returned, which has to be the same. */
+template <class First, class... More> static std::string alike(const First &first, const More &...more) {
+    return ((shown(more) == shown(first)) && ...) ? shown(first) : shown(first) + ", and another call returns something else";
+}
+
+using answer = std::function<std::string(const strings &asked)>; /* returns an empty text if C++ has no answer */
+
+/* Returns a function that answers a row about a tag, or about any text. */
+template <class Ask> static answer of_tag(Ask ask, const char *otherwise = "-") {
+    return [=](const strings &asked) {
+        const auto one = tag::parse(asked[0]);
+        return one ? shown(std::invoke(ask, *one)) : otherwise;
+    };
+}
+template <class Ask> static answer of_text(Ask ask) {
+    return [=](const strings &asked) { return shown(ask(asked[0])); };
 }
 
 /* Appends a line with the name and the subtags of a part, unless the part is empty. */
@@ -45,15 +63,17 @@ static void say(std::string &out, const char *name, std::string_view part) {
     for (std::string_view subtag : langtag::subtags(part)) out.append(1, ' ').append(subtag);
 }
 
-static std::string kind_of(std::string_view text) {
-    const auto one = tag::parse(text);
-    if (!one) return "none";
-    switch (one->kind()) {
-    case langtag::kind::normal: return "normal";
-    case langtag::kind::private_use: return "private";
-    case langtag::kind::irregular: return "irregular";
-    }
+/* Returns the name of a number of an enum. */
+template <class Enum> static std::string named(Enum number, std::initializer_list<std::pair<Enum, const char *>> names) {
+    for (const auto &[one, name] : names)
+        if (one == number) return name;
     return "unknown";
+}
+
+static std::string kind_of(std::string_view text) {
+    using langtag::kind;
+    const auto one = tag::parse(text);
+    return one ? named(one->kind(), {{kind::normal, "normal"}, {kind::private_use, "private"}, {kind::irregular, "irregular"}}) : "none";
 }
 
 static std::string parts_of(const tag &one) {
@@ -107,17 +127,10 @@ static std::string validity_of(const strings &asked) {
     const std::string code = wrong->suggestion(), meant = code.empty() ? "" : ": did you mean " + code + "?";
     const std::string message = wrong->message();
     if (message.substr(std::min(message.find(": did you mean "), message.size())) != meant) return "another suggestion";
-    switch (wrong->fault) {
-    case langtag::fault::language: return "language" + at;
-    case langtag::fault::extlang: return "extlang" + at;
-    case langtag::fault::second_extlang: return "second-extlang" + at;
-    case langtag::fault::script: return "script" + at;
-    case langtag::fault::region: return "region" + at;
-    case langtag::fault::variant: return "variant" + at;
-    case langtag::fault::repeated_variant: return "repeated-variant" + at;
-    case langtag::fault::repeated_singleton: return "repeated-singleton" + at;
-    }
-    return "unknown" + at;
+    using langtag::fault;
+    return named(wrong->fault, {{fault::language, "language"}, {fault::extlang, "extlang"}, {fault::second_extlang, "second-extlang"}, {fault::script, "script"},
+                                {fault::region, "region"}, {fault::variant, "variant"}, {fault::repeated_variant, "repeated-variant"},
+                                {fault::repeated_singleton, "repeated-singleton"}}) + at;
 }
 
 /* Returns the message for a tag that is not valid, without the suggestion. */
@@ -128,8 +141,7 @@ static std::string fault_of(const tag &one) {
 
 static std::string suggestion_of(const tag &one) {
     const auto wrong = one.invalid_subtag();
-    const std::string code = wrong ? wrong->suggestion() : "";
-    return code.empty() ? "-" : code;
+    return shown(wrong && !wrong->suggestion().empty() ? std::optional(wrong->suggestion()) : std::nullopt);
 }
 
 static std::string canonical_of(const tag &one) {
@@ -206,41 +218,34 @@ static std::vector<tag> tags_of(const strings &texts) {
     return out;
 }
 
-static std::string found_or_default(const std::optional<tag> &found) {
-    return found ? std::string(found->text()) : "-";
-}
-
 static std::string header_of(const strings &asked) {
+    using langtag::element_part;
     const strings texts = split(asked[1], " ");
     const langtag::accept_language accepted(asked[0]);
-    const std::string found = found_or_default(accepted.look_up(tags_of(texts)));
     const auto bad = accepted.bad_element();
     std::vector<langtag::range> ranges;
     for (const auto &weighted : accepted.ranges()) ranges.push_back(weighted.range);
-    if (found_or_default(langtag::look_up(ranges, tags_of(texts))) != found) return "another tag by its ranges";
+    const std::string found = alike(accepted.look_up(tags_of(texts)), langtag::look_up(ranges, tags_of(texts)));
     if (!bad) return found + " | " + found;
-    const char *part = bad->part == langtag::element_part::range    ? "range"
-                       : bad->part == langtag::element_part::weight ? "weight"
-                                                                    : "unknown";
-    return "bad " + std::to_string(bad->index) + " " + std::to_string(bad->offset) + " " + part + " | " + found;
+    return "bad " + std::to_string(bad->index) + " " + std::to_string(bad->offset) + " " +
+           named(bad->part, {{element_part::range, "range"}, {element_part::weight, "weight"}}) + " | " + found;
 }
 
 static std::string elements_of(const strings &asked) {
     const langtag::accept_language accepted(asked[0]);
     const auto bad = accepted.bad_element();
     const char *what = bad && bad->part == langtag::element_part::range ? "language range" : "weight";
-    std::string out = bad ? "element " + std::to_string(bad->index) + " has a bad " + what + " |" : "";
-    for (const auto &it : accepted.ranges()) out += " " + std::string(it.range.text()) + " " + std::to_string(it.weight);
-    if (accepted.ranges().empty()) out += " -";
-    return out.substr(bad ? 0 : 1);
+    strings ranges;
+    for (const auto &it : accepted.ranges()) ranges.push_back(std::string(it.range.text()) + " " + std::to_string(it.weight));
+    return (bad ? "element " + std::to_string(bad->index) + " has a bad " + what + " | " : "") + shown(ranges);
 }
 
 static std::string ranges_of(const strings &asked) {
-    const strings texts = split(asked[1], " "), words = split(asked[0], " ");
+    const strings words = split(asked[0], " ");
     std::vector<langtag::range> ranges;
     for (const std::string &word : words)
         if (const auto range = langtag::range::parse(word)) ranges.push_back(*range);
-    return found_or_default(langtag::look_up(ranges, tags_of(texts)));
+    return shown(langtag::look_up(ranges, tags_of(split(asked[1], " "))));
 }
 
 /* Returns the tag with one part set, or the answer for a tag without parts. An empty text removes any part, as `none` does. */
@@ -285,30 +290,19 @@ static std::string with_keyword_of(const strings &asked) {
     return tag::parse(*made) ? *made : "not a tag: " + *made;
 }
 
-static std::string locale_form_of(const tag &one) {
-    const auto form = one.locale_form();
-    if (langtag::owned_tag(one).locale_form() != form) return "an owned tag has another";
-    return shown(form);
-}
-
 static std::string refused_of(const strings &asked) {
+    using langtag::refusal_kind;
     const auto found = langtag::refused(asked[0]);
-    const std::size_t len = asked[0].size();
-    if (!found) return "none " + std::to_string(len) + " 0 " + std::to_string(len);
-    const auto kind = found->kind == langtag::refusal_kind::subtag ? "subtag "
-                      : found->kind == langtag::refusal_kind::byte ? "byte "
-                                                                   : "end ";
-    const auto start = static_cast<std::size_t>(found->subtag.data() - asked[0].data());
-    return kind + std::to_string(start) + ' ' + std::to_string(found->subtag.size()) + ' ' +
-           std::to_string(found->offset);
+    const std::string len = std::to_string(asked[0].size());
+    if (!found) return "none " + len + " 0 " + len;
+    return named(found->kind, {{refusal_kind::subtag, "subtag "}, {refusal_kind::byte, "byte "}, {refusal_kind::end, "end "}}) +
+           std::to_string(found->subtag.data() - asked[0].data()) + ' ' + std::to_string(found->subtag.size()) + ' ' + std::to_string(found->offset);
 }
 
 /* The parents of a tag. The second one is the parent of the first. */
 static std::string parents_of(const tag &one) {
-    const std::vector<std::string> chain = one.parents();
-    std::string line;
-    for (const std::string &parent : chain) line.append(line.empty() ? "" : " ").append(parent);
-    return one.parent().value_or("") == (chain.size() > 1 ? chain[1] : "") ? line : line + ", and parent says otherwise";
+    const strings chain = one.parents();
+    return one.parent().value_or("") == (chain.size() > 1 ? chain[1] : "") ? shown(chain) : shown(chain) + ", and parent says otherwise";
 }
 
 /* The name for a tag. If the tag has no script, the name is read as the tag. */
@@ -321,171 +315,118 @@ static std::string posix_name_of(const tag &one) {
 
 static std::string best_of(const strings &asked) {
     const strings texts = split(asked[1], " ");
-    const auto best = langtag::best_for_header(asked[0], tags_of(texts));
-    if (langtag::best_for_header(asked[0], texts) != best)
-        return "another of texts";
-    if (asked[0].find(';') == std::string::npos && langtag::best_for_ranges(split(asked[0], ","), texts) != best)
-        return "another of ranges";
+    const std::string &header = asked[0];
     const langtag::site site(texts);
-    if (site.best_for_header(asked[0]) != best) return "another of a site";
-    return found_or_default(best);
+    const auto best = langtag::best_for_header(header, texts);
+    const auto by_ranges = header.find(';') == std::string::npos ? langtag::best_for_ranges(split(header, ","), texts) : best;
+    return alike(best, langtag::best_for_header(header, tags_of(texts)), site.best_for_header(header), by_ranges);
 }
 
 static std::string best_of_accepted(const strings &asked) {
     const strings texts = split(asked[1], " ");
     const langtag::accept_language accepted(asked[0]);
-    if (accepted.best(tags_of(texts)) != accepted.best(texts)) return "another of texts";
-    return found_or_default(accepted.best(texts));
+    return alike(accepted.best(texts), accepted.best(tags_of(texts)));
 }
 
 static std::string best_of_ranges(const strings &asked) {
     const strings ranges = split(asked[0], " "), texts = split(asked[1], " ");
-    const auto best = langtag::best_for_ranges(ranges, texts);
-    if (langtag::best_for_ranges(ranges, tags_of(texts)) != best) return "another of texts";
     const langtag::site site(texts);
-    if (site.best_for_ranges(ranges) != best) return "another of a site";
-    return found_or_default(best);
+    return alike(langtag::best_for_ranges(ranges, texts), langtag::best_for_ranges(ranges, tags_of(texts)), site.best_for_ranges(ranges));
 }
 
 /* Returns KEY=VALUE for each, and checks that each is found by its key. */
-static std::string said_of(const std::vector<langtag::key_value> &pairs,
-                           const std::function<std::optional<std::string_view>(std::string_view)> &find) {
-    std::string out;
-    for (const auto &[key, value] : pairs) {
-        out.append(" ").append(key).append("=").append(value);
-        if (find(key) != value) out += " which has another value";
+template <class Find> static strings said_of(const std::vector<langtag::key_value> &pairs, Find find) {
+    strings out;
+    for (const auto &[key, value] : pairs) out.push_back(std::string(key) + "=" + std::string(value) + (find(key) == value ? "" : " which has another value"));
+    return out;
+}
+
+static strings keywords_of(const tag &one) {
+    return said_of(one.keywords(), [&](std::string_view key) { return one.keyword(key); });
+}
+
+/* Returns each attribute once. */
+static strings attributes_of(const tag &one) {
+    strings seen, out;
+    for (std::string_view attribute : langtag::subtags(one.attributes())) {
+        const std::string key = langtag::folded(attribute);
+        if (std::find(seen.begin(), seen.end(), key) == seen.end()) seen.push_back(key), out.emplace_back(attribute);
     }
     return out;
 }
 
-static std::string keywords_of(const tag &one) {
-    if (one.keywords().empty()) return "-";
-    return said_of(one.keywords(), [&](std::string_view key) { return one.keyword(key); }).substr(1);
-}
-
-/* Returns each attribute once. */
-static std::string attributes_of(const tag &one) {
-    strings seen;
-    std::string out;
-    for (std::string_view attribute : langtag::subtags(one.attributes())) {
-        const std::string key = langtag::folded(attribute);
-        if (std::find(seen.begin(), seen.end(), key) != seen.end()) continue;
-        seen.push_back(key);
-        out.append(out.empty() ? "" : " ").append(attribute);
-    }
-    return out.empty() ? "-" : out;
-}
-
 static std::string transform_of(const tag &one) {
-    const auto language = one.transform();
-    if (!language) return "-";
-    return shown(language) + said_of(one.fields(), [&](std::string_view key) { return one.field(key); });
+    const strings fields = said_of(one.fields(), [&](std::string_view key) { return one.field(key); });
+    return shown(one.transform()) + (fields.empty() ? "" : " " + shown(fields));
+}
+
+/* Returns the index, the distance and the range of a match, and its tag, which has to be that of the index. */
+template <class Match> static std::string told(const std::optional<Match> &match, const strings &texts) {
+    if (!match) return "-";
+    return std::to_string(match->index) + ' ' + std::to_string(match->distance) + ' ' + std::string(match->range) +
+           (match->tag.text() == texts[match->index] ? "" : " and another tag");
 }
 
 static std::string best_match_of(const strings &asked) {
     const strings texts = split(asked[1], " ");
     const std::string_view header = asked[0];
-    const auto match = langtag::match_for_header(header, texts);
     const langtag::site site(texts);
-    const auto of_site = site.match_for_header(header);
-    if (!match) return langtag::match_for_header(header, tags_of(texts)) ? "one of tags" : of_site ? "one of a site" : "-";
-    if (!of_site || of_site->index != match->index || of_site->tag != match->tag || of_site->range != match->range ||
-        of_site->distance != match->distance)
-        return "another of a site";
-    if (match->tag.text() != texts[match->index] || match->tag != langtag::best_for_header(header, texts)) return "another tag";
-    return std::to_string(match->index) + ' ' + std::to_string(match->distance) + ' ' + std::string(match->range);
-}
-
-static std::string joined_of(const std::vector<tag> &tags) {
-    std::string out;
-    for (const tag &one : tags) out.append(out.empty() ? "" : " ").append(one.text());
-    return out.empty() ? "-" : out;
+    const auto match = langtag::match_for_header(header, texts);
+    if (match && match->tag != langtag::best_for_header(header, texts)) return "another tag";
+    const bool is_one_of_tags = langtag::match_for_header(header, tags_of(texts)).has_value();
+    return is_one_of_tags == match.has_value() ? alike(told(match, texts), told(site.match_for_header(header), texts)) : "another of tags";
 }
 
 static std::string suitable_of(const strings &asked) {
     const strings texts = split(asked[1], " ");
-    const std::string found = joined_of(langtag::suitable_for_header(asked[0], texts));
-    const std::vector<tag> tags = tags_of(texts);
-    return joined_of(langtag::suitable_for_header(asked[0], tags)) == found ? found : "others of tags";
+    return alike(langtag::suitable_for_header(asked[0], texts), langtag::suitable_for_header(asked[0], tags_of(texts)));
 }
 
-using answer = std::string (*)(const strings &asked); /* returns an empty text if C++ has no answer */
 static const std::map<std::string, answer> answers = {
-    {"tag", tag_of},
-    {"validity", validity_of},
-    {"suggestion", of_tag<suggestion_of>},
-    {"canonical", of_tag<canonical_of>},
-    {"viable", [](const strings &asked) {
-         return std::to_string(langtag::viable_len(asked[0])) + " " + std::to_string(langtag::stop_len(asked[0]));
-     }},
-    {"range", [](const strings &asked) {
-         const auto one = langtag::range::parse(asked[0]);
+    {"tag", tag_of}, {"validity", validity_of}, {"suggestion", of_tag(suggestion_of)}, {"fault", of_tag(fault_of)},
+    {"canonical", of_tag(canonical_of)}, {"grandfathered", grandfathered_of}, {"scan", scan_of}, {"match", match_of}, {"order", order_of},
+    {"edit", edit_of}, {"header", header_of}, {"ranges", ranges_of}, {"elements", elements_of}, {"refused", refused_of},
+    {"parents", of_tag(parents_of)}, {"best", best_of}, {"best-ranges", best_of_ranges}, {"best-accepted", best_of_accepted},
+    {"best-match", best_match_of}, {"suitable", suitable_of}, {"with-keyword", with_keyword_of},
+    {"maximized", of_tag(&tag::maximized)}, {"minimized", of_tag(&tag::minimized)}, {"right-to-left", of_tag(&tag::is_right_to_left)},
+    {"extensions-form", of_tag(&tag::extensions_form)}, {"base", of_tag(&tag::base)}, {"is-locale", of_tag(&tag::is_locale, "no")},
+    {"locale-form", of_tag([](const tag &one) { return alike(one.locale_form(), langtag::owned_tag(one).locale_form()); })},
+    {"keywords", of_tag(keywords_of)}, {"attributes", of_tag(attributes_of)}, {"transform", of_tag(transform_of)},
+    {"describe", of_tag(langtag::describe)}, {"autonym", of_tag(langtag::autonym)},
+    {"posix", of_text(langtag::from_posix)}, {"posix-name", of_tag(posix_name_of)},
+    {"unknown-modifier", of_text([](const std::string &name) { return langtag::unknown_modifier(name); })},
+    {"cldr-version", [](const strings &) { return langtag::cldr_version(); }},
+    {"viable", [](const strings &asked) { return std::to_string(langtag::viable_len(asked[0])) + " " + std::to_string(langtag::stop_len(asked[0])); }},
+    {"range", of_text([](const std::string &text) {
+         const auto one = langtag::range::parse(text);
          return std::string(!one ? "none" : one->is_basic() ? "basic" : "extended");
-     }},
-    {"grandfathered", grandfathered_of},
-    {"scan", scan_of},
+     })},
     {"recommended", [](const strings &asked) {
          const std::string text = escaped(langtag::recommended(asked[0]), '!');
          return text.empty() ? "''" : text;
      }},
-    {"match", match_of},
-    {"order", order_of},
-    {"edit", edit_of},
-    {"header", header_of},
-    {"ranges", ranges_of},
-    {"elements", elements_of},
     {"fallbacks", [](const strings &asked) {
-         std::string out;
-         for (auto it = langtag::range::parse(asked[0]); it; it = it->fallback()) out.append(out.empty() ? "" : " ").append(it->text());
-         return out.empty() ? "refused" : out;
+         std::vector<std::string> out;
+         for (auto it = langtag::range::parse(asked[0]); it; it = it->fallback()) out.emplace_back(it->text());
+         return out.empty() ? "refused" : shown(out);
      }},
-    {"refused", refused_of},
-    {"fault", of_tag<fault_of>},
-    {"message", [](const strings &asked) {
-         const auto found = langtag::refused(asked[0]);
-         return escaped("invalid language tag " + langtag::quoted(asked[0]) + ": " + (found ? found->message() : "none"));
-     }},
-    {"range-message", [](const strings &asked) {
-         return escaped("invalid language range " + langtag::quoted(asked[0]));
-     }},
-    {"maximized", of_tag<&tag::maximized>},
-    {"parents", of_tag<parents_of>},
-    {"describe", of_tag<langtag::describe>},
-    {"autonym", of_tag<langtag::autonym>},
-    {"minimized", of_tag<&tag::minimized>},
-    {"right-to-left", of_tag<&tag::is_right_to_left>},
+    {"message", of_text([](const std::string &text) {
+         const auto found = langtag::refused(text);
+         return "invalid language tag " + langtag::quoted(text) + ": " + (found ? found->message() : "none");
+     })},
+    {"range-message", of_text([](const std::string &text) { return "invalid language range " + langtag::quoted(text); })},
     {"distance", [](const strings &asked) {
          const auto desired = tag::parse(asked[0]), supported = tag::parse(asked[1]);
          return desired && supported ? std::to_string(langtag::distance(*desired, *supported)) : "-";
      }},
-    {"posix", [](const strings &asked) { return shown(langtag::from_posix(asked[0])); }},
-    {"posix-name", of_tag<posix_name_of>},
-    {"unknown-modifier", [](const strings &asked) { return shown(langtag::unknown_modifier(asked[0])); }},
-    {"best", best_of},
-    {"best-ranges", best_of_ranges},
-    {"suitable", suitable_of},
     {"suitable-ranges", [](const strings &asked) {
          const strings texts = split(asked[1], " ");
-         return joined_of(langtag::suitable_for_ranges(split(asked[0], " "), texts));
+         return shown(langtag::suitable_for_ranges(split(asked[0], " "), texts));
      }},
-    {"best-accepted", best_of_accepted},
     {"keyword", [](const strings &asked) {
          const auto one = tag::parse(asked[0]);
          return shown(one ? one->keyword(asked[1]) : std::nullopt);
      }},
-    {"keywords", of_tag<keywords_of>},
-    {"attributes", of_tag<attributes_of>},
-    {"transform", of_tag<transform_of>},
-    {"best-match", best_match_of},
-    {"with-keyword", with_keyword_of},
-    {"extensions-form", of_tag<&tag::extensions_form>},
-    {"base", of_tag<&tag::base>},
-    {"is-locale", [](const strings &asked) {
-         const auto one = tag::parse(asked[0]);
-         return shown(one && one->is_locale());
-     }},
-    {"locale-form", of_tag<locale_form_of>},
-    {"cldr-version", [](const strings &) { return langtag::cldr_version(); }},
 };
 
 /* Answers the row that rows.c reads. */

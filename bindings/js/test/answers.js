@@ -7,7 +7,6 @@ import {
 import * as calls from "../calls.js";
 
 const KINDS = { normal: "normal", "private-use": "private", irregular: "irregular" };
-const DEFAULT = "-";
 
 function assert(holds, what) {
     if (!holds) throw new Error(`not so: ${what}`);
@@ -34,13 +33,24 @@ function made(type, text) {
     return value;
 }
 
+/** Returns what a call returned as the rows have it. */
+function shown(answer) {
+    if (answer === undefined || typeof answer === "boolean") return { undefined: "-", true: "yes", false: "no" }[answer];
+    return Array.isArray(answer) ? answer.join(" ") || "-" : String(answer) || "''";
+}
+
+/** Returns what several calls returned, which has to be the same. */
+function alike(...answers) {
+    const said = answers.map(shown);
+    assert(said.every((it) => it === said[0]), said.join(", "));
+    return said[0];
+}
+
 /** Returns a function that answers a row about a tag. For a string that is not a tag, it answers `otherwise`. */
 const ofTag = (ask, otherwise = "-") => (text, ...more) => {
     const tag = made(LanguageTag, text);
-    return tag === undefined ? otherwise : ask(tag, ...more);
+    return tag === undefined ? otherwise : shown(ask(tag, ...more));
 };
-
-const yesOrNo = (answer) => (answer ? "yes" : "no");
 
 /** Returns the strings of a list, and the tags that they are. */
 const wordsOf = (list) => list.split(" ").filter(Boolean);
@@ -51,23 +61,20 @@ const kindOf = (text) => {
     return tag === undefined ? "none" : KINDS[tag.kind];
 };
 
+const extensionsOf = (tag) => [...tag.extensions].map(([key, subtags]) => [key, ...subtags].join("-"));
+
 function answerTag(text) {
     const tag = made(LanguageTag, text);
     if (tag === undefined) return "none";
-    const lines = [KINDS[tag.kind]];
-    if (tag.language !== undefined) {
-        const languages = [tag.primaryLanguage, ...tag.extendedLanguages];
-        assert(tag.language === languages.join("-"), "the language");
-        lines.push(`  language ${languages.join(" ")}`);
-    }
-    for (const name of ["script", "region"]) if (tag[name] !== undefined) lines.push(`  ${name} ${tag[name]}`);
-    if (tag.variants.length > 0) lines.push(`  variants ${tag.variants.join(" ")}`);
-    if (tag.extensions.size > 0) lines.push(`  extensions ${[...tag.extensions].map(([key, subtags]) => [key, ...subtags].join("-")).join(" ")}`);
-    if (tag.privateUse !== undefined) lines.push(`  private_use ${tag.privateUse.replaceAll("-", " ")}`);
-    if (tag.repeatedVariant !== undefined) lines.push(`  repeated_variant ${tag.repeatedVariant}`);
-    if (tag.repeatedSingleton !== undefined) lines.push(`  repeated_singleton ${tag.repeatedSingleton}`);
-    lines.push(`  recommended ${tag.toRecommended()}`, `  folded ${tag.toFolded()}`, `  hash ${tag.fnv1a().toString(16).padStart(16, "0")}`);
-    return lines.join("\n");
+    const languages = [tag.primaryLanguage, ...tag.extendedLanguages];
+    assert(tag.language === undefined || tag.language === languages.join("-"), "the language");
+    const found = {
+        language: tag.language && languages.join(" "), script: tag.script, region: tag.region, variants: tag.variants.join(" ") || undefined,
+        extensions: extensionsOf(tag).join(" ") || undefined, private_use: tag.privateUse?.replaceAll("-", " "),
+        repeated_variant: tag.repeatedVariant, repeated_singleton: tag.repeatedSingleton,
+        recommended: tag.toRecommended(), folded: tag.toFolded(), hash: tag.fnv1a().toString(16).padStart(16, "0"),
+    };
+    return [KINDS[tag.kind], ...Object.entries(found).filter(([, value]) => value !== undefined).map((pair) => `  ${pair.join(" ")}`)].join("\n");
 }
 
 /** Returns the answer as JavaScript gives it: of the extensions of a tag only the first of each singleton, in lowercase, and no
@@ -100,7 +107,7 @@ function answerValidity(tag) {
 function answerCanonical(tag) {
     const form = tag.canonical();
     assert(tag.isCanonical === form.equals(tag) && form.isCanonical, "is canonical");
-    return String(form);
+    return form;
 }
 
 function answerGrandfathered(text) {
@@ -118,22 +125,16 @@ function answerScan(text) {
     if (tag?.kind === "irregular") what.push(GRANDFATHERED.indexOf(tag.grandfathered));
     if (tag?.kind === "normal") {
         if (tag.repeatedSingleton !== undefined) return undefined; // a map has only the first extension of a singleton
-        const extensions = [...tag.extensions].map(([key, subtags]) => [key, ...subtags].join("-")).join("-");
-        let end = tag.language.length;
-        what.push(end);
-        for (const part of [tag.script, tag.region, tag.variants.join("-"), extensions, tag.privateUse]) {
-            end += part ? 1 + part.length : 0;
-            what.push(end);
-        }
+        what.push(tag.language.length);
+        for (const part of [tag.script, tag.region, tag.variants.join("-"), extensionsOf(tag).join("-"), tag.privateUse]) what.push(what.at(-1) + (part ? 1 + part.length : 0));
     }
     return what.join(" ");
 }
 
 function answerMatch(rangeText, tagText) {
     const range = made(LanguageRange, rangeText), tag = made(LanguageTag, tagText);
-    const how = range ? [range.matchesBasic(tagText), range.matchesExtended(tagText)] : [false, false];
-    assert(!range || !tag || (range.matchesBasic(tag) === how[0] && range.matchesExtended(tag) === how[1]), "a tag matches as its text does");
-    return { "true,true": "both", "true,false": "basic", "false,true": "extended", "false,false": "neither" }[how.join()];
+    const how = (it) => (range ? `${range.matchesBasic(it)},${range.matchesExtended(it)}` : "false,false");
+    return { "true,true": "both", "true,false": "basic", "false,true": "extended", "false,false": "neither" }[alike(how(tagText), how(tag ?? tagText))];
 }
 
 function answerOrder(one, other) {
@@ -148,22 +149,19 @@ function answerOrder(one, other) {
 }
 
 function answerHeader(header, list) {
-    const texts = wordsOf(list), tags = tagsOf(list);
-    const error = refusal(AcceptLanguageError, () => tagForHeader(header, tags, DEFAULT));
+    const tags = tagsOf(list), { ranges } = AcceptLanguage.lenient(header);
+    const error = refusal(AcceptLanguageError, () => tagForHeader(header, tags));
     assert(!error || (error.header === header && error.message === `element ${error.index} has a bad ${error.part}`), "the error");
-    const strict = error ? `bad ${error.index} ${error.offset} ${error.part.replace("language ", "")}` : String(tagForHeader(header, tags, DEFAULT));
-    const lenient = String(tagForHeaderLenient(header, tags, DEFAULT));
-    assert(tagForHeaderLenient(header, new Set(texts), DEFAULT) === lenient, "the tag of texts");
-    assert(String(lookUp(AcceptLanguage.lenient(header).ranges.map((it) => it.range), tags, DEFAULT)) === lenient, "the tag of its ranges");
+    const strict = error ? `bad ${error.index} ${error.offset} ${error.part.replace("language ", "")}` : shown(tagForHeader(header, tags));
+    const lenient = alike(tagForHeaderLenient(header, tags), tagForHeaderLenient(header, new Set(wordsOf(list))), lookUp(ranges.map((it) => it.range), tags));
     return `${strict} | ${lenient}`;
 }
 
 /** Returns the ranges of a header by descending weight and, if an element is malformed, before them the error. */
 function answerElements(header) {
-    const said = ({ ranges }) => ranges.map(({ range, weight }) => `${range} ${weight}`).join(" ") || "-";
+    const said = ({ ranges }) => shown(ranges.map(({ range, weight }) => `${range} ${weight}`));
     const lenient = said(AcceptLanguage.lenient(header)), error = refusal(AcceptLanguageError, () => AcceptLanguage.parse(header));
-    assert(error || said(AcceptLanguage.parse(header)) === lenient, "the ranges of a header without errors");
-    return error ? `${error.message} | ${lenient}` : lenient;
+    return error ? `${error.message} | ${lenient}` : alike(lenient, said(AcceptLanguage.parse(header)));
 }
 
 function answerRefused(text) {
@@ -195,42 +193,28 @@ const messageOf = (type) => (bytes) => {
 
 function answerUnknownModifier(bytes) {
     const name = decoded(bytes);
-    return name === undefined ? undefined : escaped(unknownModifier(name) ?? "-");
+    return name === undefined ? undefined : escaped(shown(unknownModifier(name)));
 }
 
-/** Returns what a call chooses among strings, which has to be what it chooses among tags. */
-function chosen(call, list) {
-    const found = call(wordsOf(list), DEFAULT);
-    assert(String(call(tagsOf(list), DEFAULT)) === found, "the tag of tags");
-    return found;
-}
+/** Returns what a call chooses among strings, and what it chooses among tags. */
+const among = (call, list) => [call(wordsOf(list)), call(tagsOf(list))];
 
 function answerBest(header, list) {
-    const texts = wordsOf(list), found = chosen((tags, otherwise) => bestForHeader(header, tags, otherwise), list);
-    assert(header.includes(";") || bestForRanges(header.split(","), texts, DEFAULT) === found, "the tag of ranges");
-    assert(new Site(texts).bestForHeader(header, DEFAULT) === found, "the tag of a site");
-    return found;
+    const byRanges = header.includes(";") ? [] : [bestForRanges(header.split(","), wordsOf(list))];
+    return alike(...among((tags) => bestForHeader(header, tags), list), new Site(wordsOf(list)).bestForHeader(header), ...byRanges);
 }
 
 function answerBestRanges(ranges, list) {
-    const wanted = wordsOf(ranges), found = chosen((tags, otherwise) => bestForRanges(wanted, tags, otherwise), list);
-    assert(new Site(wordsOf(list)).bestForRanges(wanted, DEFAULT) === found, "the tag of a site");
-    assert(bestForRanges(wanted.map((text) => LanguageRange.parse(text)), wordsOf(list), DEFAULT) === found, "the tag of ranges");
-    return found;
+    const wanted = wordsOf(ranges);
+    return alike(...among((tags) => bestForRanges(wanted, tags), list), new Site(wordsOf(list)).bestForRanges(wanted),
+        bestForRanges(wanted.map(LanguageRange.parse), wordsOf(list)));
 }
 
 function answerBestMatch(header, list) {
-    const texts = wordsOf(list), found = matchForHeader(header, texts);
-    assert(matchForHeader(header, tagsOf(list))?.index === found?.index, "the index of tags");
+    const texts = wordsOf(list), [found, again] = among((tags) => matchForHeader(header, tags), list);
     assert(found?.tag === bestForHeader(header, texts), "the best tag");
     assert(JSON.stringify(new Site(texts).matchForHeader(header)) === JSON.stringify(found), "the match of a site");
-    return found === undefined ? "-" : `${found.index} ${found.distance} ${found.range}`;
-}
-
-function answerSuitable(header, list) {
-    const found = suitableForHeader(header, wordsOf(list)).join(" ");
-    assert(suitableForHeader(header, tagsOf(list)).join(" ") === found, "the tags of tags");
-    return found || "-";
+    return alike(...[found, again].map((it) => it && `${it.index} ${it.distance} ${it.range}`));
 }
 
 function edited(tag, part, value) {
@@ -272,86 +256,52 @@ function answerWithKeyword(text, key, given) {
     return found;
 }
 
-function answerExtensionsForm(tag) {
-    const form = tag.extensionsForm();
-    assert(form.extensionsForm().text === form.text, "the form of the form");
-    return form.text;
+/** Returns the form of a tag, which has to be its own form. */
+function formed(tag, call) {
+    const form = call(tag);
+    assert(form === undefined || call(form).text === form.text, "the form of the form");
+    return form;
 }
 
 function answerLocaleForm(tag) {
-    const form = tag.localeForm();
-    if (form === undefined) {
-        assert(!tag.isLocale, "a locale has a form");
-        return "-";
-    }
-    assert(form.isLocale && form.localeForm().text === form.text, "the form of the form");
-    return form.text;
+    const form = formed(tag, (it) => it.localeForm());
+    assert(form === undefined ? !tag.isLocale : form.isLocale, "a locale has a form");
+    return form;
 }
 
-const orEmpty = (text) => (text === "" ? "''" : text);
-const said = (pairs) => [...pairs].map(([key, value]) => `${key}=${value}`).join(" ");
+const told = (pairs) => [...pairs].map(([key, value]) => `${key}=${value}`);
 
 function answerKeywords(tag) {
     const pairs = tag.keywords;
     for (const [key, value] of pairs) assert(tag.keyword(key) === value, "each by its key");
-    return said(pairs) || "-";
+    return told(pairs);
 }
 
-function answerTransform({ transform }) {
-    return transform === undefined ? "-" : `${transform.language ?? "''"} ${said(transform.fields)}`.trimEnd();
-}
+const answerTransform = ({ transform }) => transform && [transform.language ?? "''", ...told(transform.fields)];
 
-/** Returns the name for a tag, which has to be that for its string. */
-function answerName(tag, call) {
-    assert(call(tag.text) === call(tag), "the name of a tag");
-    return escaped(call(tag) ?? "-");
-}
+/** Returns a function that returns the name for a tag, which has to be that for its string. */
+const answerName = (call) => ofTag((tag) => escaped(alike(call(tag), call(tag.text))));
 
 export const answers = {
-    describe: ofTag((tag) => answerName(tag, describe)),
-    autonym: ofTag((tag) => answerName(tag, autonym)),
-    "with-keyword": answerWithKeyword,
-    "extensions-form": ofTag(answerExtensionsForm),
-    base: ofTag((tag) => tag.base.text),
-    "is-locale": ofTag((tag) => yesOrNo(tag.isLocale), "no"),
-    "locale-form": ofTag(answerLocaleForm),
-    "cldr-version": () => CLDR_VERSION,
-    keyword: ofTag((tag, key) => orEmpty(tag.keyword(key) ?? "-")),
-    keywords: ofTag(answerKeywords),
-    attributes: ofTag((tag) => tag.attributes.join(" ") || "-"),
-    transform: ofTag(answerTransform),
-    tag: answerTag,
-    scan: answerScan,
-    recommended: (text) => made(LanguageTag, text)?.toRecommended().text,
-    validity: ofTag(answerValidity, "none"),
-    suggestion: ofTag((tag) => tag.invalidSubtag?.suggestion ?? "-"),
-    canonical: ofTag(answerCanonical),
-    grandfathered: answerGrandfathered,
+    describe: answerName(describe), autonym: answerName(autonym), "cldr-version": () => CLDR_VERSION,
+    "with-keyword": answerWithKeyword, "extensions-form": ofTag((tag) => formed(tag, (it) => it.extensionsForm())), base: ofTag((tag) => tag.base),
+    "is-locale": ofTag((tag) => tag.isLocale, "no"), "locale-form": ofTag(answerLocaleForm),
+    keyword: ofTag((tag, key) => tag.keyword(key)), keywords: ofTag(answerKeywords),
+    attributes: ofTag((tag) => tag.attributes), transform: ofTag(answerTransform),
+    tag: answerTag, scan: answerScan, recommended: (text) => made(LanguageTag, text)?.toRecommended().text, validity: ofTag(answerValidity, "none"),
+    suggestion: ofTag((tag) => tag.invalidSubtag?.suggestion), canonical: ofTag(answerCanonical), grandfathered: answerGrandfathered,
     viable: (text) => `${viableLength(text)} ${stopLength(text)}`,
     range: (text) => ({ true: "basic", false: "extended", undefined: "none" })[made(LanguageRange, text)?.isBasic],
-    match: answerMatch,
-    order: answerOrder,
-    refused: answerRefused,
+    match: answerMatch, order: answerOrder, refused: answerRefused,
     fault: ofTag((tag) => String(tag.invalidSubtag ?? "valid").split(": did")[0]),
-    message: messageOf(LanguageTag),
-    "range-message": messageOf(LanguageRange),
-    posix: (name) => LanguageTag.fromPosix(name)?.text ?? "-",
-    "posix-name": ofTag((tag) => tag.toPosix() ?? "-"),
-    "unknown-modifier": answerUnknownModifier,
-    "right-to-left": ofTag((tag) => yesOrNo(tag.isRightToLeft)),
-    distance: (desired, supported) => (made(LanguageTag, desired) && made(LanguageTag, supported) ? String(distance(LanguageTag.parse(desired), supported)) : "-"),
-    best: answerBest,
-    "best-ranges": answerBestRanges,
-    "best-accepted": (header, list) => chosen((tags, otherwise) => AcceptLanguage.lenient(header).best(tags, otherwise), list),
-    "best-match": answerBestMatch,
-    parents: ofTag((tag) => tag.parents.join(" ")),
-    suitable: answerSuitable,
-    "suitable-ranges": (ranges, list) => suitableForRanges(wordsOf(ranges), wordsOf(list)).join(" ") || "-",
-    maximized: ofTag((tag) => tag.maximize().text),
-    minimized: ofTag((tag) => tag.minimize().text),
-    header: answerHeader,
-    elements: answerElements,
-    fallbacks: (text) => Array.from(made(LanguageRange, text)?.fallbacks() ?? ["refused"], String).join(" "),
-    ranges: (ranges, list) => String(lookUp(wordsOf(ranges), tagsOf(list), DEFAULT)),
-    edit: answerEdit,
+    message: messageOf(LanguageTag), "range-message": messageOf(LanguageRange),
+    posix: (name) => shown(LanguageTag.fromPosix(name)), "posix-name": ofTag((tag) => tag.toPosix()), "unknown-modifier": answerUnknownModifier,
+    "right-to-left": ofTag((tag) => tag.isRightToLeft), maximized: ofTag((tag) => tag.maximize()), minimized: ofTag((tag) => tag.minimize()),
+    distance: (desired, supported) => shown(made(LanguageTag, desired) && made(LanguageTag, supported) && distance(LanguageTag.parse(desired), supported)),
+    best: answerBest, "best-ranges": answerBestRanges, "best-match": answerBestMatch, parents: ofTag((tag) => tag.parents),
+    "best-accepted": (header, list) => alike(...among((tags) => AcceptLanguage.lenient(header).best(tags), list)),
+    suitable: (header, list) => alike(...among((tags) => suitableForHeader(header, tags), list)),
+    "suitable-ranges": (ranges, list) => alike(...among((tags) => suitableForRanges(wordsOf(ranges), tags), list)),
+    header: answerHeader, elements: answerElements, ranges: (ranges, list) => shown(lookUp(wordsOf(ranges), tagsOf(list))),
+    fallbacks: (text) => shown(Array.from(made(LanguageRange, text)?.fallbacks() ?? ["refused"])), edit: answerEdit,
 };
