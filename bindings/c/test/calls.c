@@ -562,11 +562,14 @@ OF_TWO(best_match, header, words) {
         put_word(to, " and a match");
 }
 
+/* How many items of an array of indices are compared: some more than the call may write. */
+static size_t compared(size_t count) { return count + 64 < MOST_TAGS ? count + 64 : MOST_TAGS; }
+
 /* Puts the tags at the indices. The rest of the array has to stay unchanged. */
 static void put_tags(text *to, text words, size_t count, const size_t *found, size_t found_len) {
     for (size_t k = 0; k < found_len; k++) put_tag(to, words, count, found[k]);
     if (found_len == 0) put_word(to, " -");
-    for (size_t k = found_len; k < MOST_TAGS; k++)
+    for (size_t k = found_len; k < compared(count); k++)
         if (found[k] != SIZE_MAX) put_word(to, " and a changed array");
 }
 
@@ -574,11 +577,11 @@ static void put_tags(text *to, text words, size_t count, const size_t *found, si
 OF_TWO(suitable, header, words) {
     static size_t found[MOST_TAGS], some[MOST_TAGS];
     size_t count = find_tags(words, tags);
-    memset(found, 0xff, sizeof found);
+    memset(found, 0xff, compared(count) * sizeof *found);
     size_t found_len = langtag_suitable_for_header(header.at, header.len, words.at, words.len, tags, count + 1, found, count + 1);
     put_tags(to, words, count, found, found_len);
     for (size_t room = 0; room <= found_len; room++) {
-        memset(some, 0xff, sizeof some);
+        memset(some, 0xff, compared(count) * sizeof *some);
         if (langtag_suitable_for_header(header.at, header.len, words.at, words.len, tags, count, some, room) != room) put_word(to, " but another number");
         if (memcmp(some, found, room * sizeof *some) || some[room] != SIZE_MAX) put_word(to, " but others in a short array");
     }
@@ -587,7 +590,7 @@ OF_TWO(suitable, header, words) {
 OF_TWO(suitable_ranges, from, words) {
     static size_t found[MOST_TAGS];
     size_t wanted = find_tags(from, ranges), count = find_tags(words, tags);
-    memset(found, 0xff, sizeof found);
+    memset(found, 0xff, compared(count) * sizeof *found);
     size_t found_len = langtag_suitable_for_ranges(from.at, from.len, ranges, wanted + 1, words.at, words.len, tags, count + 1, found, count + 1);
     put_tags(to, words, count, found, found_len);
 }
