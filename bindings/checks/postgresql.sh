@@ -46,7 +46,7 @@ postgresql_clone() {
         postgresql_says | grep '^f|langtag '
 }
 postgresql_later() { later "$here/postgresql" "$here/include" "$work/lib/liblangtag_c.a"; }
-in_postgresql() { cd postgresql/test && LANGTAG_ROOT=$root python3 -m unittest "$1"; }
+in_postgresql() { cd postgresql/test && LANGTAG_ANSWERS=$work/answers_about_tags python3 -m unittest "$1"; }
 postgresql_wrong() {
     env PG_CONFIG="$pg_config" DESTDIR="$pg_folder/server" LANGTAG_ARCHIVE="$work/lib/liblangtag_c.a" LANGTAG_INCLUDE="$here/include" \
         python3 wrong_wrappers.py "$work/usr/lib" PostgreSQL
@@ -62,7 +62,7 @@ else
     SHARDS="$(port_of shard_a) $(port_of shard_b)"
     check "PostgreSQL: the examples of the documents" "$root/.ci/examples" sql
     check "PostgreSQL: make installcheck" postgresql_regress
-    check "PostgreSQL: the rows, and tags of the registry beside a plain reading of it" in_postgresql test_rows
+    check "PostgreSQL: the rows, and C's answers about tags of the registry" in_postgresql test_rows
     check "PostgreSQL: ranges by each scan" in_postgresql test_ranges
     check "PostgreSQL: faults, lengths, memory, dump and restore" in_postgresql test_faults
     needs '[ -f "$("$pg_config" --sharedir)/extension/postgres_fdw.control" ]' "there is no postgres_fdw" \

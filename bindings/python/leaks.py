@@ -71,7 +71,7 @@ def refused():
         except Exception:
             continue
         sys.exit(f"not refused: {call}")
-    for call in wrong_calls.CALLS:
+    for _, call in wrong_calls.CALLS:
         wrong_calls.told(call)
 
 

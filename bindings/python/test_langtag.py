@@ -17,6 +17,7 @@ import weakref
 
 import langtag
 import leaks
+import wrong_calls
 from langtag import (AcceptLanguage, EditError, InvalidTag, Kind, Range, Tag, kind, look_up, parse, stop_len,
                      tag_for_header, tag_for_header_lenient, viable_len)
 
@@ -36,11 +37,6 @@ class Kinds(unittest.TestCase):
                 parse(text)
             self.assertEqual(caught.exception.text, text)
             self.assertTrue(str(caught.exception).startswith("invalid language tag `"))
-
-    def test_other_types(self):
-        for value in (None, 5, ["en"], bytearray(b"en"), Range("en")):
-            with self.assertRaises(TypeError):
-                parse(value)
 
     def test_subclasses_of_texts(self):
         class Short(bytes):
@@ -66,12 +62,8 @@ class Kinds(unittest.TestCase):
 
 class Values(unittest.TestCase):
     def test_equality(self):
-        self.assertEqual(parse("zh-Hant"), parse("ZH-HANT"))
-        self.assertEqual({parse("zh-Hant"): 1}[parse("zh-hant")], 1)
-        self.assertEqual(parse("zh-Hant").fnv1a(), parse("zh-hant").fnv1a())
         self.assertNotEqual(parse("zh"), "zh")
         self.assertNotEqual(parse("zh"), Range("zh"))
-        self.assertEqual(Range("DE-*"), Range("de-*"))
 
     def test_subclasses(self):
         class One(Tag):
@@ -83,13 +75,6 @@ class Values(unittest.TestCase):
         self.assertEqual({One("de"), Two("DE"), Tag("De")}, {Tag("de")})
         self.assertTrue(One("de") == Two("DE") and One("de") < Two("en") and Tag("en") > One("de"))
         self.assertNotEqual(One("de"), Range("de"))
-
-    def test_order(self):
-        texts = [str(tag) for tag in sorted(map(parse, ("zh", "ZH-Latn", "en", "EN-us")))]
-        self.assertEqual(texts, ["EN-us", "en", "ZH-Latn", "zh"])
-        self.assertTrue(parse("en") >= parse("EN") and parse("de") < parse("EN"))
-        with self.assertRaises(TypeError):
-            parse("en") < Range("en")
 
     def test_lengths(self):
         """Forms whose lengths are near the size of the first buffer of a call."""
@@ -159,13 +144,6 @@ class Values(unittest.TestCase):
             with self.assertRaises(TypeError):
                 call()
 
-    def test_no_init(self):
-        for kind, calls in ((Tag, (str, hash, lambda it: langtag.best_for_header("", [Tag("de"), it]), lambda it: tag_for_header_lenient("", [it]))),
-                            (Range, (str, hash, lambda it: it.matches_basic("de")))):
-            for call in calls:
-                with self.assertRaises(AttributeError):
-                    call(kind.__new__(kind))
-
 
 #: Each way in which an argument is refused.
 REFUSALS = (
@@ -207,17 +185,6 @@ class Refusals(unittest.TestCase):
 
 
 class Ranges(unittest.TestCase):
-    def test_what_is_refused(self):
-        for text in ("de_CH", "é", "\ud800"):
-            self.assertEqual(caught(Range, text).text, text)
-
-    def test_matching_of_no_tag(self):
-        for value in (5, None, Range("de")):
-            with self.assertRaises(TypeError):
-                Range("de").matches_extended(value)
-            with self.assertRaises(TypeError):
-                Range("de").matches_basic(value)
-
     def test_matching_of_texts(self):
         for text in ("DE-at", b"DE-at"):
             self.assertTrue(Range("de").matches_basic(text) and Range("*-AT").matches_extended(text))
@@ -235,25 +202,12 @@ class Negotiation(unittest.TestCase):
         for call in calls:
             for header in (None, "", b""):
                 self.assertEqual(call(header, [Tag("de")], 5), 5)
-                with self.assertRaises(TypeError):
-                    call(header, [5], None)
-            with self.assertRaises(TypeError):
-                call(5, [Tag("de")], None)
         self.assertEqual([AcceptLanguage(None).ranges, AcceptLanguage.lenient(None).ranges], [(), ()])
 
     def test_ranges(self):
         accepted = AcceptLanguage.lenient("FR;q=0.5, d!, de, *;q=0, nl;q=0.25")
-        found = [(str(range), weight) for range, weight in accepted.ranges]
-        self.assertEqual(found, [("de", 1000), ("FR", 500), ("nl", 250)])
         self.assertEqual(repr(accepted), "AcceptLanguage('de;q=1.0, FR;q=0.5, nl;q=0.25')")
         self.assertIsNone(accepted.look_up([], None))
-        self.assertEqual([str(range) for range in Range("de-AT-*-x-*").fallbacks()], ["de-AT-*-x-*", "de-AT", "de"])
-        for value in (5, ["de"]):
-            with self.assertRaises(TypeError):
-                AcceptLanguage.lenient(value)
-        for ranges, tags in (([5], ["de"]), ([None], ["de"]), (["de"], [5]), (["de"], [Range("de")]), (5, ["de"])):
-            with self.assertRaises(TypeError):
-                look_up(ranges, tags, None)
 
     def test_equality(self):
         """Two headers are equal if their ranges and weights are equal."""
@@ -289,23 +243,9 @@ class Negotiation(unittest.TestCase):
                 self.assertIs(accepted.best(kept, None), kept[1])
 
     def test_one_text_is_no_list(self):
-        for one in ("en", b"en", ""):
-            for call in (lambda: look_up(["de"], one), lambda: tag_for_header("de", one), lambda: tag_for_header_lenient("de", one),
-                         lambda: langtag.best_for_header("de", one), lambda: langtag.best_for_ranges(["de"], one),
-                         lambda: AcceptLanguage("de").look_up(one), lambda: AcceptLanguage("de").best(one)):
-                with self.assertRaisesRegex(TypeError, "^expected a list of tags, got (str|bytes)$"):
-                    call()
-            for call in (look_up, langtag.best_for_ranges):
-                with self.assertRaisesRegex(TypeError, "^expected a list of ranges, got (str|bytes)$"):
-                    call(one, ["de"])
-
-    def test_many_ranges_of_a_weight(self):
-        names = [f"{a}{b}" for a in "abcdefgh" for b in "abcdefgh"]
-        header = ",".join(names)
-        for place, name in enumerate(names):
-            for call in (tag_for_header, tag_for_header_lenient):
-                self.assertEqual(call(header, [name]), name, place)
-                self.assertEqual(call(f"zz;q=0.9,{header.replace(',', ';q=0.5,')};q=0.5", [names[-1], name]), name, place)
+        for calls, what in ((wrong_calls.AMONG, "tags"), (wrong_calls.FOR_RANGES, "ranges")):
+            for call in calls:
+                self.assertEqual(wrong_calls.told(lambda: call("de")), f"TypeError 'expected a list of {what}, got str'")
 
     def test_extended_ranges(self):
         """In a list of ranges, each * after a hyphen is left out, and no other *."""
@@ -324,19 +264,9 @@ class Negotiation(unittest.TestCase):
             many = [b"de", *["x-a"] * number, Tag("zh-x-" + "long-" * 50 + "tag")]
             self.assertIs(langtag.best_for_header("zh;q=0.5, de", many), many[0])
             self.assertIs(langtag.best_for_header("zh", tuple(many)), many[-1])
-        for wrong in (("de", tags), (b"de", tags), ([5], tags), ([None], tags), (5, tags), (["de"], [5])):
-            with self.assertRaises(TypeError):
-                langtag.best_for_ranges(*wrong)
-        with self.assertRaises(InvalidTag):
-            langtag.best_for_header("de", ["de", "de_"])
 
 
 class Names(unittest.TestCase):
-    def test_that_only_a_tag_has_one(self):
-        for call in (langtag.describe, langtag.autonym):
-            with self.assertRaises(InvalidTag):
-                call("de_CH")
-
     def test_that_each_language_of_two_letters_has_one(self):
         letters = "abcdefghijklmnopqrstuvwxyz"
         for text in map("".join, itertools.product(letters, letters)):
@@ -361,9 +291,6 @@ class Edits(unittest.TestCase):
         wrongs += [{part: wrong} for part in ("language", "script", "region", "private_use") for wrong in ([], [""], {})]
         for wrong in wrongs:
             with self.assertRaises(EditError):
-                tag.replace(**wrong)
-        for wrong in ({"script": b"Latn"}, {"region": 419}, {"variants": [1994]}):
-            with self.assertRaises(TypeError):
                 tag.replace(**wrong)
 
     def test_from_parts(self):
@@ -415,15 +342,18 @@ class Edits(unittest.TestCase):
             error = caught(lambda text: Tag(text).replace(keywords={"ca": "roc"}), text)
             self.assertEqual((error.part, error.text, str(error)), ("keywords", None, "not a normal language tag"))
         self.assertEqual(str(tag), "th-u-ca-gregory")
-        for other in (None, "ca", b"ca", 5, [("ca", "roc")], ["ca"], {"ca": True}, {"ca": 5}, {"ca": b"roc"}, {b"ca": "roc"}, {5: "roc"}, {"ca": ["roc"]},
-                      {"c1": "roc", "ca": 5}):
-            with self.assertRaises(TypeError):
-                tag.replace(keywords=other)
 
 
 class Memory(unittest.TestCase):
     def test_that_nothing_is_kept(self):
         self.assertEqual(leaks.kept(100), [])
+
+
+class WrongCalls(unittest.TestCase):
+    def test_each(self):
+        for number, (error, call) in enumerate(wrong_calls.CALLS):
+            with self.subTest(number, said=wrong_calls.told(call)), self.assertRaises(error):
+                call()
 
 
 IS_NATIVE = langtag._backend.__name__ == "langtag._native"
@@ -564,7 +494,7 @@ class Backends(unittest.TestCase):
         return said[0]
 
     def test_that_both_have_the_same_words(self):
-        self.assertGreater(self.said("wrong_calls.py").count("Error "), 140)
+        self.assertEqual(self.said("wrong_calls.py").count("\n"), len(wrong_calls.CALLS))
 
     def test_that_both_have_the_same(self):
         self.said("-c", "import langtag\nfor base in (langtag._backend.TagBase, langtag._backend.RangeBase): print(*sorted(it for it in vars(base) if it[0] != '_'))")

@@ -1,41 +1,51 @@
-"""Calls that raise an error. As a program, prints the error of each, so that the words of both backends can be compared. The
-signatures of functions are left out: there, Python itself words the errors."""
+"""Calls that are refused, with the type of their error. As a program, prints the error of each, so that the words of both backends can
+be compared. The signatures of functions are left out: there, Python itself words the errors."""
 import langtag
-from langtag import Range, Tag, best_for_header, best_for_ranges, look_up
+from langtag import (AcceptLanguage, EditError, InvalidLocale, InvalidRange, InvalidTag, Range, Tag, best_for_header, best_for_ranges, look_up, match_for_header,
+                     suitable_for_header, suitable_for_ranges, tag_for_header, tag_for_header_lenient)
 
-TAG, RANGE, MADE = Tag("de"), Range("de"), Tag.__new__(Tag)
+TAG, RANGE, MADE, MADE_RANGE = Tag("de"), Range("de"), Tag.__new__(Tag), Range.__new__(Range)
+
+ABOUT_TEXT = [langtag.kind, langtag.viable_len, langtag.stop_len, Tag.from_posix, langtag.unknown_modifier, TAG.keyword]
+ABOUT_TAG = [lambda it: langtag.distance("de", it), lambda it: langtag.distance(it, "de"), langtag.describe, langtag.autonym]
+OF_TAG = [str, repr, hash, Tag.canonical, Tag.folded, lambda it: it.script, lambda it: it == TAG, lambda it: it < TAG]
+BY_HEADER = [best_for_header, match_for_header, tag_for_header, tag_for_header_lenient, suitable_for_header,
+             *(lambda header, tags, read=read, find=find: find(read(header), tags) for read in (AcceptLanguage, AcceptLanguage.lenient)
+               for find in (AcceptLanguage.best, AcceptLanguage.look_up))]
+BY_RANGES = [best_for_ranges, suitable_for_ranges, look_up]
+AMONG = [*(lambda tags, call=call: call("de", tags) for call in BY_HEADER), *(lambda tags, call=call: call(["de"], tags) for call in BY_RANGES),
+         *(lambda tags, call=call: call(None, tags) for call in BY_HEADER), lambda tags: best_for_header("de," * 2000, tags)]
+FOR_RANGES = [lambda ranges, call=call: call(ranges, ["de"]) for call in BY_RANGES]
+EDITS = [lambda value: TAG.replace(keywords=value), lambda value: TAG.replace(script=value), lambda value: TAG.replace(variants=[value])]
 
 
-def each(calls, given):
-    """Returns each call with each argument."""
-    return [lambda call=call, it=it: call(it) for it in given for call in calls]
+def each(error, calls, given):
+    """Returns each call with each argument, and the error."""
+    return [(error, lambda call=call, it=it: call(it)) for it in given for call in calls]
 
 
 CALLS = [
-    *each([Tag], [5, None, ["en"], Range("en"), bytearray(b"en"), MADE, "de_", b"d\xff", "d\udc80"]),
-    *each([Range], [5, None, MADE, "de_", Range.__new__(Range)]),
-    *each([langtag.kind, langtag.viable_len, langtag.stop_len, Tag.from_posix, langtag.unknown_modifier, TAG.keyword], [5, None, TAG]),
-    *each([RANGE.matches_basic, RANGE.matches_extended, lambda it: langtag.distance("de", it), lambda it: langtag.distance(it, "de"), langtag.describe,
-           langtag.autonym], [5, None, RANGE, MADE, "de_"]),
-    *each([lambda tags: best_for_header("de", tags), lambda tags: langtag.match_for_header("de", tags), lambda tags: langtag.tag_for_header("de", tags),
-           lambda tags: best_for_ranges(["de"], tags), lambda tags: look_up(["de"], tags), lambda tags: best_for_header("de," * 2000, tags),
-           lambda tags: langtag.tag_for_header_lenient("de", tags), lambda tags: langtag.suitable_for_header("de", tags)],
-          [[5], [None], [RANGE], [MADE], ["de_"], 5, None, "de", {5: 6}]),
-    *each([lambda it, call=call: call(it, ["de"]) for call in (best_for_ranges, langtag.suitable_for_ranges, look_up, best_for_header)], [5, [5], [MADE]]),
-    *each([str, repr, hash, Tag.canonical, Tag.folded, lambda it: it.script, lambda it: it == TAG, lambda it: it < TAG], [MADE]),
-    *each([lambda keywords: TAG.replace(keywords=keywords)], [{"ca": 5}, 5, {"c1": "roc"}, {"ca": "ab"}]),
-    *each([lambda script: TAG.replace(script=script)], [5, "\ud800", "Latin", b"x"]),
-    lambda: TAG.__init__("en"), lambda: RANGE.__init__("en"), lambda: TAG < RANGE,
+    *each(TypeError, [Tag], [5, None, ["en"], RANGE, bytearray(b"en")]), *each(InvalidTag, [Tag], ["de_", b"d\xff", "d\udc80"]),
+    *each(TypeError, [Range], [5, None]), *each(InvalidRange, [Range], ["de_", "é", "\ud800"]),
+    *each(TypeError, ABOUT_TEXT, [5, None, TAG]), *each(TypeError, ABOUT_TAG + [RANGE.matches_basic, RANGE.matches_extended], [5, None, RANGE]),
+    *each(InvalidTag, ABOUT_TAG, ["de_"]), *each(InvalidLocale, [Tag.from_posix], ["C", ""]),
+    *each(TypeError, AMONG, [[5], [None], [RANGE], 5, None, {5: 6}, "de", b"de", ""]), *each(InvalidTag, AMONG, [["de_"], ["de", "de_"]]),
+    *each(TypeError, FOR_RANGES, [5, None, [5], [None], "de", b"de", ""]), *each(TypeError, [lambda header, call=call: call(header, ["de"]) for call in BY_HEADER], [5, ["de"]]),
+    *each(AttributeError, [Tag, Range, *OF_TAG, *ABOUT_TAG, RANGE.matches_basic, RANGE.matches_extended], [MADE]), *each(AttributeError, AMONG + FOR_RANGES, [[MADE]]),
+    *each(AttributeError, [Range, str, hash, lambda it: it.matches_basic("de")], [MADE_RANGE]),
+    *each(TypeError, EDITS, [5]), *each(TypeError, EDITS[1:], [b"x"]), *each(EditError, EDITS[1:], ["\ud800", "Latin-"]), *each(EditError, EDITS[:1], [{"c1": "roc"}, {"ca": "ab"}]),
+    *each(TypeError, EDITS[:1], [None, "ca", b"ca", [("ca", "roc")], ["ca"], {"ca": True}, {"ca": 5}, {"ca": b"roc"}, {b"ca": "roc"}, {5: "roc"}, {"ca": ["roc"]}, {"c1": "roc", "ca": 5}]),
+    *each(AttributeError, [lambda it: it.__init__("en")], [TAG, RANGE]), (TypeError, lambda: TAG < RANGE),
 ]
 
 
 def told(call):
-    """Returns the error of a call, or what it returns if it is not refused."""
+    """Returns the error of a call."""
     try:
-        return ascii(call())
+        return f"not refused: {call()}"
     except Exception as error:
         return f"{type(error).__name__} {ascii(str(error))}"
 
 
 if __name__ == "__main__":
-    print(*map(told, CALLS), sep="\n")
+    print(*(told(call) for _, call in CALLS), sep="\n")
