@@ -194,12 +194,7 @@ class Ranges(unittest.TestCase):
 
 class Negotiation(unittest.TestCase):
     def test_no_header(self):
-        calls = (langtag.best_for_header, tag_for_header, tag_for_header_lenient,
-                 lambda header, tags, default: AcceptLanguage(header).best(tags, default),
-                 lambda header, tags, default: AcceptLanguage(header).look_up(tags, default),
-                 lambda header, tags, default: AcceptLanguage.lenient(header).best(tags, default),
-                 lambda header, tags, default: AcceptLanguage.lenient(header).look_up(tags, default))
-        for call in calls:
+        for call in wrong_calls.BEST:
             for header in (None, "", b""):
                 self.assertEqual(call(header, [Tag("de")], 5), 5)
         self.assertEqual([AcceptLanguage(None).ranges, AcceptLanguage.lenient(None).ranges], [(), ()])
@@ -233,14 +228,10 @@ class Negotiation(unittest.TestCase):
             for call in (look_up, langtag.best_for_ranges):
                 for ranges in (["nl", "DE-ch"], [b"nl", Range("DE-ch")], [Tag("nl"), Tag("DE-ch")]):
                     self.assertIs(call(ranges, kept), kept[1])
-            for call in (tag_for_header, tag_for_header_lenient, langtag.best_for_header):
+            for call in wrong_calls.BEST:
                 self.assertIs(call("nl, DE-ch", kept), kept[1])
                 self.assertIs(call(b"nl, DE-ch", iter(kept)), kept[1])
-                self.assertIsNone(call("nl", kept))
-                self.assertEqual(call("nl", kept, default=5), 5)
-            for accepted in (AcceptLanguage("nl, DE-ch"), AcceptLanguage.lenient(b"nl, DE-ch")):
-                self.assertIs(accepted.look_up(kept), kept[1])
-                self.assertIs(accepted.best(kept, None), kept[1])
+                self.assertEqual((call("nl", kept), call("nl", kept, default=5)), (None, 5))
 
     def test_one_text_is_no_list(self):
         for calls, what in ((wrong_calls.AMONG, "tags"), (wrong_calls.FOR_RANGES, "ranges")):

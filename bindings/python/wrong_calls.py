@@ -9,9 +9,11 @@ TAG, RANGE, MADE, MADE_RANGE = Tag("de"), Range("de"), Tag.__new__(Tag), Range._
 ABOUT_TEXT = [langtag.kind, langtag.viable_len, langtag.stop_len, Tag.from_posix, langtag.unknown_modifier, TAG.keyword]
 ABOUT_TAG = [lambda it: langtag.distance("de", it), lambda it: langtag.distance(it, "de"), langtag.describe, langtag.autonym]
 OF_TAG = [str, repr, hash, Tag.canonical, Tag.folded, lambda it: it.script, lambda it: it == TAG, lambda it: it < TAG]
-BY_HEADER = [best_for_header, match_for_header, tag_for_header, tag_for_header_lenient, suitable_for_header,
-             *(lambda header, tags, read=read, find=find: find(read(header), tags) for read in (AcceptLanguage, AcceptLanguage.lenient)
-               for find in (AcceptLanguage.best, AcceptLanguage.look_up))]
+#: Each call that chooses one tag for a header.
+BEST = [best_for_header, tag_for_header, tag_for_header_lenient,
+        *(lambda header, tags, default=None, read=read, find=find: find(read(header), tags, default) for read in (AcceptLanguage, AcceptLanguage.lenient)
+          for find in (AcceptLanguage.best, AcceptLanguage.look_up))]
+BY_HEADER = [*BEST, match_for_header, suitable_for_header]
 BY_RANGES = [best_for_ranges, suitable_for_ranges, look_up]
 AMONG = [*(lambda tags, call=call: call("de", tags) for call in BY_HEADER), *(lambda tags, call=call: call(["de"], tags) for call in BY_RANGES),
          *(lambda tags, call=call: call(None, tags) for call in BY_HEADER), lambda tags: best_for_header("de," * 2000, tags)]
@@ -31,7 +33,7 @@ CALLS = [
     *each(InvalidTag, ABOUT_TAG, ["de_"]), *each(InvalidLocale, [Tag.from_posix], ["C", ""]),
     *each(TypeError, AMONG, [[5], [None], [RANGE], 5, None, {5: 6}, "de", b"de", ""]), *each(InvalidTag, AMONG, [["de_"], ["de", "de_"]]),
     *each(TypeError, FOR_RANGES, [5, None, [5], [None], "de", b"de", ""]), *each(TypeError, [lambda header, call=call: call(header, ["de"]) for call in BY_HEADER], [5, ["de"]]),
-    *each(AttributeError, [Tag, Range, *OF_TAG, *ABOUT_TAG, RANGE.matches_basic, RANGE.matches_extended], [MADE]), *each(AttributeError, AMONG + FOR_RANGES, [[MADE]]),
+    *each(AttributeError, [Tag, Range, *OF_TAG, *ABOUT_TAG, RANGE.matches_basic, RANGE.matches_extended], [MADE]), *each(AttributeError, AMONG + FOR_RANGES, [[MADE]]), *each(AttributeError, AMONG, [[TAG, MADE]]),
     *each(AttributeError, [Range, str, hash, lambda it: it.matches_basic("de")], [MADE_RANGE]),
     *each(TypeError, EDITS, [5]), *each(TypeError, EDITS[1:], [b"x"]), *each(EditError, EDITS[1:], ["\ud800", "Latin-"]), *each(EditError, EDITS[:1], [{"c1": "roc"}, {"ca": "ab"}]),
     *each(TypeError, EDITS[:1], [None, "ca", b"ca", [("ca", "roc")], ["ca"], {"ca": True}, {"ca": 5}, {"ca": b"roc"}, {b"ca": "roc"}, {5: "roc"}, {"ca": ["roc"]}, {"c1": "roc", "ca": 5}]),

@@ -16,8 +16,7 @@ FREQUENT = ("en de fr es zh ja pt it ru nl pl sv ko ar tr cs da fi nb he hu el u
 SCAN = "SET enable_indexscan = off; SET enable_bitmapscan = off; SET enable_indexonlyscan = off;"
 JOIN = "SET enable_mergejoin = off; SET enable_nestloop = off;"
 SORT = "SET work_mem = '1GB'; SET enable_indexscan = off; SET enable_indexonlyscan = off;"
-LOOK_UP = ("SET enable_memoize = off; SET enable_hashjoin = off; SET enable_mergejoin = off; SET enable_seqscan = off; "
-           "SET enable_bitmapscan = off;")
+LOOK_UP = ("SET enable_memoize = off; SET enable_hashjoin = off; SET enable_mergejoin = off; SET enable_seqscan = off; SET enable_bitmapscan = off;")
 
 
 # For each kind of column: its table, the table of all its tags, the expression that is compared, and a tag as it is compared.

@@ -79,20 +79,17 @@ class Faults(unittest.TestCase):
                 self.refused(f"SELECT ('en-' || repeat('{text}', 90))::langtag", "22P02", f"en-{text}{text}", database="encoded")
 
     def test_lengths(self):
-        self.says(f"CREATE TABLE long (k serial, tag langtag); INSERT INTO long (tag) SELECT {BIG}::langtag FROM "
-                  f"generate_series(1, 2); "
+        self.says(f"CREATE TABLE long (k serial, tag langtag); INSERT INTO long (tag) SELECT {BIG}::langtag FROM generate_series(1, 2); "
                   f"INSERT INTO long (tag) VALUES ('de'), ({RANDOM}::langtag); "
                   "SELECT count(DISTINCT tag), max(length(tag::text)), bool_and(canonical(tag) = tag), "
                   "bool_and(is_valid(tag)), count(*) FILTER (WHERE tag <@ 'de-x'), "
                   "count(langtag_hash(tag)), count(private_use(tag)) FROM long", "3|1080006|t|t|2|4|3")
         self.refused("CREATE INDEX ON long (tag)", "54000: index row")
         self.refused("CREATE TABLE one AS SELECT * FROM long WHERE k = 4; CREATE INDEX ON one (tag)", "54000: index row size", "maximum 2704")
-        self.says("CREATE INDEX ON long USING hash (tag); SET enable_seqscan = off; SELECT count(*) FROM long WHERE tag = "
-                  "(SELECT tag FROM long WHERE k = 1)", "2")
+        self.says("CREATE INDEX ON long USING hash (tag); SET enable_seqscan = off; SELECT count(*) FROM long WHERE tag = (SELECT tag FROM long WHERE k = 1)", "2")
         # 9 MB of distinct variants: is_valid stops at the first variant that is not registered
         self.says("SET statement_timeout = '20s'; SELECT is_valid(t), length(canonical(t)::text), cardinality(variants(t)) "
-                  "FROM (SELECT ('de-' || string_agg('v' || lpad(k::text, 7, '0'), '-'))::langtag AS t FROM generate_series(1, "
-                  "1000000) AS k) s",
+                  "FROM (SELECT ('de-' || string_agg('v' || lpad(k::text, 7, '0'), '-'))::langtag AS t FROM generate_series(1, 1000000) AS k) s",
                   "f|9000002|1000000")
         self.says("SET statement_timeout = '20s'; SELECT t ~ ('de-' || repeat('*-', 300000) || '1996')::text::langtag_range "
                   "FROM (SELECT ('de-' || repeat('1996-', 160000) || 'x-a')::langtag AS t) s", "t")
@@ -113,13 +110,11 @@ class Faults(unittest.TestCase):
 
     def test_another_schema(self):
         server.lines("DROP DATABASE IF EXISTS apart; CREATE DATABASE apart")
-        server.lines("CREATE SCHEMA ext; CREATE EXTENSION langtag SCHEMA ext; CREATE TABLE t (tag ext.langtag PRIMARY KEY); "
-                     "INSERT INTO t VALUES ('de-CH')", "apart")
+        server.lines("CREATE SCHEMA ext; CREATE EXTENSION langtag SCHEMA ext; CREATE TABLE t (tag ext.langtag PRIMARY KEY); INSERT INTO t VALUES ('de-CH')", "apart")
         self.refused("SELECT * FROM t WHERE tag <@ 'de'", "operator is not unique: ext.langtag <@ unknown", database="apart")
         plan = server.lines("SET search_path = public, ext; SET enable_seqscan = off; EXPLAIN SELECT * FROM t WHERE tag <@ 'de'", "apart")
         self.assertIn("tag >= 'de'::langtag", " ".join(plan))
-        plan = server.lines("SET enable_seqscan = off; EXPLAIN SELECT * FROM t WHERE tag OPERATOR(ext.<@) "
-                            "'de'::ext.langtag_range", "apart")
+        plan = server.lines("SET enable_seqscan = off; EXPLAIN SELECT * FROM t WHERE tag OPERATOR(ext.<@) 'de'::ext.langtag_range", "apart")
         self.assertIn("tag OPERATOR(ext.>=) 'de'::ext.langtag", " ".join(plan))
         server.lines("ALTER EXTENSION langtag SET SCHEMA public", "apart")
         self.says("SET enable_seqscan = off; SELECT tag, variants(tag), kind(tag) FROM t WHERE tag <@ 'de'", "de-CH|{}|normal", database="apart")
@@ -144,8 +139,7 @@ class Faults(unittest.TestCase):
         ]
         resident = "SELECT (regexp_match(pg_read_file('/proc/' || pg_backend_pid() || '/status'), 'RssAnon:\\s*(\\d+)'))[1];\n"
         said = server.lines("SET max_parallel_workers_per_gather = 0; SET jit = off; CREATE TEMP TABLE t AS SELECT ('de-latn-' "
-                            "|| lpad((k % 1000)::text, 3, '0') || '-1996-u-co-phonebk')::langtag AS tag FROM "
-                            "generate_series(1, 10000) AS k;\n"
+                            "|| lpad((k % 1000)::text, 3, '0') || '-1996-u-co-phonebk')::langtag AS tag FROM generate_series(1, 10000) AS k;\n"
                             + "".join(f"SELECT {call} FROM t, generate_series(1, {times});\n" + resident for call in calls for times in (1, count // 10000)), "faults")
         kilobytes = list(map(int, said[1::2]))
         grown = {call: after - before for call, before, after in zip(calls, kilobytes[::2], kilobytes[1::2])}
@@ -169,8 +163,7 @@ class Dump(unittest.TestCase):
     def restored(self, schema):
         server.fresh("dumped")
         if schema != "public":
-            server.lines(f"CREATE SCHEMA {schema}; ALTER EXTENSION langtag SET SCHEMA {schema}; ALTER DATABASE dumped SET "
-                         f"search_path = public, {schema}", "dumped")
+            server.lines(f"CREATE SCHEMA {schema}; ALTER EXTENSION langtag SET SCHEMA {schema}; ALTER DATABASE dumped SET search_path = public, {schema}", "dumped")
         server.lines("""CREATE TABLE t (tag langtag PRIMARY KEY, ranges langtag_range[], area langtag_part DEFAULT 'DE', what langtag_kind,
                 form langtag GENERATED ALWAYS AS (canonical(tag)) STORED, CHECK (is_valid(tag)));
             INSERT INTO t (tag, ranges, what) VALUES ('ZH-hant', '{*-CH,de}', 'normal'), ('iw', NULL, NULL), ('x-a', '{}', 'private-use');
@@ -184,8 +177,7 @@ class Dump(unittest.TestCase):
             plain = dumped("dumped")
             subprocess.run(["pg_dump", "-Fc", "-f", f"{folder}/custom", "dumped"], check=True)
             for name in ("by_plain", "by_custom"):
-                server.lines(f"DROP DATABASE IF EXISTS {name}; CREATE DATABASE {name} TEMPLATE template0 ENCODING UTF8 LOCALE "
-                             f"'C'")
+                server.lines(f"DROP DATABASE IF EXISTS {name}; CREATE DATABASE {name} TEMPLATE template0 ENCODING UTF8 LOCALE 'C'")
             server.lines(plain, "by_plain")
             subprocess.run(["pg_restore", "-e", "-j2", "-d", "by_custom", f"{folder}/custom"], check=True)
         for name in ("by_plain", "by_custom"):

@@ -12,10 +12,8 @@ import server
 sys.path.append(str(pathlib.Path(__file__).resolve().parents[2]))
 import random_rows  # noqa: E402
 
-COMMON = ("en de fr es zh ja pt it ru nl sr sl x i-klingon i-default x-a x-de en-US en-GB de-DE de-CH de-AT fr-CA es-419 pt-BR "
-          "zh-CN zh-TW zh-Hant "
-          "zh-Hans zh-Hant-TW zh-Hans-CN sr-Latn sr-Cyrl de-Latn-DE de-Latn-DE-1996 de-DE-1996 sl-IT-rozaj zh-yue-HK zh-min "
-          "zh-min-nan "
+COMMON = ("en de fr es zh ja pt it ru nl sr sl x i-klingon i-default x-a x-de en-US en-GB de-DE de-CH de-AT fr-CA es-419 pt-BR zh-CN zh-TW zh-Hant "
+          "zh-Hans zh-Hant-TW zh-Hans-CN sr-Latn sr-Cyrl de-Latn-DE de-Latn-DE-1996 de-DE-1996 sl-IT-rozaj zh-yue-HK zh-min zh-min-nan "
           "de-x-de de-a-bb-de dea del deaa en-u-co-phonebk en-t-de-x-a art-lojban").split()
 KEEP = {"SET enable_seqscan = off; SET enable_bitmapscan = off; SET enable_indexonlyscan = off;": "Index Scan",
         "SET enable_seqscan = off; SET enable_bitmapscan = off;": "Index Only Scan",
@@ -63,23 +61,20 @@ class Ranges(unittest.TestCase):
         server.fresh("ranges")
         given = [tag for tag in some_tags(cls.random)]
         server.lines("CREATE TABLE t (tag langtag); CREATE TEMP TABLE raw (t text); COPY raw FROM STDIN;\n" + "\n".join(given) + "\n\\.\n"
-                     "INSERT INTO t SELECT DISTINCT t::langtag FROM raw WHERE is_langtag(t); CREATE INDEX t_tag ON t (tag); "
-                     "VACUUM ANALYZE t;", "ranges")
+                     "INSERT INTO t SELECT DISTINCT t::langtag FROM raw WHERE is_langtag(t); CREATE INDEX t_tag ON t (tag); VACUUM ANALYZE t;", "ranges")
         cls.tags = server.lines("SELECT tag FROM t", "ranges")
         cls.ranges = some_ranges(cls.random, cls.tags)
         cls.wanted = {range: (sum(basic(range, tag) for tag in cls.tags), sum(extended(range, tag) for tag in cls.tags)) for range in cls.ranges}
 
     def test_scans(self):
         for setting, scan in KEEP.items():
-            plan = server.lines(setting + "EXPLAIN SELECT * FROM t WHERE tag <@ 'de'; EXPLAIN SELECT * FROM t WHERE tag ~ "
-                                          "'de-DE'", "ranges")
+            plan = server.lines(setting + "EXPLAIN SELECT * FROM t WHERE tag <@ 'de'; EXPLAIN SELECT * FROM t WHERE tag ~ 'de-DE'", "ranges")
             self.assertEqual(sum(scan + " " in line for line in plan), 2, plan)
             said = server.lines(setting + "".join(
                 f"SELECT (SELECT count(*) FROM t WHERE tag <@ {server.quoted(it)}), (SELECT count(*) FROM t WHERE tag ~ "
                 f"{server.quoted(it)});" for it in self.ranges), "ranges")
             self.assertEqual([(it, line) for it, line in zip(self.ranges, said) if line != "{}|{}".format(*self.wanted[it])], [])
-        print(f"{len(self.ranges)} ranges, {len(self.tags)} tags, {len(KEEP)} scans; "
-              f"{sum(b > 0 for b, _ in self.wanted.values())} ranges match by <@, "
+        print(f"{len(self.ranges)} ranges, {len(self.tags)} tags, {len(KEEP)} scans; {sum(b > 0 for b, _ in self.wanted.values())} ranges match by <@, "
               f"{sum(e > 0 for _, e in self.wanted.values())} by ~")
 
     def test_ranges_of_a_table(self):
@@ -94,8 +89,7 @@ class Ranges(unittest.TestCase):
         """Compares the tags themselves, and not only their number."""
         for range in self.ranges[::10]:
             wanted = sorted(tag for tag in self.tags if extended(range, tag))
-            self.assertEqual(sorted(server.lines(f"SET enable_seqscan = off; SELECT tag FROM t WHERE tag ~ "
-                                                 f"{server.quoted(range)}", "ranges")), wanted)
+            self.assertEqual(sorted(server.lines(f"SET enable_seqscan = off; SELECT tag FROM t WHERE tag ~ {server.quoted(range)}", "ranges")), wanted)
 
     def test_order(self):
         wanted = sorted(self.tags, key=str.lower)

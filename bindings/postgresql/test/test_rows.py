@@ -133,16 +133,14 @@ QUERIES = {
     "tag": lambda tag: f"SELECT all_of({text(tag)}::langtag)",
     "scan": lambda given: f"SELECT scan({text(given)})",
     "recommended": lambda tag: f"SELECT {text(tag)}::langtag::text",
-    "validity": lambda tag: f"SELECT CASE WHEN is_valid(t) THEN 'valid' ELSE 'invalid ' || invalid_subtag(t)::text END FROM "
-                            f"(SELECT {text(tag)}::langtag AS t) s",
+    "validity": lambda tag: f"SELECT CASE WHEN is_valid(t) THEN 'valid' ELSE 'invalid ' || invalid_subtag(t)::text END FROM (SELECT {text(tag)}::langtag AS t) s",
     "canonical": lambda tag: f"SELECT canonical(t)::text || CASE WHEN canonical(t)::text::langtag = canonical(t) THEN '' ELSE "
                              f"'another' END FROM (SELECT {text(tag)}::langtag AS t) s",
     "message": lambda given: f"SELECT message_of('langtag', {text(given)})",
     "range-message": lambda given: f"SELECT message_of('langtag_range', {text(given)})",
     "viable": lambda given: f"SELECT langtag_viable_len({text(given)})::text",
     "range": lambda given: f"SELECT 'range ' || ({text(given)}::langtag_range::text = {text(given)})",
-    "match": lambda range, tag: f"SELECT concat_ws(' ', t <@ r, t ~ r) FROM (SELECT {text(tag)}::langtag AS t, "
-                                f"{text(range)}::langtag_range AS r) s",
+    "match": lambda range, tag: f"SELECT concat_ws(' ', t <@ r, t ~ r) FROM (SELECT {text(tag)}::langtag AS t, {text(range)}::langtag_range AS r) s",
     "order": lambda a, b: f"SELECT langtag_cmp({text(a)}::langtag, {text(b)}::langtag)::text",
     "keyword": lambda tag, key: f"SELECT CASE keyword(t, k) WHEN '' THEN repeat(chr(39), 2) ELSE keyword(t, k) END FROM "
                                 f"(SELECT {text(tag)}::langtag AS t, {text(key)} AS k) s",

@@ -12,42 +12,31 @@ SHARDS = os.environ["SHARDS"].split()
 SENT = [
     ("SELECT id FROM texts WHERE tag = 'ZH-hant' ORDER BY id", "WHERE ((tag OPERATOR(public.=) 'zh-Hant'))"),
     ("SELECT id FROM texts WHERE tag <@ 'DE' ORDER BY id", "WHERE ((tag OPERATOR(public.<@) 'DE'::public.langtag_range))"),
-    ("SELECT id FROM texts WHERE tag ~ 'de-*-DE' ORDER BY id",
-     "WHERE ((tag OPERATOR(public.~) 'de-*-DE'::public.langtag_range))"),
+    ("SELECT id FROM texts WHERE tag ~ 'de-*-DE' ORDER BY id", "WHERE ((tag OPERATOR(public.~) 'de-*-DE'::public.langtag_range))"),
     ("SELECT id FROM texts WHERE tag ~ '*-DE' ORDER BY id", "WHERE ((tag OPERATOR(public.~) '*-DE'::public.langtag_range))"),
-    ("SELECT id FROM texts WHERE region(tag) = 'de' ORDER BY id",
-     "WHERE ((public.region(tag) OPERATOR(public.=) 'de'::public.langtag_part))"),
+    ("SELECT id FROM texts WHERE region(tag) = 'de' ORDER BY id", "WHERE ((public.region(tag) OPERATOR(public.=) 'de'::public.langtag_part))"),
     ("SELECT id FROM texts WHERE language(tag) = 'zh' AND script(tag) IS NOT NULL ORDER BY id",
      "WHERE ((public.script(tag) IS NOT NULL)) AND ((public.language(tag) OPERATOR(public.=) 'zh'::public.langtag_part))"),
-    ("SELECT id FROM texts WHERE kind(tag) = 'irregular' ORDER BY id",
-     "WHERE ((public.kind(tag) = 'irregular'::public.langtag_kind))"),
-    ("SELECT id FROM texts WHERE canonical(tag) = 'jbo' ORDER BY id",
-     "WHERE ((public.canonical(tag) OPERATOR(public.=) 'jbo'::public.langtag))"),
+    ("SELECT id FROM texts WHERE kind(tag) = 'irregular' ORDER BY id", "WHERE ((public.kind(tag) = 'irregular'::public.langtag_kind))"),
+    ("SELECT id FROM texts WHERE canonical(tag) = 'jbo' ORDER BY id", "WHERE ((public.canonical(tag) OPERATOR(public.=) 'jbo'::public.langtag))"),
     ("SELECT count(*) FROM texts WHERE is_valid(tag)", "WHERE (public.is_valid(tag))"),
-    ("SELECT count(*) FROM texts WHERE t::langtag = 'DE-ch'",
-     "WHERE ((t::public.langtag OPERATOR(public.=) 'de-CH'::public.langtag))"),
-    ("SELECT count(*) FROM texts WHERE tag = 'de' OR tag = 'FR-ca'",
-     "WHERE (((tag OPERATOR(public.=) 'de') OR (tag OPERATOR(public.=) 'fr-CA')))"),
-    ("SET enable_sort = off; SELECT tag FROM texts ORDER BY tag, id LIMIT 40",
-     "ORDER BY tag ASC NULLS LAST, id ASC NULLS LAST"),
+    ("SELECT count(*) FROM texts WHERE t::langtag = 'DE-ch'", "WHERE ((t::public.langtag OPERATOR(public.=) 'de-CH'::public.langtag))"),
+    ("SELECT count(*) FROM texts WHERE tag = 'de' OR tag = 'FR-ca'", "WHERE (((tag OPERATOR(public.=) 'de') OR (tag OPERATOR(public.=) 'fr-CA')))"),
+    ("SET enable_sort = off; SELECT tag FROM texts ORDER BY tag, id LIMIT 40", "ORDER BY tag ASC NULLS LAST, id ASC NULLS LAST"),
     ("SET enable_partitionwise_aggregate = on; SELECT tag, count(*) FROM texts WHERE tag <@ 'de' GROUP BY tag HAVING count(*) > 1 ORDER BY tag",
      "SELECT tag, count(*) FROM public.part WHERE ((tag OPERATOR(public.<@) 'de'::public.langtag_range)) GROUP BY 1 HAVING ((count(*) > 1))"),
     ("SELECT min(tag), max(tag), count(DISTINCT tag) FROM texts", "SELECT tag FROM public.part"),
 ]
 # One foreign table, grouped by an expression that is not a partition key.
 SENT_OF_ONE = [
-    ("SELECT region(tag), count(*) FROM texts_1 GROUP BY region(tag) ORDER BY 1",
-     "SELECT public.region(tag), count(*) FROM public.part GROUP BY 1"),
-    ("SELECT canonical(tag), count(*) FROM texts_1 GROUP BY canonical(tag) ORDER BY 1",
-     "SELECT public.canonical(tag), count(*) FROM public.part GROUP BY 1"),
-    ("SELECT min(tag), max(tag), count(DISTINCT tag) FROM texts_1",
-     "SELECT public.min(tag), public.max(tag), count(DISTINCT tag) FROM public.part"),
+    ("SELECT region(tag), count(*) FROM texts_1 GROUP BY region(tag) ORDER BY 1", "SELECT public.region(tag), count(*) FROM public.part GROUP BY 1"),
+    ("SELECT canonical(tag), count(*) FROM texts_1 GROUP BY canonical(tag) ORDER BY 1", "SELECT public.canonical(tag), count(*) FROM public.part GROUP BY 1"),
+    ("SELECT min(tag), max(tag), count(DISTINCT tag) FROM texts_1", "SELECT public.min(tag), public.max(tag), count(DISTINCT tag) FROM public.part"),
 ]
 # Statements that the hub filters itself, with the filter.
 AT_HOME = [
     ("SELECT count(*) FROM texts WHERE tag IN ('de', 'FR-ca')", "(texts_1.tag = ANY ('{de,fr-CA}'::langtag[]))"),
-    ("SELECT count(*) FROM texts WHERE set_region(tag, '') = 'zh-hant' AND kind(tag) = 'normal'",
-     "(set_region(texts_1.tag, ''::text) = 'zh-Hant'::langtag)"),
+    ("SELECT count(*) FROM texts WHERE set_region(tag, '') = 'zh-hant' AND kind(tag) = 'normal'", "(set_region(texts_1.tag, ''::text) = 'zh-Hant'::langtag)"),
     ("SELECT count(*) FROM texts WHERE variants(tag) @> '{1996}'", "(variants(texts_1.tag) @> '{1996}'::langtag_part[])"),
 ]
 

@@ -76,10 +76,8 @@ class Update(unittest.TestCase):
         self.says("SELECT bt_index_check('t_form', true); SELECT bt_index_check('t_tag', true)", "", "")
         self.says(BY_INDEX + "SELECT tag FROM t WHERE form = 'de'", "de")
         # The commands in the warnings renew the objects.
-        self.says("REINDEX INDEX t_canonical; REINDEX INDEX t_by_function; REFRESH MATERIALIZED VIEW m; UPDATE t SET tag = tag "
-                  "WHERE form <> canonical(tag); "
-                  "SELECT bt_index_check('t_canonical', true); SELECT bt_index_check('t_form', true); SELECT count(*) FROM t "
-                  "WHERE form <> canonical(tag); "
+        self.says("REINDEX INDEX t_canonical; REINDEX INDEX t_by_function; REFRESH MATERIALIZED VIEW m; UPDATE t SET tag = tag WHERE form <> canonical(tag); "
+                  "SELECT bt_index_check('t_canonical', true); SELECT bt_index_check('t_form', true); SELECT count(*) FROM t WHERE form <> canonical(tag); "
                   "SELECT form FROM m WHERE form <@ 'xx' ORDER BY 1", "", "", "0", "xx", "xx-CH")
         self.says(BY_INDEX + "SELECT tag FROM t WHERE canonical(tag) = 'xx'", "de")
 
