@@ -13,7 +13,7 @@ use Rattle.langtag_span.specs.RangePlaces.{IsRangeAt, range_count}
 use Rattle.langtag_span.specs.Spans.{empty_at}
 use Rattle.langtag_span.specs.TagsAt.{tags_at}
 use Rattle.langtag_span.specs.declared.span.Span.{Span}
-use Rattle.langtag_span.proofs.HeaderRanges.{length_wanted, placed}
+use Rattle.langtag_span.proofs.LookUps.{length_wanted, placed}
 use Rattle.langtag_span.proofs.TagsAt.{are_tags_at}
 use Rattle.langtag_c.specs.Choice.{AreBest, IsBest, IsMatchAt, no_match}
 use Rattle.langtag_c.specs.declared.best_match.BestMatch.{BestMatch}

@@ -17,7 +17,7 @@ use Rattle.langtag_scan.specs.Class.{is_alphanumeric, is_extension_subtag, is_le
 use Rattle.langtag_scan.specs.Subtags.{subtags}
 use Rattle.langtag_scan.specs.Tag.{IsNormal}
 use Rattle.langtag_keyword.specs.Edit.{edited_record, invalid_type, invalid_type_from, is_unicode_key, keyword_error}
-use Rattle.langtag_span.proofs.PartLaws.{IsUtf8-joined}
+use Rattle.langtag_span.proofs.TagLengths.{IsUtf8-joined}
 
 -- ---- a key and a value are UTF-8
 

@@ -18,7 +18,7 @@ use Rattle.langtag_likely.proofs.PosixLaws.{said_well_formed}
 use Rattle.langtag_likely.proofs.PosixNameRead.{one_name, some_name}
 use Rattle.langtag_unicode.proofs.FormRecords.{form_well_formed}
 use Rattle.langtag_locale.proofs.LocaleRecords.{locale_tag}
-use Rattle.langtag_locale.proofs.WholeForms.{not_both, whole_of_record}
+use Rattle.langtag_locale.proofs.WholeLaws.{not_both, whole_of_record}
 use Rattle.langtag_keyword.specs.Form.{extensions_record}
 use Rattle.langtag_unicode.specs.ExtensionsForm.{IsExtensionsForm}
 use Rattle.langtag_locale.specs.LocaleForm.{IsWholeForm}

@@ -5,7 +5,7 @@ use Rattle.langtag_scan.specs.Record.{EachRecord}
 use Rattle.langtag_scan.specs.declared.ends.Ends.{Ends}
 use Rattle.langtag_scan.proofs.SpelledTexts.{ends_ordered}
 use Rattle.langtag.proofs.PartsFound.{language_found, script_found, region_found, variants_found, extensions_found, private_use_found}
-use Rattle.langtag_span.proofs.SpanLaws.{between_text}
+use Rattle.langtag_span.proofs.FoundExtension.{between_text}
 use Rattle.langtag_c.specs.PartSpans.{spans_at, ArePartsOf}
 
 pub spans_parts : (text : List ℕ) (ends : Ends) → HasEnds text ends → EachRecord text (λ r. ArePartsOf text r (spans_at ends))

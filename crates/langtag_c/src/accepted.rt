@@ -33,7 +33,7 @@ use langtag_span::{Span, next_item, number_of};
 ///
 /// Returns `LANGTAG_ACCEPTED_END` if and only if only empty elements are left, or `rest` reaches beyond the string, and
 /// then writes nothing.
-#[tactic(auto, using(langtag_span::proofs::ReadingLaws::same_elements, langtag_span::proofs::ReadingLaws::same_good))]
+#[tactic(auto, using(langtag_span::proofs::LookUps::same_elements, langtag_span::proofs::LookUps::same_good))]
 #[unsafe(no_mangle)]
 pub extern "C" fn langtag_next_accepted(
     bytes: &[u8],

@@ -75,7 +75,7 @@ pub extern "C" fn langtag_to_posix(bytes: &[u8], buffer: &mut [u8]) -> usize
 ///
 /// Returns false and leaves `modifier` unchanged if there is no modifier, if `langtag_from_posix` reads it, or if it is
 /// not about the language, such as euro.
-#[tactic(auto, using(langtag_span::proofs::SpanLaws::end_after_first))]
+#[tactic(auto, using(langtag_span::proofs::FoundExtension::end_after_first))]
 #[unsafe(no_mangle)]
 pub extern "C" fn langtag_unknown_modifier(name: &[u8], modifier: &mut Span) -> bool
     ensures unknown { result ≡ not (is_known (modifier_of name.now)) }

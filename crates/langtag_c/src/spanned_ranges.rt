@@ -12,7 +12,7 @@ pub(crate) struct SpannedRanges<'a> {
     pub(crate) spans: &'a [Span],
 }
 
-#[tactic(auto, using(langtag_span::proofs::RangesAt::few_ranges))]
+#[tactic(auto, using(langtag_span::proofs::TagsAt::few_ranges))]
 impl<'a> RangeList<'a> for SpannedRanges<'a> {
     ghost elements = { λ ranges. ranges_at ranges.text.now ranges.spans.now };
 

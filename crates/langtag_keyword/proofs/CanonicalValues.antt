@@ -1,20 +1,13 @@
 -- A canonical value is its own canonical value: no replacement is replaced, and the empty value stays.
-use Rattle.std.proofs.lemmas.Grind.{common_steps}
-use Rattle.std.proofs.Common.{arith}
-use Rattle.std.proofs.Common.{◌≡◌, ℕ, true, not, cond, List, [], ◌∷◌, map, Option, None, Some, unwrap_or, refl, ap}
-use Rattle.std.proofs.lemmas.Bool.{false≢true, not-true}
-use Rattle.std.specs.List.{list_all}
-use Rattle.std.specs.Option.{is_none}
-use Rattle.langtag_scan.proofs.CaseLaw.{fold_text-twice, join-fold, map-twice, segments-fold}
-use Rattle.langtag_scan.proofs.SubtagLists.{join-subtags}
-use Rattle.langtag_scan.specs.Case.{are_alike, fold_byte, fold_text}
-use Rattle.langtag_scan.specs.CaseLaws.{are_alike-decides}
-use Rattle.langtag_scan.specs.Subtags.{join, subtags}
-use Rattle.langtag_keyword.specs.Alias.{Alias, TypeAlias, alias_for, type_alias_for}
+use Rattle.langtag_keyword.proofs.Common.{common_steps, arith, ◌≡◌, ℕ, true, not, cond, List, [], ◌∷◌, map, Option, None, Some, unwrap_or, refl, ap, false≢true}
+use Rattle.langtag_keyword.proofs.Common.{not-true, list_all, is_none, fold_text-twice, join-subtags, are_alike, fold_text, are_alike-decides, join, subtags}
+use Rattle.langtag_keyword.proofs.Common.{Alias, TypeAlias, alias_for, type_alias_for, unicode_value, both, found_has}
+use Rattle.langtag_scan.proofs.CaseLaw.{join-fold, map-twice, segments-fold}
+use Rattle.langtag_scan.specs.Case.{fold_byte}
 use Rattle.langtag_keyword.specs.Aliases.{subdivision_aliases, transform_type_aliases, unicode_type_aliases}
-use Rattle.langtag_keyword.specs.Form.{has_subdivision, subdivision, transform_value, unicode_type, unicode_value}
-use Rattle.langtag_keyword.proofs.AliasCase.{alias_for-alike, type_alias_for-alike}
-use Rattle.langtag_keyword.proofs.Found.{both, found_has, found_is}
+use Rattle.langtag_keyword.specs.Form.{has_subdivision, subdivision, transform_value, unicode_type}
+use Rattle.langtag_keyword.proofs.Aliases.{alias_for-alike, type_alias_for-alike}
+use Rattle.langtag_keyword.proofs.Found.{found_is}
 
 -- ---- case
 

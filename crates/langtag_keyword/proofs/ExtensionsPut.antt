@@ -1,66 +1,59 @@
 -- Extensions that are put one after the other, while their texts are walked over.
-use Rattle.std.proofs.Common.{◌≡◌, ℕ, List, [], ◌∷◌, ◌++◌, length, map, sym, ap, ◌∙◌, arith, append-nil}
-use Rattle.std.proofs.lemmas.Grind.{flat_map-append}
-use Rattle.std.specs.List.{AllByRecursion, flat_map}
-use Rattle.langtag_extension.specs.Spelling.{SpellsExtension, extension_spelling}
-use Rattle.langtag_output.specs.declared.output.Output.{Output}
-use Rattle.langtag_output.specs.Output.{Pushes}
-use Rattle.langtag_scan.specs.Record.{Extension, IsWellFormedExtension, extension_flat}
-use Rattle.langtag_output.proofs.Pushed.{pushes_both, pushes_joined, pushes_same}
+use Rattle.langtag_keyword.proofs.Common.{◌≡◌, ℕ, List, [], ◌∷◌, ◌++◌, length, map, sym, ap, ◌∙◌, arith, append-nil, flat_map-append, AllByRecursion, flat_map}
+use Rattle.langtag_keyword.proofs.Common.{SpellsExtension, extension_spelling, Output, Pushes, Extension, IsWellFormedExtension, extension_flat, pushes_both}
+use Rattle.langtag_keyword.proofs.Common.{pushes_joined, pushes_same}
 
--- some extensions are left; what is put for them comes after what was put before, and then all is put
-pub record AreLeft (put : List Extension → List (List ℕ)) (all : List (List ℕ)) (texts : List (List ℕ)) (start out : Output) : Type 0 where
+-- these are the texts of some extensions, of which something holds
+pub record AreLeft (Holds : List Extension → Type 0) (texts : List (List ℕ)) : Type 0 where
   pub left : List Extension
   pub spelled : texts ≡ map extension_spelling left
   pub members : AllByRecursion IsWellFormedExtension left
-  pub these : (new : Output) → Pushes (put left) out new → Pushes all start new
+  pub holds : Holds left
 
-module _ (put : List Extension → List (List ℕ)) (all : List (List ℕ)) (start out : Output) where
-  -- the first of them
-  pub record Opens (text : List ℕ) (texts : List (List ℕ)) : Type 0 where
-    pub first : Extension
-    pub others : List Extension
-    pub spells : SpellsExtension first text
-    pub spelled : texts ≡ map extension_spelling others
-    pub members : AllByRecursion IsWellFormedExtension others
-    pub these : (new : Output) → Pushes (put (first ∷ others)) out new → Pushes all start new
+-- the first of them, and the others
+pub record Opens (Holds : List Extension → Type 0) (text : List ℕ) (texts : List (List ℕ)) : Type 0 where
+  pub first : Extension
+  pub spells : SpellsExtension first text
+  pub others : AreLeft (λ es. Holds (first ∷ es)) texts
 
-  pub left-opens : (texts rest : List (List ℕ)) (x : List ℕ) → texts ≡ x ∷ rest → AreLeft put all texts start out → Opens x rest
-  left-opens texts rest x first so_far = by_left so_far.left so_far.spelled so_far.members so_far.these
+module _ (Holds : List Extension → Type 0) (texts : List (List ℕ)) (so_far : AreLeft Holds texts) where
+  pub left-opens : (rest : List (List ℕ)) (x : List ℕ) → texts ≡ x ∷ rest → Opens Holds x rest
+  left-opens rest x first = by_left so_far.left so_far.spelled so_far.members so_far.holds
     where
-      by_left :
-          (es : List Extension) → texts ≡ map extension_spelling es → AllByRecursion IsWellFormedExtension es →
-          ((new : Output) → Pushes (put es) out new → Pushes all start new) → Opens x rest
-      by_left [] spelled members these = absurd (omega (arith, ap length (sym first ∙ spelled)))
-      by_left (e ∷ es) spelled members these =
+      by_left : (es : List Extension) → texts ≡ map extension_spelling es → AllByRecursion IsWellFormedExtension es → Holds es → Opens Holds x rest
+      by_left [] spelled members holds = absurd (omega (arith, ap length (sym first ∙ spelled)))
+      by_left (e ∷ es) spelled members holds =
           let same : x ∷ rest ≡ extension_spelling e ∷ map extension_spelling es = sym first ∙ spelled in
           let head : x ≡ extension_spelling e = cc in
           let tail : rest ≡ map extension_spelling es = cc in
-          record { first = e; others = es; spells = record { member = members.0; joined = sym head }; spelled = tail; members = members.1; these = these }
+          record { first = e; spells = record { member = members.0; joined = sym head }; others = record { left = es; spelled = tail; members = members.1; holds = holds } }
+
+  pub left-none : texts ≡ [] → Holds []
+  left-none none = by_left so_far.left so_far.spelled so_far.holds
+    where
+      by_left : (es : List Extension) → texts ≡ map extension_spelling es → Holds es → Holds []
+      by_left [] spelled holds = holds
+      by_left (e ∷ es) spelled holds = absurd (omega (arith, ap length (sym none ∙ spelled)))
+
+module _ (put : List Extension → List (List ℕ)) (all : List (List ℕ)) (start out : Output) where
+  -- what is put for those that are left comes after what was put before, and then all is put
+  abbrev pub ArePut : List Extension → Type 0
+  ArePut left = (new : Output) → Pushes (put left) out new → Pushes all start new
 
   -- one more is put
   pub left-next :
       (later : List Extension → List (List ℕ)) (here : Extension → List (List ℕ)) (texts rest : List (List ℕ)) (x : List ℕ) (out_after : Output) → texts ≡ x ∷ rest →
-      AreLeft put all texts start out → ((e : Extension) (es : List Extension) → SpellsExtension e x → put (e ∷ es) ≡ here e ++ later es) →
-      ((e : Extension) → SpellsExtension e x → Pushes (here e) out out_after) → AreLeft later all rest start out_after
+      AreLeft ArePut texts → ((e : Extension) (es : List Extension) → SpellsExtension e x → put (e ∷ es) ≡ here e ++ later es) →
+      ((e : Extension) → SpellsExtension e x → Pushes (here e) out out_after) → AreLeft (λ left. (new : Output) → Pushes (later left) out_after new → Pushes all start new) rest
   left-next later here texts rest x out_after first so_far step is_put =
-      let o = left-opens texts rest x first so_far in
+      let o = left-opens ArePut texts so_far rest x first in
+      let es = o.others.left in
       record {
-        left = o.others;
-        spelled = o.spelled;
-        members = o.members;
-        these = λ new those.
-            o.these new (pushes_same _ _ out new (sym (step o.first o.others o.spells)) (pushes_both (here o.first) (later o.others) out out_after new (is_put o.first o.spells) those));
+        left = es;
+        spelled = o.others.spelled;
+        members = o.others.members;
+        holds = λ new those. o.others.holds new (pushes_same _ _ out new (sym (step o.first es o.spells)) (pushes_both (here o.first) (later es) out out_after new (is_put o.first o.spells) those));
       }
-
-  -- none is left
-  pub left-ended : (texts : List (List ℕ)) (new : Output) → texts ≡ [] → AreLeft put all texts start out → Pushes (put []) out new → Pushes all start new
-  left-ended texts new none so_far last = by_left so_far.left so_far.spelled so_far.these
-    where
-      by_left :
-          (es : List Extension) → texts ≡ map extension_spelling es → ((n : Output) → Pushes (put es) out n → Pushes all start n) → Pushes all start new
-      by_left [] spelled these = these new last
-      by_left (e ∷ es) spelled these = absurd (omega (arith, ap length (sym none ∙ spelled)))
 
 -- the text of an extension is its subtags
 pub extension-pushed : (e : Extension) (text bytes : List ℕ) (old new : Output) → SpellsExtension e text → bytes ≡ text → Pushes (bytes ∷ []) old new → Pushes (extension_flat e) old new

@@ -1,10 +1,9 @@
--- What is found in a list has what all of the list have.
+-- What is found in a list has what all of the list have, and what follows from that.
 use Rattle.std.proofs.lemmas.Grind.{common_steps}
-use Rattle.std.proofs.Common.{arith}
-use Rattle.std.proofs.Common.{◌≡◌, Bool, true, false, List, [], ◌∷◌, ◌&&◌, Some, refl}
+use Rattle.std.proofs.Common.{arith, ◌≡◌, Bool, true, false, List, [], ◌∷◌, ◌&&◌, Some, refl}
 use Rattle.std.proofs.lemmas.Bool.{false≢true}
 use Rattle.std.specs.Prelude.{find}
-use Rattle.std.specs.List.{list_all}
+use Rattle.std.specs.List.{AllByRecursion, list_all}
 
 pub both : (x y : Bool) → (x && y) ≡ true → (x ≡ true) × (y ≡ true)
 both true y is = (refl, is)
@@ -19,3 +18,8 @@ found_has good test (y ∷ xs) x all is = grind (arith, common_steps, both (good
 pub found_is : {X : Type 0} (test : X → Bool) (xs : List X) (x : X) → find test xs ≡ Some x → test x ≡ true
 found_is test [] x is = absurd cc
 found_is test (y ∷ xs) x is = grind (arith, common_steps, found_is test xs x)
+
+-- what holds of each, if it follows from what holds of each
+pub each-weaker : {X : Type 0} (P Q : X → Type 0) → ((x : X) → P x → Q x) → (xs : List X) → AllByRecursion P xs → AllByRecursion Q xs
+each-weaker P Q leads [] all = tt
+each-weaker P Q leads (x ∷ xs) all = (leads x all.0, each-weaker P Q leads xs all.1)

@@ -1,22 +1,17 @@
 -- The keys that a walk has met, and the keywords that are left to it.
-use Rattle.std.proofs.lemmas.Grind.{common_steps}
-use Rattle.std.proofs.Common.{◌≡◌, ◌≢◌, ℕ, ◌*◌, ◌%◌, ◌^◌, ◌<◌, Bool, true, false, eqb, ◌==◌, ◌&&◌, ◌||◌, not, List, [], ◌∷◌, ◌++◌, bit_or, length, replicate, set, slice_index_or, drop, IsTrue, eqb-true, refl, ap, sym, subst, ◌∙◌, arith, w64}
+use Rattle.langtag_keyword.proofs.Common.{common_steps, ◌≡◌, ℕ, ◌*◌, ◌^◌, ◌<◌, Bool, true, false, ◌==◌, ◌&&◌, ◌||◌, not, List, [], ◌∷◌, ◌++◌, length, drop}
+use Rattle.langtag_keyword.proofs.Common.{eqb-true, refl, ap, sym, subst, ◌∙◌, arith, AllByRecursion, filter, list_any, and_parts, eqb_tells, nat_tests}
+use Rattle.langtag_keyword.proofs.Common.{list_any-append, are_alike, are_alphanumeric, is_alphanumeric, is_extension_subtag, subtags, IsExtension, IsSubtag}
+use Rattle.langtag_keyword.proofs.Common.{of_extension_subtag, opens_keyword, is_new_key, keywords_after, HasKeys, IsTrue}
+use Rattle.std.proofs.Common.{◌≢◌, ◌%◌, eqb, bit_or, replicate, set, slice_index_or, w64}
 use Rattle.std.specs.Int.{bit_at}
-use Rattle.std.specs.List.{AllByRecursion, filter, list_any}
-use Rattle.std.proofs.lemmas.Bool.{and_parts}
-use Rattle.std.proofs.lemmas.Bool.Decides.{eqb_tells, nat_tests}
 use Rattle.std.proofs.lemmas.List.{get_or-replicate, get_or-set_other, get_or-set_same, length-set}
-use Rattle.std.proofs.lemmas.List.Folds.{list_any-append}
 use Rattle.std.proofs.lemmas.Nat.Bits.{bit_at-zero, bit_at_set_other, bit_at_set_same}
-use Rattle.langtag_scan.specs.Case.{are_alike, fold_byte}
-use Rattle.langtag_scan.specs.Class.{are_alphanumeric, is_alphanumeric, is_digit, is_extension_subtag, is_letter}
-use Rattle.langtag_scan.specs.Subtags.{subtags}
+use Rattle.langtag_scan.specs.Case.{fold_byte}
+use Rattle.langtag_scan.specs.Class.{is_digit, is_letter}
 use Rattle.langtag_extension.specs.Decided.{are_extension_subtags}
-use Rattle.langtag_extension.specs.Spelling.{IsExtension}
-use Rattle.langtag_scan.proofs.SubtagFacts.{IsSubtag, of_extension_subtag}
-use Rattle.langtag_keyword.specs.Keys.{opens_keyword}
-use Rattle.langtag_keyword.specs.Keywords.{is_new_key, keywords_after, keywords_of}
-use Rattle.langtag_keyword.specs.KeySets.{HasKeys, has_key, keywords_beyond, place_of, with_key}
+use Rattle.langtag_keyword.specs.Keywords.{keywords_of}
+use Rattle.langtag_keyword.specs.KeySets.{has_key, keywords_beyond, place_of, with_key}
 use Rattle.langtag_keyword.specs.declared.keys.Keys.{Keys}
 use Rattle.langtag_keyword.specs.declared.keys.Keys.TheVariants.{Unicode, Transform}
 use Rattle.langtag_keyword.proofs.LeastTexts.{AreKeys}
@@ -59,15 +54,12 @@ bit-more :
     has-bit (with-bit rows row place) r p ≡ (has-bit rows r p || ((r == row) && (p == place)))
 bit-more rows row place r p within fits = grind (arith, nat_tests, eqb_tells r row, eqb_tells p place, bit-again rows row place within fits, bit-beside rows row place p within fits, row-beside rows row place r p)
 
-with-true : (a b c : Bool) → (a || (b && c)) ≡ (a || (b && (c && true)))
-with-true a b c = grind (arith, nat_tests)
-
 key-more :
     (rows : List ℕ) (a b c d : ℕ) → length rows ≡ 36 → is_alphanumeric a ≡ true → is_alphanumeric b ≡ true → is_alphanumeric c ≡ true → is_alphanumeric d ≡ true →
     has_key (with_key rows (c ∷ d ∷ [])) (a ∷ b ∷ []) ≡ (has_key rows (a ∷ b ∷ []) || are_alike (a ∷ b ∷ []) (c ∷ d ∷ []))
 key-more rows a b c d size is_a is_b is_c is_d =
     let more = bit-more rows (place_of c) (place_of d) (place_of a) (place_of b) (omega (arith, size, place-within c is_c)) (omega (arith, place-within d is_d)) in
-    more ∙ rw (place-tells a c is_a is_c, place-tells b d is_b is_d) (with-true (has-bit rows (place_of a) (place_of b)) (eqb (fold_byte a) (fold_byte c)) (eqb (fold_byte b) (fold_byte d)))
+    more ∙ rw (place-tells a c is_a is_c, place-tells b d is_b is_d) (grind (arith, nat_tests))
 
 rows-more : (rows s : List ℕ) → length (with_key rows s) ≡ length rows
 rows-more rows [] = refl

@@ -1,17 +1,109 @@
 -- Keywords that are written key after key, in the order of the keys, and what becomes of them when a keyword is set or
 -- removed.
-use Rattle.std.proofs.lemmas.Grind.{common_steps}
-use Rattle.std.proofs.Common.{arith}
-use Rattle.std.proofs.Common.{◌≡◌, ℕ, Bool, true, false, cond, ◌&&◌, List, [], ◌∷◌, ◌++◌, find, Option, None, Some, refl, sym, ap, ◌∙◌, append-nil}
-use Rattle.std.specs.List.{AllByRecursion, flat_map}
-use Rattle.std.specs.Option.{option_map_or}
-use Rattle.langtag_scan.specs.Case.{are_alike, fold_text}
-use Rattle.langtag_keyword.specs.Edit.{is_place, is_this_key, put_keyword, without_keyword, without_within}
-use Rattle.langtag_keyword.specs.Form.{is_before}
-use Rattle.langtag_keyword.specs.Keywords.{is_key}
-use Rattle.langtag_keyword.proofs.KeywordEdits.{put-here, put-later, without-gone, without-kept}
-use Rattle.langtag_keyword.proofs.KeywordLaws.{AreNoKeys}
-use Rattle.langtag_keyword.proofs.KeywordTwice.{without-value}
+use Rattle.langtag_keyword.proofs.Common.{common_steps, ◌≡◌, ℕ, ◌≤◌, Bool, true, false, cond, ◌&&◌, not, List, [], ◌∷◌, ◌++◌, length, find, Option, None, Some}
+use Rattle.langtag_keyword.proofs.Common.{unwrap_or, refl, sym, ap, ◌∙◌, arith, append-nil, append_assoc, and_parts, flat_map, AllByRecursion, is_some}
+use Rattle.langtag_keyword.proofs.Common.{option_map_or, nat_tests, find_extension, are_alike, fold_text, Extension, Record, extension_flat, changed_from}
+use Rattle.langtag_keyword.proofs.Common.{extension_of, is_this_key, keyword_error, put_keyword, with_changed_u, with_keyword, without_keyword, without_within}
+use Rattle.langtag_keyword.proofs.Common.{is_place, is_of, is_before, is_key}
+use Rattle.langtag_scan.specs.Case.{fold_byte}
+use Rattle.langtag_keyword.specs.Edit.{edited_record, is_place_of_u}
+use Rattle.langtag_keyword.proofs.KeywordLaws.{put-here, put-later, without-gone, AreNoKeys, ArePassed, fits_from, passed, standing-this, without-kept}
+
+-- ---- what is removed twice
+
+module _ (key : List ℕ) where
+  -- within a keyword of the key, a value goes
+  pub without-value : (value rest : List (List ℕ)) → AreNoKeys value → without_within key true (value ++ rest) ≡ without_within key true rest
+  without-value [] rest all = refl
+  without-value (s ∷ value) rest all = grind (arith, nat_tests, without-gone key s (value ++ rest) true true, without-value value rest all.1)
+
+  without-twice : (i inside : Bool) (ss : List (List ℕ)) → (i && not inside) ≡ false → without_within key i (without_within key inside ss) ≡ without_within key inside ss
+  without-twice i inside [] within = refl
+  without-twice i inside (s ∷ ss) within = grind (arith, nat_tests, without-twice true true ss refl, without-twice false true ss refl, without-twice false false ss refl)
+
+-- ---- what is set twice
+
+module _ (key k : List ℕ) (v w : List (List ℕ)) (this : is_this_key key k ≡ true) (all : AreNoKeys v) where
+  -- the key that was put is the key that is found
+  find-first : (rest : List (List ℕ)) → find (is_this_key key) (k ∷ rest) ≡ Some k
+  find-first rest = ap (λ b. cond b (Some k) (find (is_this_key key) rest)) this
+
+  again-first : (rest : List (List ℕ)) → put_keyword key true (k ∷ w) ((k ∷ v) ++ rest) ≡ (k ∷ w) ++ without_within key true rest
+  again-first rest = grind (arith, nat_tests, put-here, without-gone, and_parts, without-value)
+
+  module _ (stands : Bool) where
+    find-put : (ss : List (List ℕ)) → ArePassed (is_place key stands) (is_this_key key) ss → find (is_this_key key) (put_keyword key stands (k ∷ v) ss) ≡ Some k
+    find-put [] passed = find-first v
+    find-put (s ∷ ss) passed = grind (arith, nat_tests, find-put ss passed.1, find-first (v ++ without_keyword key (s ∷ ss)))
+
+    put-twice : (ss : List (List ℕ)) → ArePassed (is_place key stands) (is_this_key key) ss → put_keyword key true (k ∷ w) (put_keyword key stands (k ∷ v) ss) ≡ put_keyword key stands (k ∷ w) ss
+    put-twice [] passed = ap (put_keyword key true (k ∷ w)) (sym (append-nil (k ∷ v))) ∙ again-first [] ∙ append-nil (k ∷ w)
+    put-twice (s ∷ ss) passed =
+        grind (arith, nat_tests, put-twice ss passed.1, again-first (without_keyword key (s ∷ ss)), without-twice key true true (s ∷ ss) refl, put-later key s (put_keyword key stands (k ∷ v) ss) true (k ∷ w))
+
+with-twice : (key : List ℕ) (v w ss : List (List ℕ)) → is_key key ≡ true → AreNoKeys v → with_keyword key w (with_keyword key v ss) ≡ with_keyword key w ss
+with-twice key v w ss is all =
+    let standing = find (is_this_key key) ss in
+    let k = unwrap_or standing key in
+    let this = standing-this key ss is in
+    let are = passed (is_place key) (is_this_key key) (λ s. refl) ss standing refl in
+    ap (λ o. put_keyword key (is_some o) (unwrap_or o key ∷ w) (with_keyword key v ss)) (find-put key k v w this all (is_some standing) ss are)
+    ∙ put-twice key k v w this all (is_some standing) ss are
+
+-- ---- extensions
+
+-- there are subtags with a keyword
+pub some-put : (key k : List ℕ) (stands : Bool) (v ss : List (List ℕ)) → 1 ≤ length (put_keyword key stands (k ∷ v) ss)
+some-put key k stands v [] = omega arith
+some-put key k stands v (s ∷ ss) = grind (arith, nat_tests)
+
+pub extension-some : (n : ℕ) (ss : List (List ℕ)) → 1 ≤ length ss → extension_of n ss ≡ record { singleton = n; subtags = ss } ∷ []
+extension-some n ss some = grind (arith, nat_tests)
+
+-- what is put for an extension that has subtags
+pub extension-flat : (n : ℕ) (ss : List (List ℕ)) → 1 ≤ length ss → flat_map extension_flat (extension_of n ss) ≡ (n ∷ []) ∷ ss
+extension-flat n ss some = ap (flat_map extension_flat) (extension-some n ss some) ∙ append-nil ((n ∷ []) ∷ ss)
+
+pub u_is_u : (ss : List (List ℕ)) → is_of 117 (record { singleton = 117; subtags = ss }) ≡ true
+unfolding fold_byte
+u_is_u ss = refl
+
+pub find_u : (es : List Extension) → find_extension 117 es ≡ find (is_of 117) es
+unfolding fold_byte
+find_u es = refl
+
+module _ (one two : List (List ℕ) → List (List ℕ)) (some : (ss : List (List ℕ)) → 1 ≤ length (one ss)) (twice : (ss : List (List ℕ)) → two (one ss) ≡ two ss) where
+  -- the `u` that was changed is changed again
+  again-here : (n : ℕ) (ss : List (List ℕ)) (es : List Extension) → is_of 117 (record { singleton = n; subtags = one ss }) ≡ true →
+      changed_from two true (extension_of n (one ss) ++ es) ≡ extension_of n (two ss) ++ es
+  again-here n ss es is = grind (arith, nat_tests, extension-some n (one ss) (some ss))
+
+  find-here :
+      (n : ℕ) (ss : List (List ℕ)) (es : List Extension) → is_of 117 (record { singleton = n; subtags = one ss }) ≡ true →
+      is_some (find (is_of 117) (extension_of n (one ss) ++ es)) ≡ true
+  find-here n ss es is = grind (arith, nat_tests, extension-some n (one ss) (some ss))
+
+  find-changed : (stands : Bool) (es : List Extension) → ArePassed (is_place_of_u stands) (is_of 117) es → is_some (find (is_of 117) (changed_from one stands es)) ≡ true
+  find-changed stands [] others = ap (λ x. is_some (find (is_of 117) x)) (sym (append-nil (extension_of 117 (one [])))) ∙ find-here 117 [] [] (u_is_u (one []))
+  find-changed stands (e ∷ es) others =
+      grind (arith, nat_tests, find-changed stands es others.1, append_assoc (extension_of 117 (one [])) (e ∷ []) es, find-here 117, find-here e.singleton, u_is_u (one []))
+
+  changed-twice : (stands : Bool) (es : List Extension) → ArePassed (is_place_of_u stands) (is_of 117) es → changed_from two true (changed_from one stands es) ≡ changed_from two stands es
+  changed-twice stands [] others =
+      ap (changed_from two true) (sym (append-nil (extension_of 117 (one [])))) ∙ again-here 117 [] [] (u_is_u (one [])) ∙ append-nil (extension_of 117 (two []))
+  changed-twice stands (e ∷ es) others =
+      grind (arith, nat_tests, changed-twice stands es others.1, append_assoc (extension_of 117 (one [])) (e ∷ []) es, append_assoc (extension_of 117 (two [])) (e ∷ []) es, again-here 117, again-here e.singleton, u_is_u (one []))
+
+  u-twice : (es : List Extension) → with_changed_u two (with_changed_u one es) ≡ with_changed_u two es
+  u-twice es = grind (arith, nat_tests, find_u es, passed is_place_of_u (is_of 117) (λ e. refl) es (find (is_of 117) es) refl, find_u (with_changed_u one es), find-changed, changed-twice)
+
+-- ---- the record
+
+pub set_twice :
+    (key : List ℕ) (v w : List (List ℕ)) (r : Record) → keyword_error key v ≡ None →
+    edited_record key (Some w) (edited_record key (Some v) r) ≡ edited_record key (Some w) r
+unfolding edited_record
+set_twice key v w r none = grind (arith, common_steps, fits_from, u-twice, some-put, with-twice)
 
 -- ---- subtags that are no keys are passed
 

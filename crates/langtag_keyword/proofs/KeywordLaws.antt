@@ -1,15 +1,20 @@
 -- What is set is read, what is removed is not, and other keys keep their values.
-use Rattle.std.proofs.lemmas.Grind.{common_steps}
-use Rattle.std.proofs.Common.{◌≡◌, ℕ, ◌+◌, Bool, true, false, cond, ◌&&◌, leb, List, [], ◌∷◌, ◌++◌, length, find, Option, None, Some, unwrap_or, refl, ap, ◌∙◌, arith, eqb-true}
-use Rattle.std.proofs.lemmas.Bool.{and_parts, false≢true, leb-true}
-use Rattle.std.specs.List.{AllByRecursion}
-use Rattle.std.specs.Option.{is_some}
-use Rattle.std.proofs.lemmas.Bool.Decides.{nat_tests}
-use Rattle.langtag_scan.specs.Case.{are_alike}
-use Rattle.langtag_scan.specs.CaseLaws.{are_alike-decides}
-use Rattle.langtag_scan.specs.Class.{is_extension_subtag}
-use Rattle.langtag_keyword.specs.Edit.{invalid_type, invalid_type_from, is_place, is_this_key, is_type, is_unicode_key, keyword_error, put_keyword, with_keyword, without_keyword, without_within}
-use Rattle.langtag_keyword.specs.Keywords.{before_key, is_key, value_of}
+use Rattle.langtag_keyword.proofs.Common.{common_steps, flat_map-append, ◌≡◌, ℕ, ◌+◌, Bool, true, false, cond, ◌&&◌, List, [], ◌∷◌, ◌++◌, length, find, Option}
+use Rattle.langtag_keyword.proofs.Common.{None, Some, unwrap_or, refl, ap, ◌∙◌, arith, eqb-true, ◌≤◌, not, fold, take, sym, append_assoc, option_map, and_parts}
+use Rattle.langtag_keyword.proofs.Common.{false≢true, AllByRecursion, flat_map, is_some, nat_tests, are_alike, are_alike-decides, is_extension_subtag, is_place}
+use Rattle.langtag_keyword.proofs.Common.{is_this_key, is_type, is_unicode_key, keyword_error, put_keyword, with_keyword, without_keyword, without_within}
+use Rattle.langtag_keyword.proofs.Common.{at_place, changed_from, edited, with_changed_u, before_key, is_key, value_of, length-slice_split, with_joined}
+use Rattle.langtag_keyword.proofs.Common.{of_primary, ends_of, to_variants, Extension, IsWellFormed, Record, extension_flat, one_flat, private_part_flat, spell}
+use Rattle.langtag_keyword.proofs.Common.{is_hyphen, join, segments, extension_form, forms_after, is_language_or_none, is_of, is_transform, transform_form}
+use Rattle.langtag_keyword.proofs.Common.{unicode_form}
+use Rattle.std.proofs.Common.{leb}
+use Rattle.std.proofs.lemmas.Bool.{leb-true}
+use Rattle.langtag_keyword.specs.Edit.{invalid_type, invalid_type_from, belongs, edited_record, is_place_of_u}
+use Rattle.langtag_output.specs.Output.{with_subtag}
+use Rattle.langtag_scan.proofs.Joins.{take-join}
+use Rattle.langtag_scan.proofs.PartOffsets.{ends_in_order}
+use Rattle.langtag_keyword.specs.Form.{extensions_record, is_language_id}
+use Rattle.std.specs.Borrow.{Bor}
 
 -- no subtag is a key
 abbrev pub AreNoKeys : List (List ℕ) → Type 0
@@ -47,21 +52,20 @@ pub standing-this : (key : List ℕ) (ss : List (List ℕ)) → is_key key ≡ t
 standing-this key [] is = ap (λ b. b && are_alike key key) is ∙ alike-itself key
 standing-this key (s ∷ ss) is = grind (arith, nat_tests, standing-this key ss is)
 
--- each subtag before the place of a key is another key, or no key
-abbrev pub ArePassed : List ℕ → Bool → List (List ℕ) → Type 0
-ArePassed key stands ss = AllByRecursion (λ s. is_place key stands s ≡ false → is_this_key key s ≡ false) ss
+-- each that is passed before a place passes no test
+abbrev pub ArePassed : {X : Type 0} → (X → Bool) → (X → Bool) → List X → Type 0
+ArePassed place test xs = AllByRecursion (λ x. place x ≡ false → test x ≡ false) xs
 
-passed-standing : (key : List ℕ) (ss : List (List ℕ)) → ArePassed key true ss
-passed-standing key [] = tt
-passed-standing key (s ∷ ss) = ((λ is. is), passed-standing key ss)
+-- so where one passes the test, whose place this is, and where none does
+module _ {X : Type 0} (place : Bool → X → Bool) (test : X → Bool) (stands : (x : X) → place true x ≡ test x) where
+  passed-standing : (xs : List X) → ArePassed (place true) test xs
+  passed-standing [] = tt
+  passed-standing (x ∷ xs) = ((λ is. sym (stands x) ∙ is), passed-standing xs)
 
-passed-absent : (key : List ℕ) (ss : List (List ℕ)) → find (is_this_key key) ss ≡ None → ArePassed key false ss
-passed-absent key [] none = tt
-passed-absent key (s ∷ ss) none = grind (arith, nat_tests, passed-absent key ss)
-
-pub passed : (key : List ℕ) (ss : List (List ℕ)) (o : Option (List ℕ)) → find (is_this_key key) ss ≡ o → ArePassed key (is_some o) ss
-passed key ss None is = passed-absent key ss is
-passed key ss (Some s) is = passed-standing key ss
+  pub passed : (xs : List X) (o : Option X) → find test xs ≡ o → ArePassed (place (is_some o)) test xs
+  passed [] o is = tt
+  passed (x ∷ xs) None is = grind (arith, nat_tests, passed xs None)
+  passed xs (Some x) is = passed-standing xs
 
 module _ (key k : List ℕ) (value : List (List ℕ)) (this : is_this_key key k ≡ true) (all : AreNoKeys value) where
   key-opens : is_key k ≡ true
@@ -83,14 +87,14 @@ module _ (key k : List ℕ) (value : List (List ℕ)) (this : is_this_key key k 
   value-here stands s ss place = grind (arith, common_steps, and_parts, before-kept key (s ∷ ss), value-first (value ++ without_keyword key (s ∷ ss)), before-end value (without_keyword key (s ∷ ss)) all)
 
   -- where each subtag that is passed is another key, or no key
-  value-put : (stands : Bool) (ss : List (List ℕ)) → ArePassed key stands ss → value_of is_key key (put_keyword key stands (k ∷ value) ss) ≡ Some value
+  value-put : (stands : Bool) (ss : List (List ℕ)) → ArePassed (is_place key stands) (is_this_key key) ss → value_of is_key key (put_keyword key stands (k ∷ value) ss) ≡ Some value
   value-put stands [] passed = value-first value ∙ ap Some (before-whole value all)
   value-put stands (s ∷ ss) passed =
       grind (arith, nat_tests, value-put stands ss passed.1, value-here stands s ss, value-skipped s (put_keyword key stands (k ∷ value) ss))
 
 -- get after set
 pub value-with : (key : List ℕ) (value ss : List (List ℕ)) → is_key key ≡ true → AreNoKeys value → value_of is_key key (with_keyword key value ss) ≡ Some value
-value-with key value ss is all = grind (arith, nat_tests, value-put key, standing-this key ss is, passed key ss)
+value-with key value ss is all = grind (arith, nat_tests, value-put key, standing-this key ss is, passed (is_place key) (is_this_key key) (λ s. refl) ss)
 
 -- get after remove
 pub value-without : (key : List ℕ) (inside : Bool) (ss : List (List ℕ)) → value_of is_key key (without_within key inside ss) ≡ None
@@ -128,16 +132,10 @@ module _ (key other : List ℕ) (differ : are_alike key other ≡ false) where
     others-put (s ∷ ss) =
         grind (arith, common_steps, others-put ss, both-apart k (key-opens key k value this all), and_parts (is_key k) (are_alike k key) this, value-passed value (without_keyword key (s ∷ ss)) all, others-without false (s ∷ ss), before-put key k value this all stands ss)
 
-  pub others-with : (value ss : List (List ℕ)) → is_key key ≡ true → AreNoKeys value → value_of is_key other (with_keyword key value ss) ≡ value_of is_key other ss
-  others-with value ss is all = others-put (unwrap_or (find (is_this_key key) ss) key) value (standing-this key ss is) all (is_some (find (is_this_key key) ss)) ss
-
 -- ---- which values have no key
 
-not_key : (s : List ℕ) → leb 3 (length s) ≡ true → is_key s ≡ false
-not_key s long = grind (arith, nat_tests, eqb-true (length s) 2, leb-true 3 (length s) long)
-
 pub type-no_key : (s : List ℕ) → is_type s ≡ true → is_key s ≡ false
-type-no_key s is = not_key s (and_parts (leb 3 (length s)) (is_extension_subtag s) is).0
+type-no_key s is = grind (arith, nat_tests, eqb-true (length s) 2, leb-true 3 (length s) (and_parts (leb 3 (length s)) (is_extension_subtag s) is).0)
 
 -- what holds of types holds of each subtag of a value that may be set
 pub types-each :
@@ -178,7 +176,10 @@ read_after_set key value ss none = let fits = fits_from key value none in value-
 -- and other keys have the values that they had
 pub others_after_set :
     (key other : List ℕ) (value ss : List (List ℕ)) → keyword_error key value ≡ None → are_alike key other ≡ false → value_of is_key other (with_keyword key value ss) ≡ value_of is_key other ss
-others_after_set key other value ss none differ = let fits = fits_from key value none in others-with key other differ value ss fits.two fits.no_keys
+others_after_set key other value ss none differ =
+    let fits = fits_from key value none in
+    let standing = find (is_this_key key) ss in
+    others-put key other differ (unwrap_or standing key) value (standing-this key ss fits.two) fits.no_keys (is_some standing) ss
 
 -- what is removed is not there
 pub none_after_removal : (key : List ℕ) (ss : List (List ℕ)) → value_of is_key key (without_keyword key ss) ≡ None
@@ -186,3 +187,117 @@ none_after_removal key ss = value-without key false ss
 
 pub others_after_removal : (key other : List ℕ) (ss : List (List ℕ)) → are_alike key other ≡ false → value_of is_key other (without_keyword key ss) ≡ value_of is_key other ss
 others_after_removal key other ss differ = others-without key other differ false ss
+
+-- ---- the forms of extensions
+
+-- a text has a segment
+pub language-some : (text : List ℕ) (ss : List (List ℕ)) → segments text ≡ ss → is_language_id (segments text) ≡ is_language_or_none ss
+language-some text [] is = absurd (omega (arith, ap length is, length-slice_split is_hyphen text))
+language-some text (s ∷ ss) is = ap is_language_id is
+
+-- ---- which form an extension has
+
+-- the form, by what is tested
+abbrev pub form_by : Bool → Bool → Extension → Extension
+form_by u t e =
+    cond u (record { singleton = 117; subtags = unicode_form e.subtags }) (cond t (record { singleton = 116; subtags = transform_form e.subtags }) e)
+
+pub form_tested :
+    (u t a b : Bool) (e : Extension) → (is_of 117 e && not u) ≡ a → (is_of 116 e && not t && is_transform e.subtags) ≡ b → extension_form u t e ≡ form_by a b e
+form_tested u t a b e one two = ap (λ x. form_by x (is_of 116 e && not t && is_transform e.subtags) e) one ∙ ap (λ x. form_by a x e) two
+
+-- one more extension, where the tests of the extension before those that are left have the same answers
+pub forms-next :
+    (forms : Bool → Bool → List Extension) (x y : Extension) (a b c d : Bool) (others : List Extension) → x ≡ y → a ≡ b → c ≡ d → forms b d ≡ others → x ∷ forms a c ≡ y ∷ others
+forms-next forms x y a b c d others one two three four = cc
+
+-- ---- the whole tag
+
+-- what precedes the extensions, at the start of a tag
+pub head-cut : (r : Record) → take (length (join (to_variants r))) (spell r) ≡ join (to_variants r)
+head-cut r =
+    let others = flat_map extension_flat r.extensions ++ private_part_flat r.private_use in
+    let cut = take-join r.primary (r.extended ++ (one_flat r.script ++ (one_flat r.region ++ r.variants))) others in
+    simp append_assoc at cut
+
+flat-head : (p : List ℕ) (a b c d e : List (List ℕ)) → (p ∷ (a ++ (b ++ (c ++ d)))) ++ e ≡ p ∷ (a ++ (b ++ (c ++ (d ++ e))))
+flat-head p a b c d e = simp append_assoc
+
+-- a tag with other extensions, put subtag by subtag
+pub extensions_joined :
+    (r : Record) → IsWellFormed r → (es : List Extension) → fold with_subtag [] (to_variants r ++ (flat_map extension_flat es ++ private_part_flat r.private_use)) ≡ spell (record r { extensions = es })
+unfolding with_subtag
+extensions_joined r fits es =
+    ap (fold with_subtag []) (flat-head r.primary r.extended (one_flat r.script) (one_flat r.region) r.variants (flat_map extension_flat es ++ private_part_flat r.private_use))
+    ∙ sym (with_joined [] r.primary _ (of_primary r.primary fits.primary).some)
+
+pub form_joined :
+    (r : Record) → IsWellFormed r →
+    fold with_subtag [] (to_variants r ++ (flat_map extension_flat (forms_after false false r.extensions) ++ private_part_flat r.private_use)) ≡ spell (extensions_record r)
+unfolding extensions_record
+form_joined r fits = extensions_joined r fits (forms_after false false r.extensions)
+
+pub head_inside : (r : Record) → (ends_of r).variants ≤ length (spell r)
+head_inside r =
+    let order = ends_in_order r in
+    let a = order.extensions in
+    let b = order.private_use in
+    omega (arith, a, b)
+
+-- ---- a step
+
+module _ (key s : List ℕ) (ss : List (List ℕ)) where
+  -- a subtag goes with its keyword
+  pub without-gone : (inside b : Bool) → b ≡ belongs key inside s → b ≡ true → without_within key inside (s ∷ ss) ≡ without_within key b ss
+  without-gone inside b is so =
+      ap (λ t. cond t (without_within key true ss) (s ∷ without_within key false ss)) (sym is ∙ so) ∙ ap (λ t. without_within key t ss) (sym so)
+
+  -- or stays
+  pub without-kept : (inside b : Bool) → b ≡ belongs key inside s → b ≡ false → without_within key inside (s ∷ ss) ≡ s ∷ without_within key b ss
+  without-kept inside b is other =
+      ap (λ t. cond t (without_within key true ss) (s ∷ without_within key false ss)) (sym is ∙ other) ∙ ap (λ t. s ∷ without_within key t ss) (sym other)
+
+  -- the keyword goes here
+  pub put-here : (stands : Bool) (keyword : List (List ℕ)) → is_place key stands s ≡ true → put_keyword key stands keyword (s ∷ ss) ≡ keyword ++ without_keyword key (s ∷ ss)
+  put-here stands keyword is = ap (λ b. cond b (keyword ++ without_keyword key (s ∷ ss)) (s ∷ put_keyword key stands keyword ss)) is
+
+  -- or later
+  pub put-later : (stands : Bool) (keyword : List (List ℕ)) → is_place key stands s ≡ false → put_keyword key stands keyword (s ∷ ss) ≡ s ∷ put_keyword key stands keyword ss
+  put-later stands keyword other = ap (λ b. cond b (keyword ++ without_keyword key (s ∷ ss)) (s ∷ put_keyword key stands keyword ss)) other
+
+-- the keyword that is put, by the key that stands there, and where
+abbrev pub put_at_standing : List ℕ → Option (List ℕ) → List (List ℕ) → List (List ℕ) → List (List ℕ)
+put_at_standing key standing value ss = put_keyword key (is_some standing) (unwrap_or standing key ∷ value) ss
+
+-- ---- the key as it stands
+
+-- as a slice and as its bytes
+pub standing-some : (o : Option (Bor (List ℕ))) → is_some (option_map (λ t. t.now) o) ≡ is_some o
+standing-some None = refl
+standing-some (Some t) = refl
+
+pub standing-text : (o : Option (Bor (List ℕ))) (key : Bor (List ℕ)) → (unwrap_or o key).now ≡ unwrap_or (option_map (λ t. t.now) o) key.now
+standing-text None key = refl
+standing-text (Some t) key = refl
+
+-- ---- the place of `u`
+
+module _ (change : List (List ℕ) → List (List ℕ)) (stands : Bool) (e : Extension) (es : List Extension) where
+  pub u-here :
+      is_place_of_u stands e ≡ true →
+      flat_map extension_flat (changed_from change stands (e ∷ es)) ≡ flat_map extension_flat (at_place change stands e) ++ flat_map extension_flat es
+  u-here is =
+      ap (λ b. flat_map extension_flat (cond b (at_place change stands e ++ es) (e ∷ changed_from change stands es))) is ∙ flat_map-append extension_flat (at_place change stands e) es
+
+  pub u-later :
+      is_place_of_u stands e ≡ false →
+      flat_map extension_flat (changed_from change stands (e ∷ es)) ≡ extension_flat e ++ flat_map extension_flat (changed_from change stands es)
+  u-later other = ap (λ b. flat_map extension_flat (cond b (at_place change stands e ++ es) (e ∷ changed_from change stands es))) other
+
+-- ---- the whole tag
+
+pub edited_joined :
+    (key : List ℕ) (value : Option (List (List ℕ))) (r : Record) → IsWellFormed r →
+    fold with_subtag [] (to_variants r ++ (flat_map extension_flat (with_changed_u (edited key value) r.extensions) ++ private_part_flat r.private_use)) ≡ spell (edited_record key value r)
+unfolding edited_record
+edited_joined key value r fits = extensions_joined r fits (with_changed_u (edited key value) r.extensions)

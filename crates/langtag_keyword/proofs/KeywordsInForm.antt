@@ -1,24 +1,17 @@
 -- Keywords that are written in the order of their keys are read again as they are: so keywords in their form are their own
 -- form, and subtags in which each key has the same value have the same form.
-use Rattle.std.proofs.lemmas.Grind.{common_steps}
-use Rattle.std.proofs.Common.{arith}
-use Rattle.std.proofs.Common.{◌≡◌, ℕ, Bool, true, false, cond, ◌||◌, List, [], ◌∷◌, ◌++◌, map, Option, None, Some, option_map, refl, sym, ap, ◌∙◌, append-nil}
-use Rattle.std.specs.List.{AllByRecursion, filter, flat_map}
-use Rattle.std.specs.Option.{is_some, option_map_or}
-use Rattle.langtag_scan.specs.Case.{fold_text}
-use Rattle.langtag_scan.specs.CaseLaws.{are_alike-decides}
-use Rattle.langtag_scan.specs.Subtags.{join, subtags}
+use Rattle.langtag_keyword.proofs.Common.{each-weaker, common_steps, arith, ◌≡◌, ℕ, Bool, true, false, cond, ◌||◌, List, [], ◌∷◌, ◌++◌, map, Option, None, Some}
+use Rattle.langtag_keyword.proofs.Common.{option_map, refl, sym, ap, ◌∙◌, append-nil, AllByRecursion, filter, flat_map, is_some, option_map_or, fold_text}
+use Rattle.langtag_keyword.proofs.Common.{are_alike-decides, join, subtags, is_before, put_among, before_key, value_of}
 use Rattle.langtag_keyword.specs.Form as form
-use Rattle.langtag_keyword.specs.Form.{is_before, keys_in_order, put_among}
-use Rattle.langtag_keyword.specs.Keywords.{before_key, value_of}
-use Rattle.langtag_keyword.proofs.AlphabetLaws.{Rise, rise-in_alphabet}
-use Rattle.langtag_keyword.proofs.AlphabetTwice.{AreLower, lower-in_alphabet}
+use Rattle.langtag_keyword.specs.Form.{keys_in_order}
+use Rattle.langtag_keyword.proofs.AlphabetLaws.{Rise, rise-in_alphabet, AreLower, lower-in_alphabet, among, among-alphabet, before-apart, each-among, not-among}
+use Rattle.langtag_keyword.proofs.AlphabetLaws.{same-risen, under-each}
 use Rattle.langtag_keyword.proofs.KeywordBlocks.{block, blocks}
-use Rattle.langtag_keyword.proofs.AscendingTexts.{among, among-alphabet, before-apart, each-among, not-among, same-risen, under-each}
 
-pub flat-same : (f g : List ℕ → List (List ℕ)) (keys : List (List ℕ)) → AllByRecursion (λ k. f k ≡ g k) keys → flat_map f keys ≡ flat_map g keys
-flat-same f g [] same = refl
-flat-same f g (k ∷ keys) same = grind (arith, common_steps, flat-same f g keys same.1)
+pub flat-same : (P : List ℕ → Type 0) (f g : List ℕ → List (List ℕ)) → ((k : List ℕ) → P k → f k ≡ g k) → (keys : List (List ℕ)) → AllByRecursion P keys → flat_map f keys ≡ flat_map g keys
+flat-same P f g same [] all = refl
+flat-same P f g same (k ∷ keys) all = rw (same k all.0, flat-same P f g same keys all.1) refl
 
 -- a key that has no value puts nothing among the keys
 pub blocks-put :
@@ -90,11 +83,9 @@ module _ (opens : List ℕ → Bool) where
 
   -- each key in order has a value
   pub each-has : (ss : List (List ℕ)) → AllByRecursion (λ k. is_some (value_of opens k ss) ≡ true) (keys_in_order opens ss)
-  each-has ss = each (keys_in_order opens ss) (each-among [] (keys_in_order opens ss))
-    where
-      each : (ks : List (List ℕ)) → AllByRecursion (λ k. among k (keys_in_order opens ss) ≡ true) ks → AllByRecursion (λ k. is_some (value_of opens k ss) ≡ true) ks
-      each [] all = tt
-      each (k ∷ ks) all = (sym (keys-have k ss) ∙ all.0, each ks all.1)
+  each-has ss =
+      each-weaker (λ k. among k (keys_in_order opens ss) ≡ true) (λ k. is_some (value_of opens k ss) ≡ true) (λ k there. sym (keys-have k ss) ∙ there) (keys_in_order opens ss)
+      (each-among [] (keys_in_order opens ss))
 
   -- ---- keywords in their form
 
@@ -105,11 +96,9 @@ module _ (opens : List ℕ → Bool) where
 
     -- the form, key after key
     pub form-blocks : (ss : List (List ℕ)) → form.keywords_form opens canonical ss ≡ blocks (values_in_form ss) (keys_in_order opens ss)
-    form-blocks ss = flat-same (form.keyword_form opens canonical ss) (block (values_in_form ss)) (keys_in_order opens ss) (each (keys_in_order opens ss))
-      where
-        each : (keys : List (List ℕ)) → AllByRecursion (λ k. form.keyword_form opens canonical ss k ≡ block (values_in_form ss) k) keys
-        each [] = tt
-        each (k ∷ keys) = (grind (arith, common_steps), each keys)
+    form-blocks ss =
+        let same : (k : List ℕ) → form.keyword_form opens canonical ss k ≡ block (values_in_form ss) k = λ k. grind (arith, common_steps) in
+        λ i. flat_map (λ k. same k i) (keys_in_order opens ss)
 
     -- a key is among the keys of subtags in which it has a value
     has-value : (k : List ℕ) (ss : List (List ℕ)) → among k (keys_in_order opens ss) ≡ is_some (values_in_form ss k)
@@ -119,13 +108,11 @@ module _ (opens : List ℕ → Bool) where
     pub same-values :
         (ss ts : List (List ℕ)) → ((k : List ℕ) → fold_text k ≡ k → values_in_form ss k ≡ values_in_form ts k) → form.keywords_form opens canonical ss ≡ form.keywords_form opens canonical ts
     same-values ss ts same =
-        form-blocks ss ∙ flat-same (block (values_in_form ss)) (block (values_in_form ts)) (keys_in_order opens ss) (each (keys_in_order opens ss) (lower-in_alphabet (filter opens ss)))
+        form-blocks ss
+        ∙ flat-same (λ k. fold_text k ≡ k) (block (values_in_form ss)) (block (values_in_form ts)) (λ k low. ap (λ o. option_map_or (λ v. k ∷ v) o []) (same k low)) (keys_in_order opens ss)
+        (lower-in_alphabet (filter opens ss))
         ∙ ap (blocks (values_in_form ts)) keys ∙ sym (form-blocks ts)
       where
-        each : (ks : List (List ℕ)) → AreLower ks → AllByRecursion (λ k. block (values_in_form ss) k ≡ block (values_in_form ts) k) ks
-        each [] lowers = tt
-        each (k ∷ ks) lowers = (ap (λ o. option_map_or (λ v. k ∷ v) o []) (same k lowers.0), each ks lowers.1)
-
         keys : keys_in_order opens ss ≡ keys_in_order opens ts
         keys =
             same-risen (keys_in_order opens ss) (keys_in_order opens ts) (lower-in_alphabet (filter opens ss)) (lower-in_alphabet (filter opens ts)) (rise-in_alphabet (filter opens ss))

@@ -1,27 +1,22 @@
 -- The numbers of subtags are in the order of the alphabet, and tell the subtags.
-use Rattle.std.proofs.Common.{◌≡◌, ℕ, zero, suc, ◌+◌, ◌*◌, ◌<◌, ◌≤◌, ◌-◌, ◌/◌, ◌%◌, Bool, true, false, not, cond, ◌==◌, ◌&&◌, ◌||◌, List, [], ◌∷◌, ◌++◌, length, get_or, take, drop, map, append_assoc, append-nil, refl, sym, ap, subst, ◌∙◌, arith}
+use Rattle.langtag_keyword.proofs.Common.{each-weaker, ◌≡◌, ℕ, zero, suc, ◌+◌, ◌*◌, ◌<◌, ◌≤◌, ◌-◌, Bool, true, false, not, cond, ◌==◌, ◌&&◌, ◌||◌, List, []}
+use Rattle.langtag_keyword.proofs.Common.{◌∷◌, ◌++◌, length, get_or, take, drop, map, append_assoc, append-nil, refl, sym, ap, subst, ◌∙◌, arith}
+use Rattle.langtag_keyword.proofs.Common.{flat_map-append, AllByRecursion, filter, flat_map, list_any, and_parts, false≢true, nat_tests, at_drop_more}
+use Rattle.langtag_keyword.proofs.Common.{take_more, pushes_both, pushes_ended, pushes_same, Output, Pushes, length-fold, IsSubtag, fold_text, are_alphanumeric}
+use Rattle.langtag_keyword.proofs.Common.{is_alphanumeric, in_alphabet, is_before, IsOffered, Least, key_of, number_text, order_number}
+use Rattle.std.proofs.Common.{◌/◌, ◌%◌}
 use Prim.Native.Nat.{◌^◌}
 use Rattle.std.proofs.Math.Nat.{mod-eq_of_lt, pow-suc}
 use Rattle.std.specs.Int.{byte_at, bytes_high_first}
-use Rattle.std.proofs.lemmas.Grind.{flat_map-append}
-use Rattle.std.specs.List.{AllByRecursion, filter, flat_map, list_any}
-use Rattle.std.proofs.lemmas.Bool.{and_parts, false≢true, ltb-false, ltb-true}
-use Rattle.std.proofs.lemmas.Bool.Decides.{nat_tests}
+use Rattle.std.proofs.lemmas.Bool.{ltb-false, ltb-true}
 use Rattle.std.proofs.Math.Dec.{ltb}
-use Rattle.std.proofs.lemmas.List.{at_drop_more, take_more}
 use Rattle.std.proofs.lemmas.List.Elements.{filter-append}
 use Rattle.std.proofs.lemmas.Nat.{div-mul-add, mul-add-lt}
-use Rattle.langtag_output.proofs.Pushed.{pushes_both, pushes_ended, pushes_same}
-use Rattle.langtag_output.specs.declared.output.Output.{Output}
-use Rattle.langtag_output.specs.Output.{Pushes, with_subtag}
-use Rattle.langtag_scan.proofs.CaseLaw.{length-fold}
-use Rattle.langtag_scan.proofs.SubtagFacts.{IsSubtag}
-use Rattle.langtag_scan.specs.Case.{fold_byte, fold_text, folded_number}
-use Rattle.langtag_scan.specs.Class.{are_alphanumeric, is_alphanumeric, is_digit, is_letter}
-use Rattle.langtag_keyword.specs.Form.{in_alphabet, is_before}
-use Rattle.langtag_keyword.specs.Least.{HoldsLeast, IsOffered, Least, AscendsFrom, has, is_within, key_of, left_number, number_text, order_number}
-use Rattle.langtag_keyword.proofs.AlphabetLaws.{Rise, Under, rise-in_alphabet}
-use Rattle.langtag_keyword.proofs.Each.{any-put, each-put}
+use Rattle.langtag_output.specs.Output.{with_subtag}
+use Rattle.langtag_scan.specs.Case.{fold_byte, folded_number}
+use Rattle.langtag_scan.specs.Class.{is_digit, is_letter}
+use Rattle.langtag_keyword.specs.Least.{HoldsLeast, AscendsFrom, has, is_within, left_number}
+use Rattle.langtag_keyword.proofs.AlphabetLaws.{Rise, Under, rise-in_alphabet, any-put, each-put}
 use Rattle.langtag_keyword.proofs.LeastLaws.{AllUpTo, above, above-all, above-none, above-split}
 
 -- ---- bytes
@@ -70,12 +65,7 @@ left-some k (suc b) s some = omega (arith, power-some k)
 left-some k zero s some = absurd (omega (arith, some))
 
 left-less : (k x y r q : ℕ) → x < y → r < 256 ^ k → x * 256 ^ k + r < y * 256 ^ k + q
-left-less k x y r q less below = grind (arith, mul_more (256 ^ k) x y less)
-  where
-    mul_more : (p x y : ℕ) → x < y → x * p + p ≤ y * p
-    mul_more p zero (suc y) less = omega arith
-    mul_more p (suc x) (suc y) less = omega (arith, mul_more p x y (omega (arith, less)))
-    mul_more p x zero less = absurd (omega (arith, less))
+left-less k x y r q less below = grind (arith, mul-add-lt x (256 ^ k) r y less below)
 
 -- numbers are in the order of the texts
 pub left-before : (k : ℕ) (a b : List ℕ) → length a ≤ k → length b ≤ k → AreBytes a → AreBytes b → is_before a b ≡ true → left_number k a < left_number k b
@@ -242,8 +232,7 @@ each-key [] all = tt
 each-key (s ∷ ss) all = each-put IsKey (fold_text s) (in_alphabet ss) (has_number s all.0.0, length-fold s ∙ all.0.1) (each-key ss all.1)
 
 pub keys-fit : (ss : List (List ℕ)) → AreKeys ss → AllByRecursion IsSubtag ss
-keys-fit [] all = tt
-keys-fit (s ∷ ss) all = (all.0.0, keys-fit ss all.1)
+keys-fit = each-weaker (λ s. IsSubtag s × (length s ≡ 2)) IsSubtag (λ s is. is.0)
 
 pub put-keys_in_order :
     (f : List ℕ → List (List ℕ)) (ss : List (List ℕ)) → AreKeys ss →

@@ -1,23 +1,19 @@
 -- The subtags of an extension, and those before a key, in its text.
-use Rattle.std.proofs.Common.{◌≡◌, ℕ, ◌≤◌, ◌<◌, ◌+◌, ◌-◌, Bool, true, false, List, [], ◌∷◌, ◌++◌, length, take, drop, get_or, Option, None, Some, suc, refl, ap, sym, subst, ◌∙◌, arith, cond, append-nil, take-append-drop}
-use Rattle.std.specs.Str.{IsCharBoundary, IsUtf8}
-use Rattle.std.proofs.lemmas.Str.{IsCharBoundary-start, IsCharBoundary-end, IsCharBoundary-before_ascii, IsCharBoundary-after_ascii}
-use Rattle.std.proofs.lemmas.Grind.{common_steps}
+use Rattle.langtag_keyword.proofs.Common.{◌≡◌, ℕ, ◌≤◌, ◌<◌, ◌+◌, ◌-◌, Bool, true, false, List, [], ◌∷◌, ◌++◌, length, take, drop, get_or, Option, None, Some}
+use Rattle.langtag_keyword.proofs.Common.{suc, refl, ap, sym, subst, ◌∙◌, arith, cond, append-nil, zero, IsUtf8, IsCharBoundary-after_ascii, common_steps}
+use Rattle.langtag_keyword.proofs.Common.{length-append, AllByRecursion, list_any, option_map_or, length-slice_split, Extension, Record, IsWellFormed}
+use Rattle.langtag_keyword.proofs.Common.{is_hyphen, join, segments, subtags, NoHyphenWithin, hyphenated, length-join, IsSubtag, of_extension_subtag}
+use Rattle.langtag_keyword.proofs.Common.{each_subtag, subtags-joined, join-subtags, is_extension_subtag, SpellsExtension, IsExtension, find_extension}
+use Rattle.langtag_keyword.proofs.Common.{extension_found, length_with_hyphens, opens_keyword, before_key, is_new_key, keywords_after, are_alike, option_map}
+use Rattle.std.proofs.Common.{take-append-drop}
+use Rattle.std.specs.Str.{IsCharBoundary}
+use Rattle.std.proofs.lemmas.Str.{IsCharBoundary-start, IsCharBoundary-end, IsCharBoundary-before_ascii}
 use Rattle.std.proofs.Math.Seq.{get_or-append_seam, drop-cons}
-use Rattle.std.proofs.lemmas.List.{length-append}
-use Rattle.std.specs.List.{AllByRecursion}
-use Rattle.std.specs.Option.{option_map, option_map_or}
-use Rattle.std.proofs.lemmas.List.Splits.{slice_split_at, slice_split_none, length-slice_split}
-use Rattle.langtag_scan.specs.Record.{Extension, Record, IsWellFormed}
-use Rattle.langtag_scan.specs.Subtags.{is_hyphen, join, segments, subtags, IsHyphenFree, NoHyphenWithin}
-use Rattle.langtag_scan.proofs.Joins.{hyphenated, join-append, length-join, length-hyphenated, take-join}
-use Rattle.langtag_scan.proofs.SubtagFacts.{IsSubtag, of_extension_subtag}
-use Rattle.langtag_scan.proofs.SubtagLists.{each_subtag, subtags-joined, join-subtags, length-subtags}
-use Rattle.langtag_scan.specs.Class.{is_extension_subtag}
-use Rattle.langtag_extension.specs.Spelling.{SpellsExtension, IsExtension, find_extension}
-use Rattle.langtag_extension.proofs.ExtensionLookUp.{extension_found}
-use Rattle.langtag_keyword.specs.Keys.{length_with_hyphens, opens_keyword}
-use Rattle.langtag_keyword.specs.Keywords.{before_key, subtags_of}
+use Rattle.std.proofs.lemmas.List.Splits.{slice_split_at, slice_split_none}
+use Rattle.langtag_scan.specs.Subtags.{IsHyphenFree}
+use Rattle.langtag_scan.proofs.Joins.{join-append, length-hyphenated, take-join}
+use Rattle.langtag_scan.proofs.SubtagLists.{length-subtags}
+use Rattle.langtag_keyword.specs.Keywords.{subtags_of, each_once_after}
 use Rattle.langtag_keyword.specs.Transform.{some_text}
 use Rattle.langtag_keyword.specs.declared.keys.Keys.{Keys}
 use Rattle.langtag_keyword.specs.declared.keys.Keys.TheVariants.{Unicode, Transform}
@@ -191,3 +187,46 @@ pub length-all : (text : List ℕ) → length_with_hyphens (subtags text) ≤ le
 length-all text = omega (arith, length-before (subtags text) [], ap length (ap join (append-nil (subtags text)) ∙ join-subtags text))
 
 pub ruleset counted_subtags = (length-all)
+
+-- ---- one step of a walk over subtags
+
+-- those before the next subtag and this one are those before the one after it
+pub take-turn : (all : List (List ℕ)) (n : ℕ) (s : List ℕ) (rest : List (List ℕ)) → drop n all ≡ s ∷ rest → take n all ++ s ∷ [] ≡ take (n + 1) all
+take-turn [] zero s rest left = absurd cc
+take-turn [] (suc n) s rest left = absurd cc
+take-turn (x ∷ all) zero s rest left = let same : x ≡ s = cc in ap (λ y. y ∷ []) (sym same)
+take-turn (x ∷ all) (suc n) s rest left =
+    let more : suc (n + 1) ≡ suc n + 1 = omega arith in
+    ap (λ ss. x ∷ ss) (take-turn all n s rest left) ∙ ap (λ m. take m (x ∷ all)) more
+
+module _ (test : List ℕ → Bool) where
+  -- a new key
+  pub keywords-new :
+      (all : List (List ℕ)) (n : ℕ) (s : List ℕ) (rest : List (List ℕ)) (value : List ℕ) → drop n all ≡ s ∷ rest → is_new_key test (take n all) s ≡ true →
+      value ≡ join (before_key test rest) →
+      keywords_after test (take n all) (s ∷ rest) ≡ record { key = s; value = value } ∷ keywords_after test (take (n + 1) all) rest
+  keywords-new all n s rest value left new is = grind (arith, common_steps, take-turn)
+
+  -- another subtag
+  pub keywords-other :
+      (all : List (List ℕ)) (n : ℕ) (s : List ℕ) (rest : List (List ℕ)) → drop n all ≡ s ∷ rest → is_new_key test (take n all) s ≡ false →
+      keywords_after test (take n all) (s ∷ rest) ≡ keywords_after test (take (n + 1) all) rest
+  keywords-other all n s rest left other =
+      ap (λ b. cond b (record { key = s; value = join (before_key test rest) } ∷ keywords_after test (take n all ++ s ∷ []) rest) (keywords_after test (take n all ++ s ∷ []) rest)) other
+      ∙ ap (λ before. keywords_after test before rest) (take-turn all n s rest left)
+
+-- a new attribute
+pub first-new :
+    (all : List (List ℕ)) (n : ℕ) (s : List ℕ) (rest : List (List ℕ)) → drop n all ≡ s ∷ rest → list_any (are_alike s) (take n all) ≡ false →
+    each_once_after (take n all) (s ∷ rest) ≡ s ∷ each_once_after (take (n + 1) all) rest
+first-new all n s rest left new =
+    ap (λ b. cond b (each_once_after (take n all ++ s ∷ []) rest) (s ∷ each_once_after (take n all ++ s ∷ []) rest)) new
+    ∙ ap (λ before. s ∷ each_once_after before rest) (take-turn all n s rest left)
+
+-- a repeated one
+pub first-other :
+    (all : List (List ℕ)) (n : ℕ) (s : List ℕ) (rest : List (List ℕ)) → drop n all ≡ s ∷ rest → list_any (are_alike s) (take n all) ≡ true →
+    each_once_after (take n all) (s ∷ rest) ≡ each_once_after (take (n + 1) all) rest
+first-other all n s rest left old =
+    ap (λ b. cond b (each_once_after (take n all ++ s ∷ []) rest) (s ∷ each_once_after (take n all ++ s ∷ []) rest)) old
+    ∙ ap (λ before. each_once_after before rest) (take-turn all n s rest left)

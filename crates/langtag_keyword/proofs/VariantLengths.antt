@@ -1,24 +1,14 @@
 -- Variants of which no two are equal take as many bytes when each is written once.
-use Rattle.std.proofs.Common.{◌≡◌, ℕ, ◌+◌, ◌-◌, ◌<◌, ◌≤◌, true, false, cond, ◌==◌, ◌||◌, List, [], ◌∷◌, length, fold, min, refl, sym, ap, ◌∙◌, arith}
-use Rattle.std.specs.List.{AllByRecursion, list_all, list_any}
-use Rattle.std.proofs.lemmas.Bool.{and_parts}
-use Rattle.std.proofs.lemmas.List.Splits.{join_with_byte-slice_split, length-slice_split}
-use Rattle.std.proofs.lemmas.Bool.Decides.{nat_tests}
-use Rattle.langtag_output.proofs.Pushed.{with_joined}
+use Rattle.langtag_keyword.proofs.Common.{each_subtag, each_from_test, ◌≡◌, ℕ, ◌+◌, ◌-◌, ◌<◌, ◌≤◌, true, false, cond, ◌==◌, ◌||◌, List, [], ◌∷◌, length, fold}
+use Rattle.langtag_keyword.proofs.Common.{refl, sym, ap, ◌∙◌, arith, AllByRecursion, list_all, list_any, and_parts, length-slice_split, nat_tests, with_joined}
+use Rattle.langtag_keyword.proofs.Common.{with_subtag, fold_text-twice, length-fold, IsSubtag, of_variant, are_alike, fold_text, are_alike-decides, is_variant}
+use Rattle.langtag_keyword.proofs.Common.{is_hyphen, join, segments, are_different_variants, in_alphabet, is_before, put_among, length_with_hyphens}
+use Rattle.std.proofs.Common.{min}
+use Rattle.std.proofs.lemmas.List.Splits.{join_with_byte-slice_split}
 use Rattle.langtag_output.proofs.WithSubtag.{with_subtag-none}
-use Rattle.langtag_output.specs.Output.{with_subtag}
-use Rattle.langtag_scan.proofs.CaseLaw.{fold_text-twice, length-fold}
-use Rattle.langtag_scan.proofs.SubtagFacts.{IsSubtag, of_variant}
-use Rattle.langtag_scan.specs.Case.{are_alike, fold_text}
-use Rattle.langtag_scan.specs.CaseLaws.{are_alike-decides}
-use Rattle.langtag_scan.specs.Class.{is_variant}
-use Rattle.langtag_scan.specs.Subtags.{is_hyphen, join, segments}
-use Rattle.langtag_keyword.specs.Form.{are_different_variants, in_alphabet, is_before, put_among}
-use Rattle.langtag_keyword.specs.Keys.{length_with_hyphens}
-use Rattle.langtag_keyword.proofs.AlphabetLaws.{Rise, before-tie, rise-in_alphabet}
-use Rattle.langtag_keyword.proofs.AlphabetTwice.{AreLower, lower-in_alphabet}
+use Rattle.langtag_keyword.proofs.AlphabetLaws.{Rise, before-tie, rise-in_alphabet, AreLower, lower-in_alphabet, among, among-alphabet, before-apart, not-among}
+use Rattle.langtag_keyword.proofs.AlphabetLaws.{under-each}
 use Rattle.langtag_keyword.proofs.LeastTexts.{HasNumber, each-number}
-use Rattle.langtag_keyword.proofs.AscendingTexts.{among, among-alphabet, before-apart, not-among, under-each}
 use Rattle.langtag_keyword.proofs.SubtagTexts.{length-more}
 
 -- ---- the length of a text
@@ -32,7 +22,7 @@ in_order-length : (ss : List (List ℕ)) → 0 < length ss → AllByRecursion Ha
 in_order-length [] some all = absurd (omega (arith, some))
 in_order-length (s ∷ ss) some all = written-length s ss all.0.some
 
-put-some : (x : List ℕ) (ss : List (List ℕ)) → 0 < length (put_among x ss)
+pub put-some : (x : List ℕ) (ss : List (List ℕ)) → 0 < length (put_among x ss)
 put-some x [] = omega arith
 put-some x (s ∷ ss) = grind (arith, nat_tests)
 
@@ -71,12 +61,8 @@ weighs (s ∷ ss) all =
       tells = grind (arith, nat_tests, put, there, length-fold s, rest.less, rest.tells, parts.0);
     }
 
-each_variant : (ss : List (List ℕ)) → list_all is_variant ss ≡ true → AllByRecursion IsSubtag ss
-each_variant [] all = tt
-each_variant (s ∷ ss) all = let parts = and_parts (is_variant s) (list_all is_variant ss) all in (of_variant s parts.0, each_variant ss parts.1)
-
 pub are_subtags : (ss : List (List ℕ)) → list_all is_variant ss ≡ true → AllByRecursion IsSubtag ss
-are_subtags ss all = each_variant ss all
+are_subtags ss all = each_subtag is_variant of_variant ss (each_from_test is_variant ss all)
 
 pub not_variants : (ss : List (List ℕ)) → list_all is_variant ss ≡ false → are_different_variants ss ≡ false
 not_variants [] other = absurd cc
@@ -89,7 +75,7 @@ different_by [] text n all is fits counted = absurd (omega (arith, ap length is,
 different_by (s ∷ ss) text n all is fits counted =
     let weighed = weighs (s ∷ ss) all in
     let written : length (fold with_subtag [] (in_alphabet (s ∷ ss))) + 1 ≡ length_with_hyphens (in_alphabet (s ∷ ss)) =
-    in_order-length (in_alphabet (s ∷ ss)) (put-some (fold_text s) (in_alphabet ss)) (each-number (s ∷ ss) (each_variant (s ∷ ss) all)) in
+    in_order-length (in_alphabet (s ∷ ss)) (put-some (fold_text s) (in_alphabet ss)) (each-number (s ∷ ss) (are_subtags (s ∷ ss) all)) in
     let whole : length (join (s ∷ ss)) ≡ length text = ap (λ xs. length (join xs)) (sym is) ∙ ap length (join_with_byte-slice_split 45 text) in
     let more : length s + 1 + length_with_hyphens ss ≡ length text + 1 = omega (arith, length-more s ss, whole) in
     let counts : n ≡ length_with_hyphens (in_alphabet (s ∷ ss)) - 1 = omega (arith, written, more, weighed.less, counted, fits) in

@@ -109,21 +109,21 @@ pub fn type_alias_for(
     None
 }
 
-#[tactic(auto, using(crate::proofs::AliasTables::unicode_rows))]
+#[tactic(auto, using(crate::proofs::Aliases::unicode_rows))]
 fn unicode_type_aliases() -> &'static [(&'static str, &'static str, &'static str)]
     ensures { map (λ row. record { key = row.0.now; old = row.1.now; new = row.2.now }) result.now ≡ list.unicode_type_aliases }
 {
     &tables::UNICODE_TYPE_ALIASES
 }
 
-#[tactic(auto, using(crate::proofs::AliasTables::transform_rows))]
+#[tactic(auto, using(crate::proofs::Aliases::transform_rows))]
 fn transform_type_aliases() -> &'static [(&'static str, &'static str, &'static str)]
     ensures { map (λ row. record { key = row.0.now; old = row.1.now; new = row.2.now }) result.now ≡ list.transform_type_aliases }
 {
     &tables::TRANSFORM_TYPE_ALIASES
 }
 
-#[tactic(auto, using(crate::proofs::AliasTables::subdivision_rows))]
+#[tactic(auto, using(crate::proofs::Aliases::subdivision_rows))]
 fn subdivision_aliases() -> &'static [(&'static str, &'static str)]
     ensures { map (λ row. record { old = row.0.now; new = row.1.now }) result.now ≡ list.subdivision_aliases }
 {

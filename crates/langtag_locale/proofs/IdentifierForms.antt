@@ -1,39 +1,34 @@
 -- The form of a language identifier has a language, and maybe a script and a region.
-use Rattle.std.proofs.Common.{◌≡◌, ℕ, Bool, true, cond, List, [], ◌∷◌, ◌++◌, ◌&&◌, length, fold, Option, Some, None, unwrap_or, refl, sym, ap, ◌∙◌, append_assoc, arith}
-use Rattle.std.proofs.lemmas.Grind.{common_steps}
-use Rattle.std.proofs.lemmas.List.{length-map}
-use Rattle.std.specs.List.{flat_map, list_all}
-use Rattle.std.specs.Prelude.{IfSome, IsTrue}
+use Rattle.langtag_keyword.proofs.Common.{each-weaker, ◌≡◌, ℕ, Bool, true, cond, List, [], ◌∷◌, ◌++◌, ◌&&◌, length, fold, Option, Some, None, unwrap_or, refl}
+use Rattle.langtag_keyword.proofs.Common.{sym, ap, ◌∙◌, append_assoc, arith, common_steps, length-map, flat_map, list_all, AllByRecursion, IsTrue, with_joined}
+use Rattle.langtag_keyword.proofs.Common.{of_primary, IsSubtag, of_variant, are_alike, is_region, is_script, is_variant, IsWellFormed, Record, extension_flat}
+use Rattle.langtag_keyword.proofs.Common.{one_flat, private_part_flat, spell, segments, Alias, TypeAlias, alias_for, is_unicode_language, both, found_has}
+use Rattle.langtag_keyword.proofs.Common.{nat_tests, each-append}
+use Rattle.std.specs.Prelude.{IfSome}
 use Rattle.langtag_case.proofs.RecommendedLaws.{recommended_alike}
 use Rattle.langtag_case.specs.RecommendedCase.{recommended_text}
 use Rattle.langtag.proofs.FieldClasses.{from_region, from_script}
 use Rattle.langtag_likely.specs.Aliases.{language_aliases, region_replacements}
 use Rattle.langtag.specs.FieldClasses.{is_region_field, is_script_field}
-use Rattle.langtag_likely.specs.Likely as likely
-use Rattle.langtag_likely.specs.Likely.{Likely, are_alike_fields, filled, language_alone, likely_for, looked_up, or_else, or_other}
+use Rattle.langtag_likely.specs.Likely.{Likely, are_alike_fields, language_alone, likely_for, looked_up, or_else, or_other}
 use Rattle.langtag.specs.Fields.{Fields, subtag_of}
 use Rattle.langtag_likely.specs.LikelySubtags.{language_rows, likely_subtags, other_rows}
 use Rattle.langtag_likely.specs.Matching.{language_replaced, region_alone}
 use Rattle.langtag_output.specs.Output.{with_subtag}
-use Rattle.langtag_output.proofs.Pushed.{with_joined}
 use Rattle.langtag_scan.proofs.NormalTexts.{spelled_once}
-use Rattle.langtag_scan.proofs.SubtagFacts.{of_primary}
-use Rattle.langtag_scan.specs.Case.{are_alike, fold_byte}
-use Rattle.langtag_scan.specs.Class as class
-use Rattle.langtag_scan.specs.Class.{is_region, is_script}
-use Rattle.langtag_scan.specs.Record.{IsWellFormed, Record, Spells, extension_flat, one_flat, private_part_flat, spell}
-use Rattle.langtag_scan.specs.Subtags.{segments}
+use Rattle.langtag_scan.specs.Case.{fold_byte}
+use Rattle.langtag_scan.specs.Record.{Spells}
 use Rattle.langtag_scan.specs.Tag.{IsNormal}
-use Rattle.langtag_keyword.specs.Alias.{Alias, TypeAlias, alias_for}
-use Rattle.langtag_keyword.specs.Form.{is_unicode_language}
 use Rattle.langtag_locale.specs.Locale.{is_locale_record}
-use Rattle.langtag_locale.specs.LocaleAliases as list
-use Rattle.langtag_locale.specs.LocaleForm as form
-use Rattle.langtag_locale.specs.LocaleForm.{IsLocaleForm, extensions_in_order, has_variant, identifier_form, language_after, locale_record, locale_text, new_variants, record_fields, sign_for}
+use Rattle.langtag_locale.specs.LocaleForm.{IsLocaleForm, extensions_in_order, identifier_form, language_after, locale_record, locale_text, new_variants}
+use Rattle.langtag_locale.specs.LocaleForm.{record_fields, sign_for, forms, variant_form}
 use Rattle.langtag_unicode.specs.Identifier.{identifier_flat}
 use Rattle.langtag_locale.proofs.LocaleTables.{found_good, heir_good, region_heirs_good, scripts_good, variant_regions_good}
-use Rattle.langtag_keyword.proofs.Found.{both, found_has}
-use Rattle.langtag_unicode.proofs.IdentifierParts.{AreSubtags, language_primary}
+use Rattle.langtag_unicode.proofs.IdentifierParts.{AreSubtags, language_primary, AreVariants}
+use Rattle.langtag_likely.specs.Likely as likely
+use Rattle.langtag_scan.specs.Class as class
+use Rattle.langtag_locale.specs.LocaleAliases as list
+use Rattle.langtag_locale.specs.LocaleForm as form
 
 abbrev are_subtags : Fields → Bool
 are_subtags f = is_unicode_language f.language && (is_script_field f.script && is_region_field f.region)
@@ -125,13 +120,10 @@ sign_subtags f are =
 other_region-subtags : (f : Fields) (region : List ℕ) → AreSubtags f → is_region_field region ≡ true → AreSubtags (form.other_region f region)
 other_region-subtags f region are good = record { language = are.language; script = are.script; region = good }
 
-brought_good : (variants : List (List ℕ)) → is_region_field (form.variants_region variants list.variant_regions) ≡ true
-brought_good variants = grind (arith, common_steps, found_has, variant_regions_good)
-
 variant_region-subtags : (variants : List (List ℕ)) (f : Fields) → AreSubtags f → AreSubtags (form.variant_region variants f)
 unfolding form.variant_region
 variant_region-subtags variants f are =
-    other_region-subtags f _ are (either_good is_region_field f.region (form.variants_region variants list.variant_regions) are.region (brought_good variants))
+    other_region-subtags f _ are (either_good is_region_field f.region (form.variants_region variants list.variant_regions) are.region (grind (arith, common_steps, found_has, variant_regions_good)))
 
 looked_up_good : (f to : Fields) → looked_up likely_subtags f ≡ Some to → is_region_field to.region ≡ true
 looked_up_good f =
@@ -210,3 +202,31 @@ form_is old new r spells locale is = record {
       ∙ ap (λ p. cond (is_locale_record p) (Some (locale_text p)) None) (spelled_once r q spells.0 also.0 (spells.1 ∙ sym also.1));
   absent = λ other. absurd (other (r, spells));
 }
+
+-- ---- the forms of variants are variants
+
+pairs_good : list_all {X = TypeAlias} (λ alias. is_variant alias.new) list.variant_pairs ≡ true
+unfolding list.variant_pairs class.is_variant class.is_letter class.is_digit
+pairs_good = refl
+
+aliases_good : list_all {X = Alias} (λ alias. is_variant alias.new) list.variant_aliases ≡ true
+unfolding list.variant_aliases class.is_variant class.is_letter class.is_digit
+aliases_good = refl
+
+pub variant_good : (language : List ℕ) (variants : List (List ℕ)) (v : List ℕ) → is_variant v ≡ true → AreVariants (one_flat (subtag_of (variant_form language variants v)))
+unfolding variant_form
+variant_good language variants v is = grind (arith, nat_tests, found_good is_variant, aliases_good, found_has, pairs_good)
+
+pub forms_good : (language : List ℕ) (variants vs : List (List ℕ)) → AreVariants vs → AreVariants (forms language variants vs)
+forms_good language variants [] are = tt
+forms_good language variants (v ∷ vs) are =
+    each-append _ (one_flat (subtag_of (variant_form language variants v))) (forms language variants vs) (variant_good language variants v are.0) (forms_good language variants vs are.1)
+
+variants_fit : (ss : List (List ℕ)) → AreVariants ss → AllByRecursion IsSubtag ss
+variants_fit = each-weaker (λ v. is_variant v ≡ true) IsSubtag of_variant
+
+pub variant_fits : (language : List ℕ) (variants : List (List ℕ)) (v : List ℕ) → is_variant v ≡ true → AllByRecursion IsSubtag (one_flat (subtag_of (variant_form language variants v)))
+variant_fits language variants v is = variants_fit _ (variant_good language variants v is)
+
+pub forms_fit : (language : List ℕ) (variants vs : List (List ℕ)) → AreVariants vs → AllByRecursion IsSubtag (forms language variants vs)
+forms_fit language variants vs are = variants_fit _ (forms_good language variants vs are)

@@ -1,20 +1,14 @@
 -- A variant keeps its form if its number is not one of those in the table.
-use Rattle.std.proofs.Common.{arith}
-use Rattle.std.proofs.Common.{◌≡◌, ℕ, Bool, true, false, ◌==◌, ◌&&◌, ◌||◌, List, [], ◌∷◌, map, refl, sym, ap, ◌∙◌}
-use Rattle.std.proofs.lemmas.Bool.{false_from_ne_true, false≢true}
-use Rattle.std.specs.List.{list_all, list_any}
+use Rattle.langtag_keyword.proofs.Common.{arith, ◌≡◌, ℕ, Bool, true, false, ◌==◌, ◌&&◌, ◌||◌, List, [], ◌∷◌, map, refl, sym, ap, ◌∙◌, false_from_ne_true}
+use Rattle.langtag_keyword.proofs.Common.{false≢true, list_all, list_any, IsSubtag, are_alike, are_alike-decides, one_flat, Alias, TypeAlias, order_number}
+use Rattle.langtag_keyword.proofs.Common.{both}
 use Rattle.langtag.specs.Fields.{subtag_of}
-use Rattle.langtag_scan.proofs.SubtagFacts.{IsSubtag}
-use Rattle.langtag_scan.specs.Case.{are_alike, fold_byte}
-use Rattle.langtag_scan.specs.CaseLaws.{are_alike-decides}
-use Rattle.langtag_scan.specs.Record.{one_flat}
-use Rattle.langtag_keyword.specs.Alias.{Alias, TypeAlias}
-use Rattle.langtag_keyword.specs.Least.{left_number, order_number}
+use Rattle.langtag_scan.specs.Case.{fold_byte}
+use Rattle.langtag_keyword.specs.Least.{left_number}
 use Rattle.langtag_locale.specs.LocaleAliases as list
 use Rattle.langtag_locale.specs.LocaleForm.{has_variant, is_pair_of, variant_form}
 use Rattle.langtag_locale.specs.declared.locale_tables.TheConstants.{CHANGING_VARIANTS}
-use Rattle.langtag_keyword.proofs.Found.{both}
-use Rattle.langtag_locale.proofs.IdentifierLast.{none_found, not_both}
+use Rattle.langtag_locale.proofs.IdentifierTwice.{none_found, not_both}
 
 -- whether the number of a text is in the table
 is_listed : List ℕ → Bool

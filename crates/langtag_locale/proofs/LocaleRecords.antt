@@ -1,43 +1,120 @@
 -- The form of a Unicode locale identifier is a tag.
-use Rattle.std.proofs.lemmas.Grind.{common_steps}
-use Rattle.std.proofs.Common.{◌≡◌, ℕ, ◌≤◌, true, List, [], ◌∷◌, length, inl, inr, refl, sym, ap, ◌∙◌, arith}
-use Rattle.std.proofs.lemmas.Bool.Decides.{nat_tests}
-use Rattle.std.specs.Prelude.{IfSome, IsTrue}
-use Rattle.std.specs.List.{AllByRecursion, flat_map, list_all}
+use Rattle.langtag_keyword.proofs.Common.{common_steps, flat_map-append, ◌≡◌, ◌<◌, List, ℕ, Bool, [], ◌∷◌, ◌++◌, ◌&&◌, true, false, cond, length, get_or, map}
+use Rattle.langtag_keyword.proofs.Common.{Option, None, Some, option_map, refl, sym, ap, ◌∙◌, arith, append-nil, ◌≤◌, inl, inr, false≢true, AllByRecursion}
+use Rattle.langtag_keyword.proofs.Common.{flat_map, list_all, option_map_or, extension_found, SpellsExtension, SpellsExtensions, extension_spelling}
+use Rattle.langtag_keyword.proofs.Common.{find_extension, fold_byte, length-join, is_primary, is_region, is_script, Extension, IsWellFormedExtension}
+use Rattle.langtag_keyword.proofs.Common.{extension_flat, IsWellFormed, Record, one_flat, spell, is_of, is_transform, unicode_form, is_language_or_none}
+use Rattle.langtag_keyword.proofs.Common.{nat_tests, IsTrue, IsSubtag, of_primary, of_variant, each-append, both, found_has}
+use Rattle.std.proofs.lemmas.List.Folds.{list_all_at}
+use Rattle.langtag_extension.proofs.ExtensionLookUp.{first_byte-spelling}
+use Rattle.langtag_registry.specs.Noted.{of_singleton}
+use Rattle.langtag_scan.specs.Class.{is_singleton, is_extension_subtag}
+use Rattle.langtag_locale.specs.Locale.{is_locale_extension, is_unicode_subtag, is_locale_record}
+use Rattle.langtag_registry.specs.Canonical.{singletons}
+use Rattle.langtag_locale.specs.LocaleForm.{extension_at, locale_extension_form, locale_transform_form, identifier_form, locale_record, locale_text}
+use Rattle.langtag_locale.specs.LocaleForm.{new_variants, record_fields, transform_language_form}
+use Rattle.std.specs.Prelude.{IfSome}
 use Rattle.langtag_case.proofs.RecommendedLaws.{recommended_alike}
-use Rattle.langtag_extension.proofs.ExtensionLookUp.{extension_found}
 use Rattle.langtag.specs.FieldClasses.{is_region_field, is_script_field}
 use Rattle.langtag.specs.Fields.{Fields, subtag_of}
 use Rattle.langtag_likely.specs.Matching.{language_replaced}
-use Rattle.langtag_scan.proofs.CaseLaw.{alike_tag, classes-fold}
+use Rattle.langtag_scan.proofs.CaseLaw.{alike_tag}
 use Rattle.langtag_scan.proofs.Disjoint.{region_two_three, script_four, variant_long}
-use Rattle.langtag_scan.proofs.SubtagFacts.{IsSubtag, of_primary, of_region, of_script, of_variant}
-use Rattle.langtag_scan.proofs.SubtagLists.{each-append}
-use Rattle.langtag_scan.specs.Class as class
-use Rattle.langtag_scan.specs.Class.{is_extension_subtag, is_primary, is_region, is_script, is_variant}
-use Rattle.langtag_scan.specs.Record.{Extension, IsWellFormed, IsWellFormedExtension, Record, one_flat, spell}
-use Rattle.langtag_scan.specs.Stage.{Classes}
+use Rattle.langtag_scan.proofs.SubtagFacts.{of_region, of_script}
 use Rattle.langtag_scan.specs.Tag.{IsNormal, IsTag}
 use Rattle.langtag_tables.proofs.Letters.{primary_length}
-use Rattle.langtag_keyword.specs.Form.{is_language_or_none, is_transform}
-use Rattle.langtag_locale.specs.Locale.{is_locale_extension, is_locale_record}
-use Rattle.langtag_registry.specs.Canonical.{singletons}
-use Rattle.langtag_locale.specs.LocaleForm.{extension_at, forms, identifier_form, locale_extension_form, locale_record, locale_text, locale_transform_form, new_variants, record_fields, transform_language_form}
 use Rattle.langtag_unicode.specs.Identifier.{identifier_flat}
-use Rattle.langtag_keyword.proofs.Each.{each-alphabet}
+use Rattle.langtag_keyword.proofs.ExtensionsPut.{AreLeft, left-opens}
+use Rattle.langtag_unicode.proofs.FormTwice.{alphabet-variants}
 use Rattle.langtag_unicode.proofs.FormRecords.{Good, good-keywords, good-transform, good-unicode_form, some-transform, some-unicode_form}
-use Rattle.langtag_locale.proofs.IdentifierForms.{form_subtags, record_subtags}
+use Rattle.langtag_locale.proofs.IdentifierForms.{form_subtags, record_subtags, forms_good}
 use Rattle.langtag_unicode.proofs.IdentifierParts.{AreSubtags, language_primary, fields_good, AreVariants, different_variants}
-use Rattle.langtag_locale.proofs.LocaleExtensions.{locale_form_by, locale_form_tested, transform_allowed}
-use Rattle.langtag_keyword.proofs.Found.{both, found_has}
-use Rattle.langtag_locale.proofs.VariantForms.{forms_good}
+use Rattle.langtag_scan.specs.Class as class
+
+-- whether all extensions are allowed depends on those that are left alone
+abbrev pub AreAsked : List Extension → List (List ℕ) → Type 0
+AreAsked all texts = AreLeft (λ left. list_all is_locale_extension left ≡ list_all is_locale_extension all) texts
+
+-- the first of them is allowed, or is not
+pub asked-first :
+    (all : List Extension) (texts rest : List (List ℕ)) (x : List ℕ) (b : Bool) → texts ≡ x ∷ rest → AreAsked all texts → ((e : Extension) → SpellsExtension e x → b ≡ is_locale_extension e) →
+    AreLeft (λ left. (b && list_all is_locale_extension left) ≡ list_all is_locale_extension all) rest
+asked-first all texts rest x b first so_far is =
+    let o = left-opens (λ left. list_all is_locale_extension left ≡ list_all is_locale_extension all) texts so_far rest x first in
+    let es = o.others.left in
+    record { left = es; spelled = o.others.spelled; members = o.others.members; holds = ap (λ t. t && list_all is_locale_extension es) (is o.first o.spells) ∙ o.others.holds }
+
+-- ---- the extension with a singleton
+
+-- the extension of a text that is found
+pub record FoundExtension (singleton : ℕ) (es : List Extension) (text : List ℕ) : Type 0 where
+  pub one : Extension
+  pub found : find_extension singleton es ≡ Some one
+  pub spells : SpellsExtension one text
+
+pub found_one :
+    (singleton : ℕ) (es : List Extension) → AllByRecursion IsWellFormedExtension es → (text : List ℕ) → Some text ≡ option_map extension_spelling (find_extension singleton es) →
+    FoundExtension singleton es text
+found_one singleton es members text same = by_found (find_extension singleton es) refl same
+  where
+    by_found : (o : Option Extension) → find_extension singleton es ≡ o → Some text ≡ option_map extension_spelling o → FoundExtension singleton es text
+    by_found None is same = absurd cc
+    by_found (Some e) is same = record { one = e; found = is; spells = record { member = extension_found singleton es members e is; joined = cc } }
+
+pub none_found : (o : Option Extension) → None ≡ option_map extension_spelling o → o ≡ None
+none_found None same = refl
+none_found (Some e) same = absurd cc
+
+-- the empty text spells no extensions
+pub none_spelled : (es : List Extension) (text : List ℕ) → SpellsExtensions es text → text ≡ [] → es ≡ []
+none_spelled [] text spells none = refl
+none_spelled (e ∷ es) text spells none = absurd (omega (arith, length-join (e.singleton ∷ []) (e.subtags ++ flat_map extension_flat es), ap length (spells.joined ∙ none)))
+
+-- a singleton with which no text begins
+pub not_noted : (singleton : ℕ) (es : List Extension) → of_singleton (fold_byte singleton) (map extension_spelling es) ≡ [] → find_extension singleton es ≡ None
+not_noted singleton [] none = refl
+not_noted singleton (e ∷ es) none = grind (arith, common_steps, not_noted singleton es, first_byte-spelling)
+
+-- ---- the forms
+
+-- the form, by what is tested
+abbrev pub locale_form_by : Bool → Bool → Extension → Extension
+locale_form_by u t e =
+    cond u (record { singleton = 117; subtags = unicode_form e.subtags }) (cond t (record { singleton = 116; subtags = locale_transform_form e.subtags }) e)
+
+pub locale_form_tested : (a b : Bool) (e : Extension) → is_of 117 e ≡ a → is_of 116 e ≡ b → locale_extension_form e ≡ locale_form_by a b e
+locale_form_tested a b e one two = ap (λ x. locale_form_by x (is_of 116 e) e) one ∙ ap (λ x. locale_form_by a x e) two
+
+-- a `t` that is allowed is well-formed
+pub transform_allowed : (e : Extension) → is_of 117 e ≡ false → is_of 116 e ≡ true → is_locale_extension e ≡ true → is_transform e.subtags ≡ true
+transform_allowed e one two allowed =
+    sym (ap (λ x. cond x (list_all is_unicode_subtag e.subtags) (cond (is_of 116 e) (is_transform e.subtags) true)) one ∙ ap (λ x. cond x (is_transform e.subtags) true) two) ∙ allowed
+
+-- the form of the extension with a singleton, as subtags
+pub at_found : (es : List Extension) (singleton : ℕ) (e : Extension) → find_extension singleton es ≡ Some e → flat_map extension_flat (extension_at es singleton) ≡ extension_flat (locale_extension_form e)
+at_found es singleton e found =
+    ap (λ o. flat_map extension_flat (option_map_or (λ e. locale_extension_form e ∷ []) o [])) found ∙ append-nil (extension_flat (locale_extension_form e))
+
+pub at_nothing : (es : List Extension) (singleton : ℕ) → find_extension singleton es ≡ None → flat_map extension_flat (extension_at es singleton) ≡ []
+at_nothing es singleton none = ap (λ o. flat_map extension_flat (option_map_or (λ e. locale_extension_form e ∷ []) o [])) none
+
+-- the forms of all extensions, as subtags
+pub flat_of_each :
+    (es : List Extension) (bytes : List ℕ) → flat_map extension_flat (flat_map (extension_at es) bytes) ≡ flat_map (λ singleton. flat_map extension_flat (extension_at es singleton)) bytes
+flat_of_each es [] = refl
+flat_of_each es (b ∷ bytes) = flat_map-append extension_flat (extension_at es b) (flat_map (extension_at es) bytes) ∙ ap (λ t. flat_map extension_flat (extension_at es b) ++ t) (flat_of_each es bytes)
+
+-- each of the bytes is a singleton
+pub each_singleton : (k : ℕ) → k < length singletons → is_singleton (get_or singletons k 0) ≡ true
+unfolding class.is_singleton class.is_letter class.is_digit class.is_mark
+each_singleton k inside =
+    let all : list_all is_singleton singletons ≡ true = refl in
+    grind (arith, common_steps, all, list_all_at is_singleton singletons k 0 inside, false≢true)
 
 -- ---- the variants
 
 pub new_variants_good : (variants : List (List ℕ)) (f : Fields) → AreVariants variants → AreVariants (new_variants variants f)
-new_variants_good variants f are =
-    each-alphabet (λ v. IsTrue (is_variant v)) (λ v is. ap (λ (c : Classes). c.variant) (classes-fold v) ∙ is) (forms (language_replaced f).language variants variants)
-    (forms_good (language_replaced f).language variants variants are)
+new_variants_good variants f are = alphabet-variants _ (forms_good (language_replaced f).language variants variants are)
 
 -- ---- the subtags of a language identifier may be in an extension
 

@@ -1,24 +1,170 @@
 -- The form of any tag is that of a Unicode locale identifier, and its own form; alike tags have the same form.
-use Rattle.std.proofs.lemmas.Grind.{common_steps}
-use Rattle.std.proofs.Common.{arith}
-use Rattle.std.proofs.Common.{◌≡◌, ℕ, cond, List, [], ◌∷◌, map, Option, Some, None, inl, inr, refl, sym, ap, ◌∙◌}
-use Rattle.std.proofs.lemmas.Option.{none-some}
+use Rattle.langtag_keyword.proofs.Common.{◌≡◌, ℕ, ◌+◌, Bool, true, false, List, [], ◌∷◌, ◌++◌, drop, length, Option, Some, None, inl, inr, refl, sym, ap, ◌∙◌}
+use Rattle.langtag_keyword.proofs.Common.{arith, append_assoc, cond, map, false≢true, length-append, IsCharBoundary-after_ascii, IsUtf8, flat_map, nat_tests}
+use Rattle.langtag_keyword.proofs.Common.{is_extended, EachRecord, IsWellFormed, Record, extension_flat, one_flat, private_part_flat, join, common_steps}
+use Rattle.langtag_keyword.proofs.Common.{fold_text-twice, AlikeRecords, Alike, fold_text}
+use Rattle.std.proofs.Common.{◌⊎◌}
+use Rattle.std.proofs.Math.Seq.{get_or-append_seam}
+use Rattle.std.proofs.lemmas.List.{drop_at, length_push}
+use Rattle.std.proofs.lemmas.Option.{none-some, same_Some}
+use Rattle.std.specs.Str.{IsCharBoundary}
 use Rattle.langtag.specs.Part.{PartOf}
 use Rattle.langtag.specs.Registered.{IsGrandfathered}
+use Rattle.langtag_language.proofs.Rules.{subtags-extension}
+use Rattle.langtag_language.specs.Language.{SpellsLanguageExtension}
+use Rattle.langtag_registry.specs.Fields.{preferred_tag}
+use Rattle.langtag_registry.specs.Registered.{is_registered_extlang}
+use Rattle.langtag_scan.proofs.NormalTexts.{normal_or_not, spelled_once}
+use Rattle.langtag_scan.specs.Record.{Spells}
+use Rattle.langtag_scan.specs.Tag.{IsNormal}
+use Rattle.langtag_tables.proofs.Letters.{extended_primary}
+use Rattle.langtag_locale.specs.Locale.{IsLocale, is_locale_record}
+use Rattle.langtag_locale.specs.LocaleForm.{IsLocaleForm, IsWholeForm, extlang_replaced, locale_text, record_form, replace_language, IsOwnForm}
 use Rattle.langtag_registry.proofs.AlikeForms.{grandfathered_alike, preferred_tag-alike}
 use Rattle.langtag_registry.proofs.ReplacedSubtags.{registered_extlang-alike}
-use Rattle.langtag_registry.specs.Fields.{preferred_tag}
-use Rattle.langtag_scan.proofs.CaseLaw.{alike_normal, alike_parts, fold_text-twice}
-use Rattle.langtag_scan.proofs.NormalTexts.{normal_or_not}
-use Rattle.langtag_scan.specs.AlikeRecords.{AlikeRecords, fold_record}
-use Rattle.langtag_scan.specs.Case.{Alike, fold_text}
-use Rattle.langtag_scan.specs.Record.{Record}
-use Rattle.langtag_scan.specs.Tag.{IsNormal}
-use Rattle.langtag_locale.specs.Locale.{IsLocale, is_locale_record}
-use Rattle.langtag_locale.specs.LocaleForm.{IsOwnForm, IsWholeForm, extlang_replaced, locale_text, record_form, replace_language}
+use Rattle.langtag_scan.proofs.CaseLaw.{alike_normal, alike_parts}
+use Rattle.langtag_scan.specs.AlikeRecords.{fold_record}
 use Rattle.langtag_locale.proofs.LocaleCase.{locale-alike, text-alike}
 use Rattle.langtag_locale.proofs.LocaleTwice.{text-own}
-use Rattle.langtag_locale.proofs.WholeForms.{locale_or_not, own_form, whole_of_record}
+
+-- ---- the extended language takes the place of the language
+
+-- a text of three letters is the only extended subtag
+pub only_one : (extended : List (List ℕ)) (text : List ℕ) → SpellsLanguageExtension extended text → is_extended text ≡ true → extended ≡ text ∷ []
+only_one extended text spells is = grind (arith, nat_tests, subtags-extension extended text spells, subtags-extension (text ∷ []) text)
+
+-- the record from the extended language on
+abbrev from : List ℕ → Record → Record
+from extlang r = record r { primary = extlang; extended = [] }
+
+replaced_from : (extended : List (List ℕ)) (extlang : List ℕ) (r : Record) → extended ≡ extlang ∷ [] → is_registered_extlang extlang ≡ true → replace_language extended r ≡ from extlang r
+replaced_from extended extlang r one known = rw (one, known) refl
+
+after_first : (x y : List ℕ) (ys : List (List ℕ)) → drop (length x + 1) (join (x ∷ y ∷ ys)) ≡ join (y ∷ ys)
+after_first x y ys =
+    ap (drop (length x + 1)) (sym (append_assoc x (45 ∷ []) (join (y ∷ ys)))) ∙ drop_at (x ++ 45 ∷ []) (join (y ∷ ys)) (length x + 1) (length_push x 45)
+
+from_well_formed : (r : Record) (extlang : List ℕ) → IsWellFormed r → is_extended extlang ≡ true → IsWellFormed (from extlang r)
+from_well_formed r extlang fits is = grind (arith, nat_tests, extended_primary extlang is)
+
+-- the subtags after it
+abbrev others : Record → List (List ℕ)
+others r = one_flat r.script ++ (one_flat r.region ++ (r.variants ++ (flat_map extension_flat r.extensions ++ private_part_flat r.private_use)))
+
+cut_text : (r : Record) (extlang text : List ℕ) → Spells r text → r.extended ≡ extlang ∷ [] → text ≡ join (r.primary ∷ extlang ∷ others r)
+cut_text r extlang text spells one = sym spells.1 ∙ ap (λ es. join (r.primary ∷ (es ++ others r))) one
+
+-- the text of that record is the rest of the tag
+pub rest_spelled :
+    (r : Record) (text extension extlang primary rest : List ℕ) → Spells r text → SpellsLanguageExtension r.extended extension → extlang ≡ extension → is_extended extlang ≡ true →
+    is_registered_extlang extlang ≡ true → primary ≡ r.primary → rest ≡ drop (length primary + 1) text → Spells (extlang_replaced r) rest
+rest_spelled r text extension extlang primary rest spells members whole_extension is known same cut =
+    grind (arith, nat_tests, only_one, cut_text, after_first, replaced_from, from_well_formed)
+
+-- the tag may be cut there
+pub rest_boundary :
+    (r : Record) (text extlang primary : List ℕ) → Spells r text → SpellsLanguageExtension r.extended extlang → is_extended extlang ≡ true → primary ≡ r.primary → IsUtf8 text →
+    IsCharBoundary text (length primary + 1)
+rest_boundary r text extlang primary spells members is same utf8 =
+    grind (arith, nat_tests, cut_text, only_one, IsCharBoundary-after_ascii, length-append, get_or-append_seam)
+
+-- ---- the form of a Unicode locale identifier
+
+record_form-none : (r : Record) → (is_locale_record r ≡ true → ⊥) → None ≡ record_form r
+record_form-none r outside = grind (arith, nat_tests)
+
+pub none_form : (tag : List ℕ) → (IsLocale tag → ⊥) → IsLocaleForm tag None
+none_form tag outside = record { part = λ r spells. record_form-none r (λ locale. outside (r, spells, locale)); absent = λ other. refl }
+
+-- ---- the form of any tag
+
+pub own_form : (tag : List ℕ) (form : Option (List ℕ)) → IsLocale tag → IsLocaleForm tag form → IsWholeForm tag form
+own_form tag form is of = record { locale = λ _. of; whole = λ outside. absurd (outside is); kept = λ outside. absurd (outside is); parts = λ outside. absurd (outside is) }
+
+pub value_form : (tag value : List ℕ) (form : Option (List ℕ)) → (IsLocale tag → ⊥) → preferred_tag tag ≡ Some value → IsLocaleForm value form → IsWholeForm tag form
+value_form tag value form outside found of = grind (arith, nat_tests, same_Some value, none-some value)
+
+abbrev IsPartsForm : List ℕ → Option (List ℕ) → Type 0
+IsPartsForm tag form = PartOf tag (λ r. record_form (extlang_replaced r)) None form
+
+parts_form : (tag : List ℕ) (form : Option (List ℕ)) → (IsLocale tag → ⊥) → preferred_tag tag ≡ None → (IsGrandfathered tag → ⊥) → IsPartsForm tag form → IsWholeForm tag form
+parts_form tag form outside none new of = grind (arith, nat_tests, none-some)
+
+pub rest_form :
+    (tag rest : List ℕ) (form : Option (List ℕ)) → (IsLocale tag → ⊥) → preferred_tag tag ≡ None → (IsGrandfathered tag → ⊥) → IsNormal tag →
+    EachRecord tag (λ r. Spells (extlang_replaced r) rest) → IsLocaleForm rest form → IsWholeForm tag form
+rest_form tag rest form outside none new normal spelled of = grind (arith, nat_tests, parts_form tag form outside none new)
+
+-- a tag that stays as it is has no form
+pub stays_none : (tag : List ℕ) → (IsLocale tag → ⊥) → preferred_tag tag ≡ None → (IsGrandfathered tag → ⊥) → EachRecord tag (λ r. extlang_replaced r ≡ r) → IsWholeForm tag None
+stays_none tag outside none new stays =
+    parts_form tag None outside none new (record {
+      part = λ r spells. record_form-none r (λ locale. outside (r, spells, locale)) ∙ ap record_form (sym (stays r spells));
+      absent = λ other. refl;
+    })
+
+-- ---- a form is that of a Unicode locale identifier
+
+record_form-some : (r : Record) (form : List ℕ) → Some form ≡ record_form r → (is_locale_record r ≡ true) × (form ≡ locale_text r)
+record_form-some r form is = grind (arith, nat_tests)
+
+-- the record of which a text is the form
+abbrev pub IsOfRecord : List ℕ → Type 0
+IsOfRecord form = (r : Record) × IsWellFormed r × (is_locale_record r ≡ true) × (form ≡ locale_text r)
+
+part_of_record :
+    (text form : List ℕ) (new : Record → Record) → ((r : Record) → IsWellFormed r → IsWellFormed (new r)) →
+    PartOf text (λ r. record_form (new r)) None (Some form) → IsOfRecord form
+unfolding IsNormal
+part_of_record text form new fits of = elim (normal_or_not text) [
+  | inl (r, spells) ↦ (let is = record_form-some (new r) form (of.part r spells) in (new r, fits r spells.0, is.0, is.1))
+  | inr other ↦ absurd (none-some form (sym (of.absent other)))
+]
+
+replaced_well_formed : (r : Record) → IsWellFormed r → IsWellFormed (extlang_replaced r)
+replaced_well_formed r fits = grind (arith, nat_tests, from_well_formed r)
+
+pub locale_or_not : (tag : List ℕ) → IsLocale tag ⊎ (IsLocale tag → ⊥)
+unfolding IsNormal
+locale_or_not tag = by_normal (normal_or_not tag)
+  where
+    by_test : (r : Record) → Spells r tag → (b : Bool) → is_locale_record r ≡ b → IsLocale tag ⊎ (IsLocale tag → ⊥)
+    by_test r spells true locale = inl (r, spells, locale)
+    by_test r spells false other = inr unlike
+      where
+        unlike : IsLocale tag → ⊥
+        unlike (q, also, locale) = false≢true (sym other ∙ ap is_locale_record (spelled_once r q spells.0 also.0 (spells.1 ∙ sym also.1)) ∙ locale)
+
+    by_normal : IsNormal tag ⊎ (IsNormal tag → ⊥) → IsLocale tag ⊎ (IsLocale tag → ⊥)
+    by_normal (inl (r, spells)) = by_test r spells (is_locale_record r) refl
+    by_normal (inr other) = grind (arith, nat_tests)
+
+pub whole_of_record : (tag form : List ℕ) → IsWholeForm tag (Some form) → IsOfRecord form
+whole_of_record tag form of = elim (locale_or_not tag) [
+  | inl is ↦ part_of_record tag form (λ r. r) (λ r fits. fits) (of.locale is)
+  | inr outside ↦ by_value outside (preferred_tag tag) refl
+]
+  where
+    by_value : (IsLocale tag → ⊥) → (o : Option (List ℕ)) → preferred_tag tag ≡ o → IsOfRecord form
+    by_value outside (Some value) found = part_of_record value form (λ r. r) (λ r fits. fits) (of.whole outside value found)
+    by_value outside None none = part_of_record tag form extlang_replaced replaced_well_formed (of.parts outside none (λ old. none-some form (sym (of.kept outside none old))))
+
+-- no tag has a form and none
+part_once : (text form : List ℕ) (f : Record → Option (List ℕ)) → PartOf text f None (Some form) → PartOf text f None None → ⊥
+unfolding IsNormal
+part_once text form f p q = grind (arith, nat_tests, normal_or_not text, none-some form)
+
+pub not_both : (tag form : List ℕ) → IsWholeForm tag (Some form) → IsWholeForm tag None → ⊥
+not_both tag form p q = elim (locale_or_not tag) [
+  | inl is ↦ part_once tag form record_form (p.locale is) (q.locale is)
+  | inr outside ↦ by_value outside (preferred_tag tag) refl
+]
+  where
+    by_value : (IsLocale tag → ⊥) → (o : Option (List ℕ)) → preferred_tag tag ≡ o → ⊥
+    by_value outside (Some value) found = part_once value form record_form (p.whole outside value found) (q.whole outside value found)
+    by_value outside None none =
+        let new : IsGrandfathered tag → ⊥ = λ old. none-some form (sym (p.kept outside none old)) in
+        part_once tag form (λ r. record_form (extlang_replaced r)) (p.parts outside none new) (q.parts outside none new)
 
 pub whole-own : (tag form : List ℕ) → IsWholeForm tag (Some form) → IsOwnForm form
 whole-own tag form of =
@@ -84,3 +230,8 @@ module _ (tag other : List ℕ) (alike : Alike tag other) where
     | inl is ↦ part-alike record_form record_form-alike tag other x y alike (p.locale is) (q.locale (locale_alike tag other alike is))
     | inr outside ↦ by_value outside (preferred_tag tag) refl x y p q
   ]
+
+-- ---- the record of a text
+
+pub spelled_locale : (tag : List ℕ) (r : Record) → IsLocale tag → Spells r tag → is_locale_record r ≡ true
+spelled_locale tag r (q, also, locale) spells = ap is_locale_record (spelled_once r q spells.0 also.0 (spells.1 ∙ sym also.1)) ∙ locale

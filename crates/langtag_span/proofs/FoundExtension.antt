@@ -1,34 +1,39 @@
 -- The first extension of a singleton, by where it stands in a tag.
-use Rattle.std.proofs.Common.{◌≡◌, ℕ, slice_index, slice_index_or, ◌+◌, ◌-◌, ◌<◌, ◌≤◌, true, false, List, [], ◌∷◌, length, take, drop, map, find, Option, None, Some, Bor, refl, ap, sym, subst, ◌∙◌, arith}
-use Rattle.std.specs.Option.{option_map, option_map_or}
-use Rattle.std.proofs.lemmas.List.{drop-drop, drop-take}
+use Rattle.langtag_keyword.proofs.Common.{◌≡◌, ◌+◌, ◌-◌, ◌≤◌, ℕ, Bool, List, [], length, unwrap_or, arith, ◌<◌, ◌∷◌, take, drop, map, find, Option, None, Some}
+use Rattle.langtag_keyword.proofs.Common.{refl, ap, sym, subst, ◌∙◌, position_or_len, eqb_tells, nat_tests, length-drop, take_all, drop-drop, drop-take}
+use Rattle.langtag_keyword.proofs.Common.{option_map_or, fold_byte, length-slice_split, is_extension_subtag, ends_of, EachRecord, Extension, Record}
+use Rattle.langtag_keyword.proofs.Common.{IsWellFormed, is_hyphen, subtags, of_extension_subtag, each_subtag, extension_texts, IsExtension, SpellsExtensions}
+use Rattle.langtag_keyword.proofs.Common.{extension_spelling, find_extension, extension_found, option_map}
+use Rattle.std.proofs.Common.{eqb, slice_index, slice_index_or, Bor}
+use Rattle.std.specs.List.{after_first}
+use Rattle.std.proofs.lemmas.List.{drop_min}
+use Rattle.langtag_scan.specs.Parts.{text_between, extensions_part}
+use Rattle.langtag_span.specs.Spans.{span_text, span_between, HasBytes, IsWithin, end_of}
 use Rattle.std.proofs.lemmas.Bool.{cases_lt}
-use Rattle.std.proofs.lemmas.Bool.Decides.{eqb_tells, nat_tests}
-use Rattle.langtag_scan.specs.Case.{fold_byte}
-use Rattle.std.proofs.lemmas.List.Splits.{length-slice_split}
-use Rattle.langtag_scan.specs.Class.{is_extension_subtag}
-use Rattle.langtag_scan.specs.Ends.{HasEnds, ends_of}
-use Rattle.langtag_scan.specs.Parts.{extensions_part}
-use Rattle.langtag_scan.specs.Record.{EachRecord, Extension, Record, IsWellFormed}
-use Rattle.langtag_scan.specs.Subtags.{is_hyphen, subtags}
+use Rattle.langtag_scan.specs.Ends.{HasEnds}
 use Rattle.langtag_scan.specs.Tag.{IsNormal}
 use Rattle.langtag_scan.specs.declared.ends.Ends.{Ends}
 use Rattle.langtag_scan.proofs.SpelledTexts.{ends_ordered, ends_whole}
-use Rattle.langtag_scan.proofs.SubtagFacts.{of_extension_subtag}
-use Rattle.langtag_scan.proofs.SubtagLists.{each_subtag}
 use Rattle.langtag_extension.specs.Decided.{opens_alike}
-use Rattle.langtag_extension.specs.ExtensionTexts.{IsFirstExtension, extension_texts}
-use Rattle.langtag_extension.specs.Spelling.{IsExtension, IsExtensions, SpellsExtensions, extension_spelling, find_extension}
-use Rattle.langtag_extension.proofs.ExtensionLookUp.{extension_found, find_spellings, subtags_found, subtags_not_found}
+use Rattle.langtag_extension.specs.ExtensionTexts.{IsFirstExtension}
+use Rattle.langtag_extension.specs.Spelling.{IsExtensions}
+use Rattle.langtag_extension.proofs.ExtensionLookUp.{find_spellings, subtags_found, subtags_not_found}
 use Rattle.langtag_extension.proofs.Rules.{extension_texts_spelled}
 use Rattle.langtag.proofs.PartsFound.{extensions_found}
 use Rattle.langtag_keyword.proofs.SubtagTexts.{subtags-after_singleton}
 use Rattle.langtag_span.specs.Keywords.{subtags_in}
-use Rattle.langtag_span.specs.Spans.{HasBytes, IsWithin, end_of, span_between, span_text}
 use Rattle.langtag_span.specs.declared.span.Span.{Span}
-use Rattle.langtag_span.proofs.ExtensionSpans.{extension-taken, length-span, span-first}
-use Rattle.langtag_span.proofs.SpanLaws.{between_text}
-use Rattle.langtag_span.proofs.SubtagSpans.{AreSubtags, length-spanned}
+use Rattle.langtag_span.proofs.ExtensionSpans.{extension-taken, first_text, length-span, AreSubtags, length-spanned}
+
+-- the span between two ends has what stands between them
+pub between_text : (text : List ℕ) (before end : ℕ) → before ≤ end → span_text text (span_between before end) ≡ unwrap_or (text_between text before end) []
+between_text text before end le = grind (arith, nat_tests, eqb_tells before end)
+
+-- what stands after the first byte that passes a test is the end of the text
+pub end_after_first :
+    (p : ℕ → Bool) (text end : List ℕ) → end ≡ after_first p text →
+    (length end ≤ length text) × (span_text text (record { start = length text - length end; len = length end }) ≡ after_first p text)
+end_after_first p text end is = grind (arith, nat_tests, drop_min (position_or_len p text + 1) text, length-drop, take_all)
 
 -- ---- all extensions of a tag
 
@@ -56,26 +61,6 @@ nothing-in text span none = grind (arith, nat_tests)
 pub no-bytes : (text : List ℕ) (span : Span) → IsWithin text span → (HasBytes text span → ⊥) → span.len ≡ 0
 no-bytes text span within none = grind (arith, nat_tests, cases_lt 0 span.len)
 
--- the first, and those that are left
-pub record IsStep (text : List ℕ) (before after taken : Span) : Type 0 where
-  pub texts : extension_texts (span_text text before) ≡ span_text text taken ∷ extension_texts (span_text text after)
-  pub left : IsExtensions (span_text text after)
-  pub first : IsExtension (span_text text taken)
-
-pub extension-step :
-    (text : List ℕ) (before after taken : Span) (part : Bor (List ℕ)) (len : ℕ) → IsExtensions (span_text text before) →
-    HasBytes text before → part.now ≡ span_text text before → IsFirstExtension part.now len → taken ≡ record { start = before.start; len = len } →
-    after ≡ span_between (before.start + len) (end_of before) → IsStep text before after taken
-extension-step text before after taken part len ([], spells) has is first taken_is after_is = grind (arith, nat_tests, length-span text before has)
-extension-step text before after taken part len (e ∷ es, spells) has is first taken_is after_is =
-    let cut = extension-taken text before after taken part len e es has is first taken_is after_is spells in
-    record {
-      texts = extension_texts_spelled (e ∷ es) (span_text text before) spells ∙ ap (λ t. t ∷ map extension_spelling es) (sym cut.0)
-          ∙ ap (λ ts. span_text text taken ∷ ts) (sym (extension_texts_spelled es (span_text text after) cut.1));
-      left = (es, cut.1);
-      first = (e, record { member = spells.members.0; joined = sym cut.0 });
-    }
-
 -- an extension has a singleton and a hyphen, and then subtags
 pub after-singleton : (text : List ℕ) → IsExtension text → AreSubtags (subtags (drop 2 text)) × (2 ≤ length text)
 after-singleton text (e, spelled) = (
@@ -86,31 +71,42 @@ after-singleton text (e, spelled) = (
     by_subtags : (ss : List (List ℕ)) → e.subtags ≡ ss → 2 ≤ length text
     by_subtags ss is = grind (arith, nat_tests)
 
+-- the first, which lies within the text, and those that are left
+pub record IsStep (text : List ℕ) (before after taken : Span) (part : List ℕ) (len : ℕ) : Type 0 where
+  pub texts : extension_texts (span_text text before) ≡ span_text text taken ∷ extension_texts (span_text text after)
+  pub left : IsExtensions (span_text text after)
+  pub first : IsExtension (span_text text taken)
+  pub place : IsWithin text taken × (2 ≤ taken.len)
+  pub bytes : span_text text taken ≡ take len part
+
+pub extension-step :
+    (text : List ℕ) (before after taken : Span) (part : Bor (List ℕ)) (len : ℕ) → IsExtensions (span_text text before) →
+    HasBytes text before → part.now ≡ span_text text before → IsFirstExtension part.now len → taken ≡ record { start = before.start; len = len } →
+    after ≡ span_between (before.start + len) (end_of before) → IsStep text before after taken part.now len
+extension-step text before after taken part len ([], spells) has is first taken_is after_is = grind (arith, nat_tests, length-span text before has)
+extension-step text before after taken part len (e ∷ es, spells) has is first taken_is after_is =
+    let cut = extension-taken text before after taken part len e es has is first taken_is after_is spells in
+    let one : IsExtension (span_text text taken) = (e, record { member = spells.members.0; joined = sym cut.0 }) in
+    let few = first.within in
+    record {
+      texts = extension_texts_spelled (e ∷ es) (span_text text before) spells ∙ ap (λ t. t ∷ map extension_spelling es) (sym cut.0)
+          ∙ ap (λ ts. span_text text taken ∷ ts) (sym (extension_texts_spelled es (span_text text after) cut.1));
+      left = (es, cut.1);
+      first = one;
+      place = grind (arith, nat_tests, length-span, after-singleton (span_text text taken) one, length-spanned);
+      bytes = ap (span_text text) taken_is ∙ first_text text part.now before len has is few;
+    }
+
 -- what stands behind them
 pub without-singleton : (text : List ℕ) (taken : Span) → 2 ≤ taken.len → span_text text (record { start = taken.start + 2; len = taken.len - 2 }) ≡ drop 2 (span_text text taken)
 without-singleton text taken some = grind (arith, nat_tests, drop-drop 2 taken.start text, drop-take 2 (taken.len - 2) (drop taken.start text))
-
--- a taken span lies within the text, and has a singleton and more
-pub taken-some :
-    (text : List ℕ) (before after taken : Span) (part : Bor (List ℕ)) (len : ℕ) → HasBytes text before → part.now ≡ span_text text before → len ≤ length part.now →
-    taken ≡ record { start = before.start; len = len } → IsStep text before after taken → IsWithin text taken × (2 ≤ taken.len)
-taken-some text before after taken part len has is few taken_is step = grind (arith, nat_tests, length-span, after-singleton, length-spanned)
-
--- its bytes
-pub taken-text :
-    (text : List ℕ) (before taken : Span) (part : Bor (List ℕ)) (len : ℕ) → HasBytes text before → part.now ≡ span_text text before → len ≤ length part.now →
-    taken ≡ record { start = before.start; len = len } → span_text text taken ≡ take len part.now
-taken-text text before taken part len has is few taken_is = grind (arith, nat_tests, span-first text before len has, length-span text before has)
 
 -- whether it opens with the byte
 first-byte : (part : List ℕ) (len : ℕ) → 0 < len → slice_index (take len part) 0 ≡ slice_index_or part 0 0
 first-byte part len some = grind (arith, nat_tests)
 
-pub opens-so : (b : ℕ) (text part : List ℕ) (len : ℕ) → text ≡ take len part → 0 < len → fold_byte (slice_index_or part 0 0) ≡ fold_byte b → opens_alike b text ≡ true
-opens-so b text part len is some same = grind (arith, nat_tests, first-byte part len some, eqb_tells (fold_byte (slice_index text 0)) (fold_byte b))
-
-pub opens-not : (b : ℕ) (text part : List ℕ) (len : ℕ) → text ≡ take len part → 0 < len → (fold_byte (slice_index_or part 0 0) ≡ fold_byte b → ⊥) → opens_alike b text ≡ false
-opens-not b text part len is some apart = grind (arith, nat_tests, first-byte part len some, eqb_tells (fold_byte (slice_index text 0)) (fold_byte b))
+pub opens-text : (b : ℕ) (text part : List ℕ) (len : ℕ) → text ≡ take len part → 0 < len → opens_alike b text ≡ eqb (fold_byte (slice_index_or part 0 0)) (fold_byte b)
+opens-text b text part len is some = grind (arith, nat_tests, first-byte part len some)
 
 -- the subtags of the first that opens with the byte
 pub subtags-first :

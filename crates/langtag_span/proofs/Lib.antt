@@ -1,15 +1,6 @@
 pub mod ExtensionSpans
 pub mod FoundExtension
-pub mod HeaderRanges
-pub mod ItemLaws
 pub mod LookUps
-pub mod Offsets
-pub mod PartLaws
-pub mod PlaceLaws
-pub mod RangesAt
-pub mod ReadingLaws
-pub mod RepeatSpans
-pub mod SpanLaws
-pub mod SubtagSpans
-pub mod TagLengths
 pub mod TagsAt
+pub mod TagLengths
+pub mod PlaceLaws

@@ -1,33 +1,37 @@
 -- What a walk over the elements of a header finds is what lookup finds first among the acceptable ones, the heaviest
 -- first.
-use Rattle.std.proofs.Common.{◌≡◌, ℕ, ◌+◌, ◌<◌, ◌≤◌, Bool, true, false, not, eqb, nat_lt, cond, if◌then◌else◌, List, [], ◌∷◌, ◌++◌, map, is_some, length, length-append, take, get_or, Option, None, Some, unwrap_or, ap, refl, sym, subst, ◌∙◌, arith}
-use Rattle.std.specs.List.{position, position_or_len, prefix_len, slice_range, sum_by}
-use Rattle.std.specs.Option.{IfSome, option_map, option_map_or}
+use Rattle.langtag_keyword.proofs.Common.{filter, list_all, and_parts, take_all, ◌≡◌, ℕ, ◌+◌, ◌-◌, ◌<◌, ◌≤◌, Bool, true, false, not, nat_lt, cond, List, []}
+use Rattle.langtag_keyword.proofs.Common.{◌∷◌, ◌++◌, map, length, take, get_or, Option, None, Some, unwrap_or, ap, refl, sym, subst, ◌∙◌, arith, rules, suc}
+use Rattle.langtag_keyword.proofs.Common.{zero, position_or_len, sum_by, AllByRecursion, option_map_or, nat_tests, length-map, take_more, common_steps}
+use Rattle.langtag_keyword.proofs.Common.{are_alike, length-slice_split, is_some, slice_get, option_map}
+use Rattle.langtag_span.proofs.FoundExtension.{nothing-in}
+use Rattle.langtag_span.specs.Negotiation.{filled_items}
+use Rattle.langtag_range.specs.Element.{element, from_first, is_ows, is_space, Element, is_comma, items}
+use Rattle.langtag_match.specs.AcceptLanguage.{are_good, elements, IsByWeight, StandsAt, acceptable, bad_part, is_good, weight_in}
+use Rattle.std.specs.List.{filter_map, position, prefix_len, slice_range, cons_option, onto_first}
+use Rattle.std.proofs.Common.{eqb, if◌then◌else◌, length-append}
+use Rattle.std.specs.Option.{IfSome}
 use Rattle.std.proofs.Math.Seq.{drop-append_seam, take-append_seam}
-use Rattle.std.proofs.lemmas.Bool.Decides.{nat_tests}
-use Rattle.std.proofs.lemmas.List.{length-map, take_more}
 use Rattle.std.proofs.lemmas.List.Folds.{list_all-append, list_all_at}
 use Rattle.std.proofs.lemmas.List.Quantifiers.{position-Some}
 use Rattle.std.proofs.lemmas.List.Sums.{sum_by-append, sum_by_more_le}
 use Rattle.std.proofs.lemmas.Option.{get_or_from_slice_get, slice_get_read, slice_get_within}
-use Rattle.std.proofs.lemmas.Grind.{common_steps}
 use Rattle.langtag.specs.declared.lang_tag.LangTag.{LangTag}
 use Rattle.langtag.specs.Text.{lang_tag_text}
-use Rattle.langtag_scan.specs.Case.{are_alike}
-use Rattle.langtag_match.specs.AcceptLanguage.{IsByWeight, StandsAt, acceptable, are_good, bad_part, elements, is_good, weight_in}
-use Rattle.langtag_range.specs.Element.{Element, is_comma, items}
 use Rattle.langtag_range.specs.Fallback.{fallbacks}
 use Rattle.langtag_match.specs.Stable.{with_key}
 use Rattle.langtag_match.specs.declared.accept_language_error.ElementPart.{ElementPart}
-use Rattle.langtag_span.proofs.Offsets.{item_stands, sum_by-slice_split, width}
+use Rattle.langtag_span.proofs.TagsAt.{item_stands, sum_by-slice_split, width, are_tags_at, is_tag_at, one_tag_at}
 use Rattle.langtag_span.specs.Spanned.{IsTagAt}
 use Rattle.langtag_span.specs.Heaviest.{heaviest}
 use Rattle.langtag_span.specs.LookUp.{IsBadAt, IsLookedUp, first_index_alike, first_found, index_alike}
 use Rattle.langtag_span.specs.Spans.{HasBytes, span_text}
 use Rattle.langtag_span.specs.TagsAt.{tag_at, tags_at}
 use Rattle.langtag_span.specs.declared.span.Span.{Span}
-use Rattle.langtag_span.proofs.TagsAt.{are_tags_at, is_tag_at, one_tag_at}
 use Rattle.langtag_match.proofs.Readings.{AtMost, IsFalling, AtMost-weaker}
+use Rattle.std.proofs.lemmas.List.Splits.{slice_split-cons_no, slice_split-cons_yes}
+use Rattle.langtag_range.specs.Wanted.{digits_behind, wanted, wanted_elements, wanted_items}
+use Rattle.langtag_span.specs.RangePlaces.{IsRangeAt, has_range, range_count, spaces_before}
 
 -- ---- the elements by descending weight
 
@@ -99,12 +103,9 @@ module _ (tags : List (Option (List ℕ))) where
   abbrev IsIndex : Option ℕ → Type 0
   IsIndex found = IfSome found (λ index. index < length tags)
 
-  index-alike : (text : List ℕ) → IsIndex (index_alike tags text)
-  index-alike text = grind (arith, position-Some)
-
   index-first : (texts : List (List ℕ)) → IsIndex (first_index_alike tags texts)
   index-first [] = tt
-  index-first (text ∷ texts) = grind (arith, index-alike text, index-first texts)
+  index-first (text ∷ texts) = grind (arith, position-Some, index-first texts)
 
   index-found : (es : List Element) → IsIndex (first_found tags es)
   index-found [] = tt
@@ -154,11 +155,8 @@ module _ (text wanted bytes : List ℕ) (span : Span) (same : HasBytes text span
 -- ---- one more item of a header
 
 module _ {X : Type 0} (all : List (List ℕ)) (yielded : List X) (x : X) (item : List ℕ) (below : length yielded < length all) (at : item ≡ get_or all (length yielded) item) where
-  one_more : length (yielded ++ x ∷ []) ≡ length yielded + 1
-  one_more = length-append yielded (x ∷ [])
-
   pub take_next : take (length (yielded ++ x ∷ [])) all ≡ take (length yielded) all ++ item ∷ []
-  take_next = ap (λ n. take n all) one_more ∙ take_more all (length yielded) item below ∙ ap (λ i. take (length yielded) all ++ i ∷ []) (sym at)
+  take_next = ap (λ n. take n all) (length-append yielded (x ∷ [])) ∙ take_more all (length yielded) item below ∙ ap (λ i. take (length yielded) all ++ i ∷ []) (sym at)
 
   pub good-next : are_good (take (length yielded) all) ≡ true → is_good item ≡ true → are_good (take (length (yielded ++ x ∷ [])) all) ≡ true
   good-next so_far good = ap are_good take_next ∙ list_all-append is_good (take (length yielded) all) (item ∷ []) ∙ rw (so_far, good) refl
@@ -200,3 +198,111 @@ not_good header span part bad =
     let within = slice_get_within (items header) bad.commas item bad.first.there in
     let there = get_or_from_slice_get (items header) bad.commas item item bad.first.there in
     list_all_at is_good (items header) bad.commas item within (ap is_good there ∙ bad.first.bad)
+
+-- ---- an item has no comma
+
+abbrev IsAlone : List ℕ → Type 0
+IsAlone item = items item ≡ item ∷ []
+
+alone_onto : (b : ℕ) (parts : List (List ℕ)) → is_comma b ≡ false → 0 < length parts → AllByRecursion IsAlone parts → AllByRecursion IsAlone (onto_first b parts)
+alone_onto b parts other some all = grind (arith, nat_tests, slice_split-cons_no is_comma b)
+
+all_alone : (text : List ℕ) → AllByRecursion IsAlone (items text)
+all_alone [] = (refl, tt)
+all_alone (b ∷ text) = grind (arith, common_steps, all_alone text, slice_split-cons_yes, length-slice_split, slice_split-cons_no, alone_onto)
+
+alone_at : (all : List (List ℕ)) (k : ℕ) (item : List ℕ) → AllByRecursion IsAlone all → slice_get all k ≡ Some item → IsAlone item
+alone_at [] k item alone is = absurd cc
+alone_at (x ∷ all) zero item alone is = let same : x ≡ item = cc in subst IsAlone same alone.0
+alone_at (x ∷ all) (suc k) item alone is = alone_at all k item alone.1 is
+
+-- ---- so it has the range that it has as a header of its own
+
+has_one : (item : List ℕ) (e : Element) (es : List Element) → IsAlone item → wanted_elements item ≡ e ∷ es → wanted item [] ≡ Some e
+has_one item e es alone is = grind (arith, nat_tests, alone)
+
+has_none : (item : List ℕ) → IsAlone item → wanted_elements item ≡ [] → wanted item [] ≡ None
+has_none item alone is = grind (arith, nat_tests, alone)
+
+-- ---- the item at an index
+
+pub spaces_within : (item : List ℕ) → spaces_before item ≤ length item
+spaces_within item = grind (arith, nat_tests, position-Some)
+
+module _ (header item : List ℕ) (n : ℕ) (below : n < length (items header)) (at : item ≡ get_or (items header) n item) where
+  there : slice_get (items header) n ≡ Some item
+  there = slice_get_read (items header) (length (items header)) n item refl below at
+
+  alone : IsAlone item
+  alone = alone_at (items header) n item (all_alone header) there
+
+  pub is_range_at :
+      (start place : ℕ) (span : Span) (e : Element) (es : List Element) → start ≡ sum_by width (take n (items header)) → range_count (take n (items header)) ≡ place →
+      wanted_elements item ≡ e ∷ es → span.start ≡ start + spaces_before item → span.len ≡ length e.range → IsRangeAt header place span
+  is_range_at start place span e es begins count is first size = search (rules, begins, count, is, first, size, there, item_stands, has_one, alone)
+
+  module _ {X : Type 0} (yielded : List X) (x : X) (same : length yielded ≡ n) where
+    counted : (b : Bool) → has_range item ≡ b → range_count (take (length (yielded ++ x ∷ [])) (items header)) ≡ range_count (take (length yielded) (items header)) + cond b 1 0
+    counted b is = grind (arith, nat_tests, take_next (items header) yielded x item, sum_by-append)
+
+    pub one_more : (e : Element) (es : List Element) → wanted_elements item ≡ e ∷ es → range_count (take (length (yielded ++ x ∷ [])) (items header)) ≡ range_count (take (length yielded) (items header)) + 1
+    one_more e es is = counted true (ap is_some (has_one item e es alone is))
+
+    pub no_more : wanted_elements item ≡ [] → range_count (take (length (yielded ++ x ∷ [])) (items header)) ≡ range_count (take (length yielded) (items header))
+    no_more is = counted false (ap is_some (has_none item alone is)) ∙ omega arith
+
+-- ---- so many ranges has a header
+
+same_range : (item behind : List ℕ) → is_some (wanted item behind) ≡ has_range item
+unfolding wanted
+same_range item behind = grind (arith, nat_tests)
+
+pub length_wanted : (all : List (List ℕ)) → length (wanted_items all) ≡ range_count all
+length_wanted [] = refl
+length_wanted (item ∷ all) = by_option (wanted item (digits_behind all)) refl (same_range item (digits_behind all)) (length_wanted all)
+  where
+    more : range_count (item ∷ all) ≡ cond (has_range item) 1 0 + range_count all
+    more = omega (arith, sum_by-append (λ it. cond (has_range it) 1 0) (item ∷ []) all)
+
+    by_option :
+        (o : Option Element) → wanted item (digits_behind all) ≡ o → is_some (wanted item (digits_behind all)) ≡ has_range item → length (wanted_items all) ≡ range_count all →
+        length (cons_option (wanted item (digits_behind all)) (wanted_items all)) ≡ range_count (item ∷ all)
+    by_option None none same others = grind (arith, nat_tests)
+    by_option (Some e) some same others =
+        let has : has_range item ≡ true = sym same ∙ ap is_some some in
+        rw some (omega (arith, others, more ∙ ap (λ b. cond b 1 0 + range_count all) has))
+
+pub placed : (header : List ℕ) (place : ℕ) (o : Option Span) (end : Span) → place < range_count (items header) → (o ≡ None → range_count (items header) ≤ place) → IfSome o (IsRangeAt header place) → IsRangeAt header place (unwrap_or o end)
+placed header place o end within none some = grind (arith, nat_tests)
+
+-- ---- the elements of a header
+
+-- an empty item is not an element
+spaces_trimmed : (text : List ℕ) → is_ows text ≡ true → from_first text ≡ []
+spaces_trimmed [] spaces = refl
+spaces_trimmed (b ∷ text) spaces = let k = and_parts (is_space b) (is_ows text) spaces in rw k.0 (spaces_trimmed text k.1)
+
+spaces_taken : (n : ℕ) (text : List ℕ) → is_ows text ≡ true → is_ows (take n text) ≡ true
+spaces_taken zero text spaces = refl
+spaces_taken (suc n) [] spaces = refl
+spaces_taken (suc n) (b ∷ text) spaces = let k = and_parts (is_space b) (is_ows text) spaces in rw k.0 (spaces_taken n text k.1)
+
+empty_no_element : (item : List ℕ) → is_ows item ≡ true → element item ≡ None
+unfolding element
+empty_no_element item spaces = grind (arith, common_steps, spaces_trimmed, spaces_taken)
+
+pub same_elements : (items : List (List ℕ)) → elements items ≡ filter_map element (filter (λ item. not (is_ows item)) items)
+same_elements [] = refl
+same_elements (item ∷ items) = grind (arith, nat_tests, same_elements items, empty_no_element)
+
+pub same_good : (items : List (List ℕ)) → are_good items ≡ list_all (λ item. is_some (element item)) (filter (λ item. not (is_ows item)) items)
+same_good [] = refl
+same_good (item ∷ items) = grind (arith, nat_tests, same_good items)
+
+-- all of a header is a span of it
+pub whole_elements : (header : List ℕ) → elements (filled_items (span_text header (record { start = 0; len = length header }))) ≡ elements (items header)
+whole_elements header = grind (arith, nat_tests, take_all (0 + length header - 0) header, same_elements (items header))
+
+-- no bytes are no item
+pub nothing_filled : (header : List ℕ) (rest : Span) → rest.len ≡ 0 → filled_items (span_text header rest) ≡ []
+nothing_filled header rest none = ap filled_items (nothing-in header rest none)

@@ -11,7 +11,7 @@ use langtag_range::is_empty_element;
 use langtag_scan::len_before;
 
 /// Removes the first item that is not empty from a list, together with the comma after it.
-#[tactic(auto, using(crate::proofs::ReadingLaws::nothing_filled))]
+#[tactic(auto, using(crate::proofs::LookUps::nothing_filled))]
 pub fn next_item(header: &[u8], rest: &mut Span) -> Option<Span>
     ensures within { IfSome result (IsWithin header.now) }
     ensures taken { IfSome result (TakesItem header.now rest.old rest.new) }

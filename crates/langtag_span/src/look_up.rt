@@ -31,7 +31,7 @@ pub fn index_for_header(header: &[u8], bytes: &[u8], spans: &[Span]) -> usize
 
 /// Returns the index of the tag for the element of the greatest weight that finds a tag. If several elements have
 /// this weight, the first counts.
-#[tactic(auto, using(crate::proofs::ReadingLaws::whole_elements))]
+#[tactic(auto, using(crate::proofs::LookUps::whole_elements))]
 fn heaviest_found(header: &[u8], bytes: &[u8], spans: &[Span]) -> Option<usize>
     ensures { result ≡ heaviest (tags_at bytes.now spans.now) (elements (items header.now)) None 0 }
 {

@@ -7,7 +7,7 @@ use langtag::{Extensions, Language, Part, PrivateUse, Region, Script, Variants};
 
 /// Returns the part with a number and a string. The empty string means that the part is removed. Returns `None` if no
 /// part has this number, or if the string is not a string of this part.
-#[tactic(auto, using(crate::proofs::PartLaws::utf8_parts))]
+#[tactic(auto, using(crate::proofs::TagLengths::utf8_parts))]
 pub fn part_of<'a>(number: u32, bytes: &'a [u8]) -> Option<Part<'a>>
     ensures none { result ≡ None → IsPartText number bytes.now → ⊥ }
     ensures has { IfSome result (λ _. IsPartText number bytes.now) }

@@ -28,7 +28,7 @@ pub fn bytes_in<'a>(text: &'a [u8], span: Span) -> &'a [u8]
 }
 
 /// Returns a span of a string as a language range, or `None` if it is not one.
-#[tactic(auto, using(crate::proofs::RangesAt::range_there, crate::proofs::RangesAt::no_range))]
+#[tactic(auto, using(crate::proofs::TagsAt::range_there, crate::proofs::TagsAt::no_range))]
 pub fn range_in<'a>(text: &'a [u8], span: Span) -> Option<WantedRange<'a>>
     ensures range { option_map listed_element result ≡ range_at text.now span }
     ensures in_class { IfSome result (λ found. IsTrue (is_language_range (hyphened found.bytes.now))) }

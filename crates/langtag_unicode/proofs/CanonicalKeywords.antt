@@ -1,32 +1,27 @@
 -- The extension `u` in canonical form stays in that form when a canonical keyword is set, or a key is removed.
-use Rattle.std.proofs.Common.{rules}
-use Rattle.std.proofs.lemmas.Grind.{common_steps}
-use Rattle.std.proofs.Common.{◌≡◌, ℕ, ◌==◌, ◌&&◌, Bool, true, false, cond, IsTrue, List, [], ◌∷◌, ◌++◌, map, find, Option, None, Some, option_map, unwrap_or, refl, sym, ap, subst, ◌∙◌, arith}
-use Rattle.std.proofs.lemmas.Bool.{and_parts, false≢true}
-use Rattle.std.proofs.lemmas.Bool.Decides.{nat_tests}
-use Rattle.std.proofs.lemmas.Grind.{flat_map-append}
-use Rattle.std.specs.List.{AllByRecursion, filter}
-use Rattle.std.specs.Option.{is_some, option_map_or}
+use Rattle.langtag_keyword.proofs.Common.{rules, ◌≡◌, ℕ, ◌==◌, ◌&&◌, Bool, true, false, cond, List, [], ◌∷◌, ◌++◌, map, find, Option, None, Some, option_map}
+use Rattle.langtag_keyword.proofs.Common.{unwrap_or, refl, sym, ap, subst, ◌∙◌, arith, ◌≤◌, ◌||◌, not, length, append-nil, append_assoc, common_steps}
+use Rattle.langtag_keyword.proofs.Common.{flat_map-append, and_parts, false≢true, nat_tests, AllByRecursion, filter, is_some, option_map_or, fold_text-twice}
+use Rattle.langtag_keyword.proofs.Common.{length-fold, of_extension_subtag, each_subtag, subtags-joined, are_alike, fold_text, are_alphanumeric, join, subtags}
+use Rattle.langtag_keyword.proofs.Common.{is_this_key, is_type, is_unicode_key, keyword_error, with_keyword, without_keyword, without_within, changed_from}
+use Rattle.langtag_keyword.proofs.Common.{extension_of, in_alphabet, put_among, unicode_form, unicode_value, extension_form, forms_after, is_of, is_transform}
+use Rattle.langtag_keyword.proofs.Common.{before_key, is_key, value_of, find_extension, Extension, IsWellFormed, IsWellFormedExtension, Record, IsTrue}
 use Rattle.langtag.proofs.Alike.{alike_length}
-use Rattle.langtag_scan.proofs.CaseLaw.{fold_text-twice, is_digit-fold, is_letter-fold, length-fold}
-use Rattle.langtag_scan.proofs.SubtagFacts.{of_extension_subtag}
-use Rattle.langtag_scan.proofs.SubtagLists.{each_subtag, subtags-joined}
-use Rattle.langtag_scan.specs.Case.{are_alike, fold_text}
-use Rattle.langtag_scan.specs.Class.{are_alphanumeric, has_length, is_extension_subtag}
-use Rattle.langtag_scan.specs.Subtags.{join, subtags}
-use Rattle.langtag_keyword.specs.Edit.{is_this_key, is_type, is_unicode_key, keyword_error, with_keyword, without_keyword, without_within}
-use Rattle.langtag_keyword.specs.Form as form
-use Rattle.langtag_keyword.specs.Form.{in_alphabet, keys_in_order, put_among, unicode_form, unicode_value}
-use Rattle.langtag_keyword.specs.Keywords.{before_key, is_key, value_of}
-use Rattle.langtag_keyword.proofs.Each.{each-alphabet}
+use Rattle.langtag_scan.proofs.CaseLaw.{is_digit-fold, is_letter-fold}
+use Rattle.langtag_scan.specs.Case.{fold_byte}
+use Rattle.langtag_scan.specs.Class.{has_length, is_extension_subtag}
+use Rattle.langtag_keyword.specs.Edit.{IsCanonicalKeyword, edited_record}
+use Rattle.langtag_keyword.specs.Form.{keys_in_order, extensions_record}
+use Rattle.langtag_keyword.proofs.AlphabetLaws.{each-alphabet, KeySplit, among, among-put, key-split, lower-put, same-risen, Rise, rise-in_alphabet, rise-put}
+use Rattle.langtag_keyword.proofs.AlphabetLaws.{AreLower, lower-in_alphabet}
 use Rattle.langtag_unicode.proofs.FormRecords.{Good, good-value, types-unicode}
-use Rattle.langtag_keyword.proofs.AscendingTexts.{KeySplit, among, among-put, key-split, lower-put, same-risen}
 use Rattle.langtag_keyword.proofs.KeywordBlocks.{AreValues, block, blocks, find-among, find-passed, put-among, put-passed, removed-among, without-passed}
-use Rattle.langtag_keyword.proofs.KeywordsInForm as in_form
+use Rattle.langtag_keyword.proofs.KeywordBlocks.{extension-some, find_u, some-put, u_is_u}
 use Rattle.langtag_keyword.proofs.KeywordsInForm.{blocks-put, flat-same, keys-have, plain-before}
-use Rattle.langtag_keyword.proofs.AlphabetLaws.{Rise, rise-in_alphabet, rise-put}
-use Rattle.langtag_keyword.proofs.AlphabetTwice.{AreLower, lower-in_alphabet}
-use Rattle.langtag_keyword.proofs.KeywordLaws.{AreNoKeys, alike-itself, before-kept, before-put, fits_from, none_after_removal, others_after_removal, others_after_set, read_after_set, standing-this, type-no_key}
+use Rattle.langtag_keyword.proofs.KeywordLaws.{AreNoKeys, alike-itself, before-kept, before-put, fits_from, none_after_removal, others_after_removal}
+use Rattle.langtag_keyword.proofs.KeywordLaws.{others_after_set, read_after_set, standing-this, type-no_key, form_by, form_tested}
+use Rattle.langtag_keyword.specs.Form as form
+use Rattle.langtag_keyword.proofs.KeywordsInForm as in_form
 
 -- ---- values in canonical form have no keys
 
@@ -34,21 +29,17 @@ pub key-fold : (s : List ℕ) → is_key (fold_text s) ≡ is_key s
 key-fold s = ap (λ n. n == 2) (length-fold s)
 
 -- what is found is the value of a key, and has no keys
-record FoundValue (key : List ℕ) (w : List (List ℕ)) : Type 0 where
-  opens : is_key key ≡ true
-  no_keys : AreNoKeys w
-
-found-value : (key : List ℕ) (ss w : List (List ℕ)) → value_of is_key key ss ≡ Some w → FoundValue key w
+found-value : (key : List ℕ) (ss w : List (List ℕ)) → value_of is_key key ss ≡ Some w → (is_key key ≡ true) × AreNoKeys w
 found-value key [] w found = absurd cc
 found-value key (s ∷ ss) w found = by_test (is_key s && are_alike s key) refl (found-value key ss w) found
   where
     by_test :
-        (b : Bool) → (is_key s && are_alike s key) ≡ b → (value_of is_key key ss ≡ Some w → FoundValue key w) → cond b (Some (before_key is_key ss)) (value_of is_key key ss) ≡ Some w →
-        FoundValue key w
+        (b : Bool) → (is_key s && are_alike s key) ≡ b → (value_of is_key key ss ≡ Some w → (is_key key ≡ true) × AreNoKeys w) → cond b (Some (before_key is_key ss)) (value_of is_key key ss) ≡ Some w →
+        (is_key key ≡ true) × AreNoKeys w
     by_test true this later found =
         let parts = and_parts (is_key s) (are_alike s key) this in
         let same : before_key is_key ss ≡ w = cc in
-        record { opens = ap (λ n. n == 2) (sym (alike_length s key parts.1)) ∙ parts.0; no_keys = subst AreNoKeys same (plain-before is_key ss) }
+        (ap (λ n. n == 2) (sym (alike_length s key parts.1)) ∙ parts.0, subst AreNoKeys same (plain-before is_key ss))
     by_test false this later found = later found
 
 type_from : (s : List ℕ) → is_extension_subtag s ≡ true → is_key s ≡ false → is_type s ≡ true
@@ -78,9 +69,9 @@ values-are ss good key v is = by_found (value_of is_key key ss) refl is
         let fits = found-value key ss w found in
         let whole = good-value is_key key ss w good found in
         let joined : subtags (join w) ≡ w = subtags-joined w (each_subtag is_extension_subtag of_extension_subtag w whole) in
-        let types = types-unicode key (join w) (subst (AllByRecursion (λ s. IsTrue (is_type s))) (sym joined) (types-from w whole fits.no_keys)) in
+        let types = types-unicode key (join w) (subst (AllByRecursion (λ s. IsTrue (is_type s))) (sym joined) (types-from w whole fits.1)) in
         let same : map fold_text (subtags (unicode_value key (join w))) ≡ v = cc in
-        (fits.opens, subst AreNoKeys same (no_keys-lower (subtags (unicode_value key (join w))) types))
+        (fits.0, subst AreNoKeys same (no_keys-lower (subtags (unicode_value key (join w))) types))
 
 -- ---- the form, key after key
 
@@ -160,12 +151,8 @@ module _ (ss : List (List ℕ)) (good : Good ss) (own : unicode_form ss ≡ ss) 
       ∙ ap (λ t. blocks (values ss) s.before ++ (t ++ blocks (values ts) s.after)) is
       ∙ ap (λ t. blocks (values ss) s.before ++ (here ++ t)) (alike_blocks s.after s.after_others))
     where
-      each : (keys : List (List ℕ)) → AllByRecursion (λ j. are_alike j key ≡ false) keys → AllByRecursion (λ j. block (values ts) j ≡ block (values ss) j) keys
-      each [] apart = tt
-      each (j ∷ keys) apart = (grind (arith, common_steps, others j (alike-back j key apart.0)), each keys apart.1)
-
       alike_blocks : (keys : List (List ℕ)) → AllByRecursion (λ j. are_alike j key ≡ false) keys → blocks (values ts) keys ≡ blocks (values ss) keys
-      alike_blocks keys apart = flat-same (block (values ts)) (block (values ss)) keys (each keys apart)
+      alike_blocks = flat-same (λ j. are_alike j key ≡ false) (block (values ts)) (block (values ss)) (λ j apart. grind (arith, common_steps, others j (alike-back j key apart)))
 
 -- ---- the laws
 
@@ -198,3 +185,73 @@ pub canonical_removal : (key : List ℕ) (ss : List (List ℕ)) → keyword_erro
 canonical_removal key ss none good own =
     let same : without_keyword (fold_text key) ss ≡ without_keyword key ss = without-fold key false ss in
     subst (λ ts. unicode_form ts ≡ ts) same (removed_lower (fold_text key) ss (fold_text-twice key) good own)
+
+-- ---- a tag in canonical form
+
+abbrev extension : ℕ → List (List ℕ) → Extension
+extension n ss = record { singleton = n; subtags = ss }
+
+-- whether an extension is a `t` that has a form
+abbrev is_form : Bool → Extension → Bool
+is_form t e = is_of 116 e && not t && is_transform e.subtags
+
+form-u : (t : Bool) (e : Extension) → is_of 117 e ≡ true → extension_form false t e ≡ extension 117 (unicode_form e.subtags)
+form-u t e is = form_tested false t true (is_form t e) e (ap (λ b. b && true) is) refl
+
+form-other : (u t : Bool) (e : Extension) → is_of 117 e ≡ false → extension_form u t e ≡ form_by false (is_form t e) e
+form-other u t e is = form_tested u t false (is_form t e) e (ap (λ b. b && not u) is) refl
+
+u_is_no_t : (ss : List (List ℕ)) → is_of 116 (extension 117 ss) ≡ false
+unfolding fold_byte
+u_is_no_t ss = refl
+
+record Absent (e : Extension) (es : List Extension) : Type 0 where
+  first : is_of 117 e ≡ false
+  others : find (is_of 117) es ≡ None
+
+absent-next : (e : Extension) (es : List Extension) → find (is_of 117) (e ∷ es) ≡ None → Absent e es
+absent-next e es none = grind (arith, common_steps)
+
+-- without a `u`, it makes no difference whether a `u` came before
+forms-absent : (t : Bool) (es : List Extension) → find (is_of 117) es ≡ None → forms_after true t es ≡ forms_after false t es
+forms-absent t [] none = refl
+forms-absent t (e ∷ es) none = grind (arith, common_steps, absent-next e es none, form-other true t e, form-other false t e, forms-absent (t || is_of 116 e) es)
+
+own-none : unicode_form [] ≡ []
+own-none = refl
+
+module _
+    (change : List (List ℕ) → List (List ℕ)) (some : (ss : List (List ℕ)) → 1 ≤ length (change ss))
+    (keeps : (ss : List (List ℕ)) → Good ss → unicode_form ss ≡ ss → unicode_form (change ss) ≡ change ss)
+  where
+    new-u : (t : Bool) (rest : List Extension) → forms_after true t rest ≡ rest → forms_after false t (extension_of 117 (change []) ++ rest) ≡ extension_of 117 (change []) ++ rest
+    new-u t rest own =
+        grind (arith, common_steps, extension-some 117 (change []) (some []), form-u t (extension 117 (change [])), u_is_u (change []), keeps [] tt own-none, u_is_no_t (change []))
+
+    changed-u :
+        (t : Bool) (e : Extension) (es : List Extension) → is_of 117 e ≡ true → IsWellFormedExtension e → forms_after false t (e ∷ es) ≡ e ∷ es →
+        forms_after false t (extension_of e.singleton (change e.subtags) ++ es) ≡ extension_of e.singleton (change e.subtags) ++ es
+    changed-u t e es is fits own =
+        let head : extension_form false t e ≡ e = cc in
+        let tail : forms_after (is_of 117 e) (t || is_of 116 e) es ≡ es = cc in
+        grind (arith, common_steps, head, tail, form-u t e is, form-u t (extension e.singleton (change e.subtags)) is, extension-some e.singleton (change e.subtags) (some e.subtags), keeps e.subtags fits.subtags)
+
+    forms-changed :
+        (t stands : Bool) (es : List Extension) → AllByRecursion IsWellFormedExtension es → (stands ≡ false → find (is_of 117) es ≡ None) → forms_after false t es ≡ es →
+        forms_after false t (changed_from change stands es) ≡ changed_from change stands es
+    forms-changed t stands [] fits absent own =
+        ap (forms_after false t) (sym (append-nil (extension_of 117 (change [])))) ∙ new-u t [] refl ∙ append-nil (extension_of 117 (change []))
+    forms-changed t stands (e ∷ es) fits absent own =
+        let head : extension_form false t e ≡ e = cc in
+        let tail : forms_after (is_of 117 e) (t || is_of 116 e) es ≡ es = cc in
+        grind (arith, common_steps, head, tail, changed-u t e es, append_assoc (extension_of 117 (change [])) (e ∷ []) es, new-u t (e ∷ es), forms-absent t (e ∷ es), forms-changed (t || is_of 116 e) stands es fits.1, absent-next e es, false≢true)
+
+pub canonical_tag :
+    (key : List ℕ) (v : List (List ℕ)) (r : Record) → keyword_error key v ≡ None → IsCanonicalKeyword key v → IsWellFormed r → extensions_record r ≡ r →
+    extensions_record (edited_record key (Some v) r) ≡ edited_record key (Some v) r
+unfolding extensions_record edited_record
+canonical_tag key v r none canonical well own =
+    ap (λ es. record r { extensions = es })
+    (forms-changed (with_keyword key v) (λ ss. some-put key (unwrap_or (find (is_this_key key) ss) key) (is_some (find (is_this_key key) ss)) v ss)
+    (λ ss good form. canonical_set key v ss none canonical.0 canonical.1 good form) false (is_some (find_extension 117 r.extensions)) r.extensions well.extensions
+    (λ is. grind (arith, common_steps, find_u, false≢true)) (ap (λ q. q.extensions) own))

@@ -1,32 +1,25 @@
 -- The case of letters changes nothing in the forms of extensions but case.
-use Rattle.std.proofs.lemmas.Grind.{common_steps}
-use Rattle.std.proofs.Common.{◌≡◌, ℕ, Bool, false, ◌||◌, ◌==◌, List, [], ◌∷◌, ◌++◌, map, Option, None, Some, option_map, unwrap_or, refl, ap, ◌∙◌, arith}
-use Rattle.std.specs.List.{list_any}
-use Rattle.std.proofs.lemmas.Bool.Decides.{nat_tests}
+use Rattle.langtag_keyword.proofs.Common.{common_steps, ◌≡◌, ℕ, Bool, false, ◌||◌, ◌==◌, List, [], ◌∷◌, ◌++◌, map, Option, None, Some, option_map, unwrap_or}
+use Rattle.langtag_keyword.proofs.Common.{refl, ap, ◌∙◌, arith, list_any, nat_tests, classes-fold, fold_text-twice, length-fold, AlikeRecords, Alike, are_alike}
+use Rattle.langtag_keyword.proofs.Common.{fold_text, is_region, is_script, is_variant, Extension, Record, Classes, join, subtags, type_alias_for, after_one}
+use Rattle.langtag_keyword.proofs.Common.{are_different_variants, are_fields, extension_form, forms_after, in_alphabet, language_form, is_language_or_none}
+use Rattle.langtag_keyword.proofs.Common.{is_of, is_transform, one_of, transform_form, unicode_form, unicode_value, before_key, is_key, value_of, is_field_key}
 use Rattle.langtag.proofs.Alike.{AlikeFields}
 use Rattle.langtag.proofs.FormLaws.{alike_forms}
 use Rattle.langtag.specs.Form.{IsAlikeForm}
-use Rattle.langtag_scan.proofs.CaseLaw.{classes-fold, fold_byte-twice, fold_text-twice, join-fold, length-fold, map-twice}
-use Rattle.langtag_scan.specs.AlikeRecords.{AlikeRecords, fold_extension}
-use Rattle.langtag_scan.specs.Case.{Alike, are_alike, fold_text}
-use Rattle.langtag_scan.specs.Class.{is_region, is_script, is_variant}
-use Rattle.langtag_scan.specs.Record.{Extension, Record}
-use Rattle.langtag_scan.specs.Stage.{Classes}
-use Rattle.langtag_scan.specs.Subtags.{join, subtags}
+use Rattle.langtag_scan.proofs.CaseLaw.{fold_byte-twice, join-fold, map-twice}
+use Rattle.langtag_scan.specs.AlikeRecords.{fold_extension}
 use Rattle.langtag_keyword.specs.Aliases.{transform_type_aliases}
-use Rattle.langtag_keyword.specs.Alias.{type_alias_for}
 use Rattle.langtag_keyword.specs.Form as form
-use Rattle.langtag_keyword.specs.Form.{after_one, are_different_variants, are_fields, extension_form, extensions_record, forms_after, in_alphabet, language_form, is_language_or_none, is_of, is_transform, may_follow, one_of, subdivision, transform_form, transform_value, unicode_form, unicode_type, unicode_value, without_true}
+use Rattle.langtag_keyword.specs.Form.{extensions_record, may_follow, subdivision, transform_value, unicode_type, without_true}
 use Rattle.langtag_unicode.specs.ExtensionsForm.{IsExtensionsForm}
-use Rattle.langtag_keyword.specs.Keywords.{before_key, is_key, value_of}
 use Rattle.langtag_unicode.specs.Identifier.{first_subtag, identifier_fields, identifier_variants}
-use Rattle.langtag_keyword.specs.Transform.{is_field_key}
-use Rattle.langtag_keyword.proofs.AlphabetTwice.{in_alphabet-alike}
+use Rattle.langtag_keyword.proofs.AlphabetLaws.{in_alphabet-alike}
 use Rattle.langtag_unicode.proofs.CanonicalKeywords.{key-fold}
 use Rattle.langtag_keyword.proofs.CanonicalValues.{replaced, subtags-fold}
-use Rattle.langtag_keyword.proofs.ExtensionForms.{form_by, form_tested, forms-next}
+use Rattle.langtag_keyword.proofs.KeywordLaws.{form_by, form_tested, forms-next}
 use Rattle.langtag_unicode.proofs.FormTwice.{language-parts, lower_fields, same_fields, unicode_language-fold}
-use Rattle.langtag_keyword.proofs.AliasCase.{alias_for-alike, type_alias_for-alike}
+use Rattle.langtag_keyword.proofs.Aliases.{alias_for-alike, type_alias_for-alike}
 use Rattle.langtag_keyword.proofs.KeywordsInForm.{same-values, values_in_form}
 use Rattle.langtag_unicode.proofs.WalkLaws.{field_key-fold}
 

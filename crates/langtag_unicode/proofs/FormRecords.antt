@@ -1,28 +1,22 @@
 -- The form of a tag is a tag: its extensions are well-formed.
-use Rattle.std.proofs.lemmas.Grind.{common_steps}
-use Rattle.std.proofs.Common.{◌≡◌, ℕ, ◌≤◌, ◌&&◌, ◌||◌, not, Bool, true, false, IsTrue, List, [], ◌∷◌, ◌++◌, length, map, Some, unwrap_or, refl, sym, ap, subst, ◌∙◌, arith, length-append}
-use Rattle.std.proofs.lemmas.Bool.{and_parts}
-use Rattle.std.proofs.lemmas.Bool.Decides.{nat_tests}
-use Rattle.std.specs.List.{AllByRecursion, filter, flat_map, list_all}
-use Rattle.std.specs.Option.{is_some}
-use Rattle.langtag_scan.proofs.CaseLaw.{classes-fold}
-use Rattle.langtag_scan.proofs.SubtagFacts.{of_extension_subtag}
-use Rattle.langtag_scan.proofs.SubtagLists.{each_from_test, each_subtag, subtags-joined, each-append}
-use Rattle.langtag_scan.specs.Case.{fold_text}
-use Rattle.langtag_scan.specs.Class.{is_alphanumeric, is_digit, is_extension_subtag, is_letter, is_mark, is_singleton}
-use Rattle.langtag_scan.specs.Record.{Extension, IsWellFormed, IsWellFormedExtension, Record}
-use Rattle.langtag_scan.specs.Subtags.{join, subtags}
-use Rattle.langtag_keyword.specs.Alias.{Alias, TypeAlias, alias_for, type_alias_for}
+use Rattle.langtag_keyword.proofs.Common.{common_steps, ◌≡◌, ℕ, ◌≤◌, ◌&&◌, ◌||◌, not, Bool, true, false, List, [], ◌∷◌, ◌++◌, length, map, Some, unwrap_or}
+use Rattle.langtag_keyword.proofs.Common.{refl, sym, ap, subst, ◌∙◌, arith, find, Option, None, and_parts, false≢true, nat_tests, AllByRecursion, filter}
+use Rattle.langtag_keyword.proofs.Common.{flat_map, list_all, is_some, classes-fold, of_extension_subtag, each_from_test, each_subtag, subtags-joined}
+use Rattle.langtag_keyword.proofs.Common.{each-append, fold_text, is_alphanumeric, Extension, IsWellFormed, IsWellFormedExtension, Record, join, subtags, Alias}
+use Rattle.langtag_keyword.proofs.Common.{TypeAlias, alias_for, type_alias_for, is_type, at_place, changed_from, edited, extension_of, is_this_key}
+use Rattle.langtag_keyword.proofs.Common.{is_unicode_key, keyword_error, put_keyword, without_within, extension_form, forms_after, in_alphabet, is_of}
+use Rattle.langtag_keyword.proofs.Common.{is_transform, transform_form, unicode_form, unicode_value, before_key, is_key, value_of, is_field_key, Classes}
+use Rattle.langtag_keyword.proofs.Common.{IsTrue}
+use Rattle.std.proofs.Common.{length-append}
+use Rattle.langtag_scan.specs.Class.{is_digit, is_extension_subtag, is_letter, is_mark, is_singleton}
 use Rattle.langtag_keyword.specs.Aliases.{subdivision_aliases, transform_type_aliases, unicode_type_aliases}
-use Rattle.langtag_keyword.specs.Edit.{is_type}
-use Rattle.langtag_keyword.specs.Form as form
-use Rattle.langtag_keyword.specs.Form.{extension_form, extensions_record, forms_after, in_alphabet, is_of, is_transform, put_among, transform_form, transform_value, unicode_form, unicode_value}
-use Rattle.langtag_keyword.specs.Keywords.{before_key, is_key, value_of}
-use Rattle.langtag_keyword.specs.Transform.{is_field_key}
+use Rattle.langtag_keyword.specs.Edit.{edited_record}
+use Rattle.langtag_keyword.specs.Form.{extensions_record, transform_value}
 use Rattle.langtag_keyword.proofs.KeywordsInForm.{each-has}
-use Rattle.langtag_keyword.proofs.Each.{each-alphabet, each-before}
-use Rattle.langtag_keyword.proofs.ExtensionForms.{form_by, form_tested}
-use Rattle.langtag_scan.specs.Stage.{Classes}
+use Rattle.langtag_keyword.proofs.AlphabetLaws.{each-alphabet, each-before}
+use Rattle.langtag_keyword.proofs.KeywordLaws.{form_by, form_tested, allowed_from, types-each}
+use Rattle.langtag_keyword.proofs.VariantLengths.{put-some}
+use Rattle.langtag_keyword.specs.Form as form
 
 -- each is a subtag of an extension
 abbrev pub Good : List (List ℕ) → Type 0
@@ -41,10 +35,6 @@ good-lower (s ∷ ss) good = (good-fold s ∙ good.0, good-lower ss good.1)
 
 good-alphabet : (ss : List (List ℕ)) → Good ss → Good (in_alphabet ss)
 good-alphabet = each-alphabet (λ s. IsTrue (is_extension_subtag s)) (λ s good. good-fold s ∙ good)
-
-some-put : (x : List ℕ) (ss : List (List ℕ)) → 1 ≤ length (put_among x ss)
-some-put x [] = omega arith
-some-put x (s ∷ ss) = grind (arith, nat_tests)
 
 -- ---- values
 
@@ -127,7 +117,7 @@ module _ (opens : List ℕ → Bool) (canonical : List ℕ → List ℕ → List
 
   -- a key puts something
   some-key : (s : List ℕ) (ss : List (List ℕ)) → opens s ≡ true → 1 ≤ length (form.keywords_form opens canonical (s ∷ ss))
-  some-key s ss is = by_keys (form.keys_in_order opens (s ∷ ss)) (grind (arith, nat_tests, some-put (fold_text s) (in_alphabet (filter opens ss)))) (each-has opens (s ∷ ss))
+  some-key s ss is = by_keys (form.keys_in_order opens (s ∷ ss)) (grind (arith, nat_tests, put-some (fold_text s) (in_alphabet (filter opens ss)))) (each-has opens (s ∷ ss))
     where
       by_keys : (keys : List (List ℕ)) → 1 ≤ length keys → AllByRecursion (λ k. is_some (value_of opens k (s ∷ ss)) ≡ true) keys →
           1 ≤ length (flat_map (form.keyword_form opens canonical (s ∷ ss)) keys)
@@ -142,7 +132,7 @@ good-unicode_form ss good = grind (arith, common_steps, each-append, good-alphab
 pub some-unicode_form : (ss : List (List ℕ)) → Good ss → 1 ≤ length ss → 1 ≤ length (unicode_form ss)
 some-unicode_form [] good some = absurd (omega (arith, some))
 some-unicode_form (s ∷ ss) good some =
-    grind (arith, nat_tests, some-key is_key unicode_value s ss, some-put (fold_text s) (in_alphabet (before_key is_key ss)), length-append (in_alphabet (before_key is_key (s ∷ ss))) (form.keywords_form is_key unicode_value (s ∷ ss)))
+    grind (arith, nat_tests, some-key is_key unicode_value s ss, put-some (fold_text s) (in_alphabet (before_key is_key ss)), length-append (in_alphabet (before_key is_key (s ∷ ss))) (form.keywords_form is_key unicode_value (s ∷ ss)))
 
 good-one : (test : List ℕ → Bool) (ss : List (List ℕ)) → Good ss → Good (form.one_of test ss)
 good-one test ss good = grind (arith, nat_tests)
@@ -182,3 +172,53 @@ good-forms u t (e ∷ es) fits = (good-extension u t e fits.0, good-forms (u || 
 pub form_well_formed : (r : Record) → IsWellFormed r → IsWellFormed (extensions_record r)
 unfolding extensions_record
 form_well_formed r well = grind (arith, nat_tests, good-forms false false r.extensions well.extensions)
+
+-- ---- the subtags of `u`
+
+good-without : (key : List ℕ) (inside : Bool) (ss : List (List ℕ)) → Good ss → Good (without_within key inside ss)
+good-without key inside [] good = tt
+good-without key inside (s ∷ ss) good = grind (arith, common_steps, good-without key true ss good.1, good-without key false ss good.1)
+
+good-put : (key : List ℕ) (stands : Bool) (keyword ss : List (List ℕ)) → Good keyword → Good ss → Good (put_keyword key stands keyword ss)
+good-put key stands keyword [] these good = these
+good-put key stands keyword (s ∷ ss) these good = grind (arith, common_steps, good-put key stands keyword ss these good.1, each-append, good-without)
+
+good-standing : (key : List ℕ) (ss : List (List ℕ)) → is_extension_subtag key ≡ true → Good ss → is_extension_subtag (unwrap_or (find (is_this_key key) ss) key) ≡ true
+good-standing key [] fits good = fits
+good-standing key (s ∷ ss) fits good = grind (arith, common_steps, good-standing key ss fits good.1)
+
+good-unicode_key : (key : List ℕ) → is_unicode_key key ≡ true → is_extension_subtag key ≡ true
+good-unicode_key [] is = absurd (false≢true is)
+good-unicode_key (a ∷ []) is = absurd (false≢true is)
+good-unicode_key (a ∷ b ∷ c ∷ key) is = absurd (false≢true is)
+good-unicode_key (a ∷ b ∷ []) is = grind (arith, common_steps, false≢true, and_parts, good-key)
+
+good-edited : (key : List ℕ) (value : Option (List (List ℕ))) → keyword_error key (unwrap_or value []) ≡ None → (ss : List (List ℕ)) → Good ss → Good (edited key value ss)
+good-edited key None none ss good = good-without key false ss good
+good-edited key (Some value) none ss good = grind (arith, common_steps, good-without, allowed_from, types-each, and_parts, good-put, good-standing, good-unicode_key)
+
+-- ---- extensions
+
+good-extension_of : (singleton : ℕ) (ss : List (List ℕ)) → is_singleton singleton ≡ true → Good ss → AllByRecursion IsWellFormedExtension (extension_of singleton ss)
+good-extension_of singleton [] is good = tt
+good-extension_of singleton (s ∷ ss) is good = (record { singleton = is; some = omega arith; subtags = good }, tt)
+
+u_singleton : is_singleton 117 ≡ true
+unfolding is_singleton is_letter is_digit is_mark
+u_singleton = refl
+
+module _ (change : List (List ℕ) → List (List ℕ)) (keeps : (ss : List (List ℕ)) → Good ss → Good (change ss)) where
+  good-place : (stands : Bool) (e : Extension) → IsWellFormedExtension e → AllByRecursion IsWellFormedExtension (at_place change stands e)
+  good-place true e fits = good-extension_of e.singleton (change e.subtags) fits.singleton (keeps e.subtags fits.subtags)
+  good-place false e fits = each-append _ (extension_of 117 (change [])) (e ∷ []) (good-extension_of 117 (change []) u_singleton (keeps [] tt)) (fits, tt)
+
+  good-changed : (stands : Bool) (es : List Extension) → AllByRecursion IsWellFormedExtension es → AllByRecursion IsWellFormedExtension (changed_from change stands es)
+  good-changed stands [] fits = good-extension_of 117 (change []) u_singleton (keeps [] tt)
+  good-changed stands (e ∷ es) fits = grind (arith, common_steps, good-changed stands es fits.1, good-extension_of, u_singleton, each-append, good-place)
+
+-- ---- the record
+
+pub edited_well_formed :
+    (key : List ℕ) (value : Option (List (List ℕ))) → keyword_error key (unwrap_or value []) ≡ None → (r : Record) → IsWellFormed r → IsWellFormed (edited_record key value r)
+unfolding edited_record
+edited_well_formed key value none r well = grind (arith, common_steps, good-changed, good-edited)

@@ -1,30 +1,28 @@
 -- The form of the extension `u`, and of `t`, is its own form.
-use Rattle.std.proofs.lemmas.Grind.{common_steps}
-use Rattle.std.proofs.Common.{arith}
-use Rattle.std.proofs.Common.{◌≡◌, ℕ, Bool, true, false, not, ◌&&◌, ◌==◌, List, [], ◌∷◌, ◌++◌, length, map, refl, sym, ap, subst, ◌∙◌}
+use Rattle.langtag_keyword.proofs.Common.{common_steps, arith, ◌≡◌, ℕ, Bool, true, false, not, ◌&&◌, ◌==◌, List, [], ◌∷◌, ◌++◌, length, map, refl, sym, ap}
+use Rattle.langtag_keyword.proofs.Common.{subst, ◌∙◌, ◌||◌, classes-fold, fold_text-twice, length-fold, fold_text, is_primary, is_variant, one_flat, Extension}
+use Rattle.langtag_keyword.proofs.Common.{IsWellFormed, IsWellFormedExtension, Record, Classes, subtags, are_different_variants, are_fields, in_alphabet}
+use Rattle.langtag_keyword.proofs.Common.{is_language_or_none, is_transform, is_unicode_language, language_form, one_of, transform_form, transform_value}
+use Rattle.langtag_keyword.proofs.Common.{unicode_form, unicode_value, extension_form, forms_after, is_of, before_key, is_key, is_field_key, both}
+use Rattle.langtag_keyword.proofs.Common.{AllByRecursion}
 use Rattle.langtag.specs.FieldClasses.{is_region_field, is_script_field}
 use Rattle.langtag.specs.Fields.{Fields, subtag_of}
-use Rattle.langtag_scan.proofs.CaseLaw.{classes-fold, fold_text-twice, length-fold}
-use Rattle.langtag_scan.specs.Case.{fold_text}
-use Rattle.langtag_scan.specs.Class.{is_primary, is_region, is_script, is_variant}
-use Rattle.langtag_scan.specs.Record.{one_flat}
-use Rattle.langtag_scan.specs.Stage.{Classes}
-use Rattle.langtag_scan.specs.Subtags.{subtags}
-use Rattle.langtag_keyword.specs.Form as form
-use Rattle.langtag_keyword.specs.Form.{after_one, are_different_variants, are_fields, in_alphabet, is_language_or_none, is_transform, is_unicode_language, language_form, one_of, transform_form, transform_value, unicode_form, unicode_value}
-use Rattle.langtag_keyword.specs.Keywords.{before_key, is_key}
+use Rattle.langtag_scan.specs.Case.{fold_byte}
+use Rattle.langtag_scan.specs.Class.{is_region, is_script}
+use Rattle.langtag_keyword.specs.Form.{extensions_record}
 use Rattle.langtag_unicode.specs.Identifier.{first_subtag, identifier_fields, identifier_flat, identifier_variants}
-use Rattle.langtag_keyword.specs.Transform.{is_field_key}
-use Rattle.langtag_keyword.proofs.AlphabetTwice.{in_alphabet-twice}
+use Rattle.langtag_keyword.proofs.AlphabetLaws.{in_alphabet-twice, each-alphabet}
 use Rattle.langtag_unicode.proofs.CanonicalKeywords.{key-fold, values-are}
 use Rattle.langtag_keyword.proofs.CanonicalValues.{transform-settled, unicode-settled}
-use Rattle.langtag_keyword.proofs.Each.{each-alphabet}
-use Rattle.langtag_unicode.proofs.FormRecords.{Good}
-use Rattle.langtag_unicode.proofs.IdentifierParts.{AreSubtags, AreVariants, different_variants, fields_good}
+use Rattle.langtag_unicode.proofs.FormRecords.{Good, form_well_formed}
+use Rattle.langtag_unicode.proofs.IdentifierParts.{AreSubtags, AreVariants, different_variants, fields_good, alphabet-apart}
 use Rattle.langtag_keyword.proofs.KeywordsInForm.{Plain, front-again, keywords-again, plain-before}
-use Rattle.langtag_unicode.proofs.Apart.{alphabet-apart}
-use Rattle.langtag_keyword.proofs.Found.{both}
-use Rattle.langtag_unicode.proofs.TransformParts.{AreNoFields, after_region, after_script, are-fields, field_values, identifier-no_field, identifier-variants, variant-no_region, variant-no_script, region-no_script}
+use Rattle.langtag_unicode.proofs.TransformParts.{AreNoFields, after_region, after_script, are-fields, field_values, identifier-no_field, identifier-variants}
+use Rattle.langtag_unicode.proofs.TransformParts.{variant-no_region, variant-no_script, region-no_script}
+use Rattle.langtag.proofs.FormLaws.{composed}
+use Rattle.langtag_unicode.specs.ExtensionsForm.{IsExtensionsForm}
+use Rattle.langtag_keyword.proofs.KeywordLaws.{form_by, form_tested, forms-next}
+use Rattle.langtag_keyword.specs.Form as form
 
 -- ---- the extension `u`
 
@@ -87,7 +85,7 @@ unicode_language-fold s = ap (λ (c : Classes). c.primary && not (length (fold_t
 lower-subtags : (f : Fields) → AreSubtags f → AreSubtags (lower_fields f)
 lower-subtags f subtags = grind (arith, common_steps, unicode_language-fold, script_field-fold, region_field-fold)
 
-alphabet-variants : (vs : List (List ℕ)) → AreVariants vs → AreVariants (in_alphabet vs)
+pub alphabet-variants : (vs : List (List ℕ)) → AreVariants vs → AreVariants (in_alphabet vs)
 alphabet-variants vs variants = each-alphabet (λ v. is_variant v ≡ true) (λ v is. ap (λ (c : Classes). c.variant) (classes-fold v) ∙ is) vs variants
 
 lower-twice : (f : Fields) → lower_fields (lower_fields f) ≡ lower_fields f
@@ -155,3 +153,36 @@ transform-twice ss good is = with-twice language_form ss good is (transform-is_f
 
 pub transform_form-is : (ss : List (List ℕ)) → Good ss → is_transform ss ≡ true → is_transform (transform_form ss) ≡ true
 transform_form-is ss good is = with-allowed language_form ss good is (transform-is_form ss is)
+
+-- ---- the form of a tag's extensions
+
+-- an extension and its form begin with alike singletons
+form-of : (n : ℕ) (u t : Bool) (e : Extension) → is_of n (extension_form u t e) ≡ is_of n e
+unfolding fold_byte
+form-of n u t e = grind (arith, common_steps, form_tested, form_by, both)
+
+extension-again : (u t : Bool) (e : Extension) → IsWellFormedExtension e → extension_form u t (extension_form u t e) ≡ extension_form u t e
+unfolding fold_byte
+extension-again u t e fits = subst (λ x. extension_form u t x ≡ x) (sym (form_tested u t _ _ e refl refl)) (by_tests (is_of 117 e && not u) (is_of 116 e && not t && is_transform e.subtags) refl refl)
+  where
+    by_tests : (a b : Bool) → (is_of 117 e && not u) ≡ a → (is_of 116 e && not t && is_transform e.subtags) ≡ b → extension_form u t (form_by a b e) ≡ form_by a b e
+    by_tests true b one two =
+        let first = (both (is_of 117 e) (not u) one).1 in
+        form_tested u t true _ (form_by true b e) first refl ∙ ap (λ ss. record { singleton = 117; subtags = ss }) (unicode-twice e.subtags fits.subtags)
+    by_tests false true one two =
+        let (this, allowed) = both (is_of 116 e && not t) (is_transform e.subtags) two in
+        let first = (both (is_of 116 e) (not t) this).1 in
+        form_tested u t false true (form_by false true e) refl (ap (λ b. b && is_transform (transform_form e.subtags)) first ∙ transform_form-is e.subtags fits.subtags allowed)
+        ∙ ap (λ ss. record { singleton = 116; subtags = ss }) (transform-twice e.subtags fits.subtags allowed)
+    by_tests false false one two = form_tested u t false false e one two
+
+forms-again : (u t : Bool) (es : List Extension) → AllByRecursion IsWellFormedExtension es → forms_after u t (forms_after u t es) ≡ forms_after u t es
+forms-again u t [] fits = refl
+forms-again u t (e ∷ es) fits = grind (arith, common_steps, forms-again (u || is_of 117 e) (t || is_of 116 e) es fits.1, forms-next, extension-again, form-of)
+
+record-again : (r : Record) → IsWellFormed r → extensions_record (extensions_record r) ≡ extensions_record r
+unfolding extensions_record
+record-again r well = ap (λ es. record r { extensions = es }) (forms-again false false r.extensions well.extensions)
+
+pub extensions_settled : (old new : List ℕ) → IsExtensionsForm old new → IsExtensionsForm new new
+extensions_settled old new is = composed extensions_record extensions_record extensions_record form_well_formed record-again old new new is is

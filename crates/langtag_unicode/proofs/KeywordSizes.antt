@@ -1,22 +1,35 @@
--- How long a tag may become when a keyword is set or removed.
-use Rattle.std.proofs.Common.{◌≡◌, ℕ, ◌+◌, ◌≤◌, Bool, true, false, List, [], ◌∷◌, length, find, None, Some, unwrap_or, refl, arith}
-use Rattle.std.proofs.lemmas.Bool.{and_parts}
-use Rattle.std.proofs.lemmas.Grind.{common_steps}
-use Rattle.std.specs.List.{flat_map}
-use Rattle.std.specs.Option.{is_some}
-use Rattle.langtag_extension.specs.Spelling.{find_extension}
+-- How long a tag may become when a keyword is set or removed, and what the order of keywords changes: nothing.
+use Rattle.langtag_keyword.proofs.Common.{◌≡◌, ℕ, ◌+◌, ◌≤◌, Bool, true, List, [], ◌∷◌, ◌++◌, length, refl, sym, ap, ◌∙◌, arith, rules, false, find, None, Some}
+use Rattle.langtag_keyword.proofs.Common.{unwrap_or, cond, append-nil, common_steps, flat_map, are_alike, Extension, Record, extension_flat, spell, subtags}
+use Rattle.langtag_keyword.proofs.Common.{length_with_hyphens, and_parts, false≢true, is_some, find_extension, at_place, changed_from, extension_of}
+use Rattle.langtag_keyword.proofs.Common.{is_this_key, put_keyword, with_keyword, without_keyword, without_within, is_key, before_key, value_of, in_alphabet}
+use Rattle.langtag_keyword.proofs.Common.{language_form, transform_form, transform_value, unicode_form, unicode_value, is_field_key}
+use Rattle.langtag_keyword.proofs.SubtagTexts.{length-all, length-with_hyphens}
+use Rattle.langtag_scan.proofs.PartOffsets.{length-spell}
 use Rattle.langtag_scan.proofs.NormalTexts.{normal_or_not}
 use Rattle.langtag.proofs.Alike.{alike_length}
 use Rattle.langtag.specs.Form.{IsForm}
-use Rattle.langtag_scan.specs.Case.{are_alike}
-use Rattle.langtag_scan.specs.Record.{Extension, Record, extension_flat, spell}
-use Rattle.langtag_scan.specs.Subtags.{subtags}
 use Rattle.langtag_scan.specs.Tag.{IsNormal}
-use Rattle.langtag_keyword.specs.Edit.{at_place, changed_from, edited_record, extension_of, is_this_key, put_keyword, with_keyword, without_keyword, without_within}
-use Rattle.langtag_keyword.specs.Keywords.{is_key}
+use Rattle.langtag_keyword.specs.Edit.{edited_record}
 use Rattle.langtag_keyword.proofs.ExtensionsPut.{flat-last}
-use Rattle.langtag_unicode.proofs.FormSizes.{bytes-most, extensions-length, size, size-append, subtags-size}
-use Rattle.langtag_keyword.proofs.KeywordEdits.{u-here, u-later}
+use Rattle.langtag_keyword.proofs.KeywordLaws.{u-here, u-later}
+use Rattle.langtag_unicode.specs.FormLaws.{IsKeyword, OrderChangesNothing}
+use Rattle.langtag_keyword.proofs.KeywordsInForm.{before-plain, same-values, value-plain}
+use Rattle.langtag_keyword.specs.Form as form
+
+-- the bytes of some subtags, each with a hyphen
+abbrev pub size : List (List ℕ) → ℕ
+size ss = length_with_hyphens ss
+
+pub size-append : (xs ys : List (List ℕ)) → size (xs ++ ys) ≡ size xs + size ys
+size-append [] ys = omega arith
+size-append (x ∷ xs) ys = let later = size-append xs ys in omega (arith, later)
+
+-- ---- the whole tag
+
+-- a tag with other extensions is longer by what these have more
+pub extensions-length : (r : Record) (es : List Extension) → length (spell (record r { extensions = es })) + size (flat_map extension_flat r.extensions) ≡ length (spell r) + size (flat_map extension_flat es)
+extensions-length r es = search (rules, length-spell, length-with_hyphens)
 
 -- ---- the subtags of `u`
 
@@ -55,9 +68,6 @@ module _
 
 -- ---- the whole tag
 
-value-size : (value : List ℕ) → size (subtags value) ≤ length value + 1
-value-size value = omega (arith, subtags-size value, bytes-most value)
-
 set_length : (key value : List ℕ) (r : Record) → length (spell (edited_record key (Some (subtags value)) r)) ≤ length (spell r) + length key + length value + 4
 unfolding edited_record
 set_length key value r =
@@ -68,7 +78,7 @@ set_length key value r =
     let many = with-size key (subtags value) [] in
     let all = changed-size change extra (2 + extra) (with-size key (subtags value)) (omega (arith, one, many)) (omega arith) stands r.extensions in
     let whole = extensions-length r (changed_from change stands r.extensions) in
-    let short = value-size value in
+    let short = length-all value in
     omega (arith, all, whole, short)
 
 removed_length : (key : List ℕ) (r : Record) → length (spell (edited_record key None r)) ≤ length (spell r)
@@ -86,3 +96,41 @@ set_bounded key value old new is = grind (arith, common_steps, normal_or_not old
 pub removed_bounded : (key old new : List ℕ) → IsForm (edited_record key None) old new → length new ≤ length old
 unfolding IsNormal
 removed_bounded key old new is = grind (arith, common_steps, normal_or_not old, removed_length key)
+
+-- ---- the order of keywords
+
+module _ (opens : List ℕ → Bool) where
+  stops : (k : List ℕ) (ss : List (List ℕ)) → opens k ≡ true → before_key opens (k ∷ ss) ≡ []
+  stops k ss is = ap (λ b. cond b [] (k ∷ before_key opens ss)) is
+
+  -- before two keys
+  before-same : (xs rs qs : List (List ℕ)) (k l : List ℕ) → opens k ≡ true → opens l ≡ true → before_key opens (xs ++ k ∷ rs) ≡ before_key opens (xs ++ l ∷ qs)
+  before-same [] rs qs k l is other = stops k rs is ∙ sym (stops l qs other)
+  before-same (x ∷ xs) rs qs k l is other = ap (λ t. cond (opens x) [] (x ∷ t)) (before-same xs rs qs k l is other)
+
+  value-same :
+      (key : List ℕ) (xs rs qs : List (List ℕ)) (k l : List ℕ) → opens k ≡ true → opens l ≡ true → value_of opens key (k ∷ rs) ≡ value_of opens key (l ∷ qs) →
+      value_of opens key (xs ++ k ∷ rs) ≡ value_of opens key (xs ++ l ∷ qs)
+  value-same key [] rs qs k l is other same = same
+  value-same key (x ∷ xs) rs qs k l is other same = grind (arith, common_steps, value-same key xs rs qs k l is other same, before-same)
+
+  -- a keyword, and what follows it
+  value-first :
+      (key k : List ℕ) (v rest : List (List ℕ)) → IsKeyword opens k v → before_key opens rest ≡ [] →
+      value_of opens key (k ∷ (v ++ rest)) ≡ cond (are_alike k key) (Some v) (value_of opens key rest)
+  value-first key k v rest are none = rw (are.0, before-plain opens v rest are.1, none, append-nil v, value-plain opens key v rest are.1) refl
+
+  value-moved :
+      (key : List ℕ) (before after : List (List ℕ)) (k l : List ℕ) (v w : List (List ℕ)) →
+      IsKeyword opens k v → IsKeyword opens l w → are_alike k l ≡ false → before_key opens after ≡ [] →
+      value_of opens key (before ++ k ∷ (v ++ l ∷ (w ++ after))) ≡ value_of opens key (before ++ l ∷ (w ++ k ∷ (v ++ after)))
+  value-moved key before after k l v w one two differ none = search (rules, one, two, differ, none, value-same, false≢true, value-first, stops)
+
+  moved : (start : List (List ℕ) → List (List ℕ)) (canonical : List ℕ → List ℕ → List ℕ) → OrderChangesNothing opens (λ ss. start (before_key opens ss) ++ form.keywords_form opens canonical ss)
+  moved start canonical before after k l v w one two differ none = grind (arith, common_steps, before-same, same-values, value-moved)
+
+pub unicode_moved : OrderChangesNothing is_key unicode_form
+unicode_moved = moved is_key in_alphabet unicode_value
+
+pub transform_moved : OrderChangesNothing is_field_key transform_form
+transform_moved = moved is_field_key language_form transform_value

@@ -1,34 +1,26 @@
 -- The parts of `t`: a language identifier whose parts are found again, and fields that have values.
-use Rattle.std.proofs.Common.{◌≡◌, ℕ, ◌≤◌, leb, Bool, true, false, ◌&&◌, ◌||◌, List, [], ◌∷◌, ◌++◌, length, map, find, Option, Some, None, option_map, unwrap_or, refl, sym, ap, subst, ◌∙◌, append-nil, append_assoc, arith}
-use Rattle.std.proofs.lemmas.Bool.{false≢true, leb-true}
-use Rattle.std.specs.List.{AllByRecursion, flat_map, list_all, list_any}
-use Rattle.std.proofs.lemmas.Bool.Decides.{nat_tests}
+use Rattle.langtag_keyword.proofs.Common.{IsTrue, each-weaker, ◌≡◌, ℕ, ◌≤◌, Bool, true, false, ◌&&◌, ◌||◌, List, [], ◌∷◌, ◌++◌, length, map, find, Option, Some}
+use Rattle.langtag_keyword.proofs.Common.{None, option_map, unwrap_or, refl, sym, ap, subst, ◌∙◌, append-nil, append_assoc, arith, false≢true, AllByRecursion}
+use Rattle.langtag_keyword.proofs.Common.{flat_map, list_all, list_any, nat_tests, length-fold, of_extension_subtag, each-append, each_from_test, each_subtag}
+use Rattle.langtag_keyword.proofs.Common.{subtags-joined, are_alike, fold_text, are_alike-decides, is_extension_subtag, is_region, is_script, is_variant}
+use Rattle.langtag_keyword.proofs.Common.{one_flat, join, subtags, TypeAlias, after_one, are_different_variants, are_fields, before_key, value_of, is_field_key}
+use Rattle.langtag_keyword.proofs.Common.{both, found_has}
+use Rattle.std.proofs.Common.{leb}
+use Rattle.std.proofs.lemmas.Bool.{leb-true}
 use Rattle.langtag.specs.FieldClasses.{is_region_field, is_script_field}
 use Rattle.langtag.specs.Fields.{Fields, subtag_of}
-use Rattle.langtag_scan.proofs.CaseLaw.{length-fold}
 use Rattle.langtag_scan.proofs.Disjoint.{first_no_digit, letter_no_digit, region_short, region_two_three, script_four, variant_long}
-use Rattle.langtag_scan.proofs.SubtagFacts.{of_extension_subtag}
-use Rattle.langtag_scan.proofs.SubtagLists.{each-append, each_from_test, each_subtag, subtags-joined}
-use Rattle.langtag_scan.specs.Case.{are_alike, fold_text}
-use Rattle.langtag_scan.specs.CaseLaws.{are_alike-decides}
-use Rattle.langtag_scan.specs.Class.{are_letters, is_extension_subtag, is_region, is_script, is_variant}
-use Rattle.langtag_scan.specs.Record.{one_flat}
-use Rattle.langtag_scan.specs.Subtags.{join, subtags}
+use Rattle.langtag_scan.specs.Class.{are_letters}
 use Rattle.langtag_tables.proofs.Letters.{primary_letters}
-use Rattle.langtag_keyword.specs.Alias.{TypeAlias}
 use Rattle.langtag_keyword.specs.Aliases.{transform_type_aliases}
 use Rattle.langtag_keyword.specs.Form as form
-use Rattle.langtag_keyword.specs.Form.{after_one, are_different_variants, are_fields, may_follow, transform_value}
-use Rattle.langtag_keyword.specs.Keywords.{before_key, value_of}
+use Rattle.langtag_keyword.specs.Form.{may_follow, transform_value}
 use Rattle.langtag_unicode.specs.Identifier.{identifier_flat}
-use Rattle.langtag_keyword.specs.Transform.{is_field_key}
 use Rattle.langtag_unicode.proofs.CanonicalKeywords.{alike-back}
 use Rattle.langtag_unicode.proofs.FormRecords.{Good, good-value}
-use Rattle.langtag_unicode.proofs.IdentifierParts.{AreSubtags, language_primary, AreVariants}
+use Rattle.langtag_unicode.proofs.IdentifierParts.{AreSubtags, language_primary, AreVariants, Apart}
 use Rattle.langtag_keyword.proofs.KeywordsInForm.{AreKeywords, values_in_form}
 use Rattle.langtag_unicode.proofs.WalkLaws.{field_key-fold}
-use Rattle.langtag_unicode.proofs.Apart.{Apart}
-use Rattle.langtag_keyword.proofs.Found.{both, found_has}
 
 -- ---- no subtag of a language identifier is the key of a field
 
@@ -53,8 +45,7 @@ variant_four : (v : List ℕ) → is_variant v ≡ true → 4 ≤ length v
 variant_four v is = grind (arith, nat_tests, variant_long v is)
 
 variants-no_field : (vs : List (List ℕ)) → AreVariants vs → AreNoFields vs
-variants-no_field [] are = tt
-variants-no_field (v ∷ vs) are = let four = variant_four v are.0 in (long-no_field v (omega (arith, four)), variants-no_field vs are.1)
+variants-no_field = each-weaker (λ v. IsTrue (is_variant v)) (λ s. is_field_key s ≡ false) (λ v is. let four = variant_four v is in long-no_field v (omega (arith, four)))
 
 pub identifier-no_field : (f : Fields) (vs : List (List ℕ)) → AreSubtags f → AreVariants vs → AreNoFields (identifier_flat f vs)
 identifier-no_field f vs subtags variants =
@@ -147,8 +138,7 @@ lower-value [] value = let some = value.some in absurd (omega (arith, some))
 lower-value (s ∷ ss) value = record { some = omega arith; long = lower-long (s ∷ ss) value.long }
 
 value-no_field : (ss : List (List ℕ)) → AllByRecursion (λ s. leb 3 (length s) ≡ true) ss → AreNoFields ss
-value-no_field [] long = tt
-value-no_field (s ∷ ss) long = (long-no_field s (leb-true _ _ long.0), value-no_field ss long.1)
+value-no_field = each-weaker (λ s. leb 3 (length s) ≡ true) (λ s. is_field_key s ≡ false) (λ s long. long-no_field s (leb-true _ _ long))
 
 -- ---- fields, each of which is a key and a value, or nothing
 

@@ -1,17 +1,10 @@
 -- What a lookup and a walk have in common.
-use Rattle.std.proofs.Common.{rules}
-use Rattle.std.proofs.lemmas.Grind.{common_steps}
-use Rattle.std.proofs.Common.{◌≡◌, ℕ, Bool, true, false, cond, ◌&&◌, ◌==◌, not, List, [], ◌∷◌, ◌++◌, length, Option, Some, refl, ap, sym, ◌∙◌, arith}
-use Rattle.std.specs.List.{list_any}
-use Rattle.std.specs.Option.{option_map}
-use Rattle.std.proofs.lemmas.Bool.Decides.{nat_tests}
-use Rattle.std.proofs.lemmas.List.Folds.{list_any-append}
+use Rattle.langtag_keyword.proofs.Common.{rules, common_steps, ◌≡◌, ℕ, Bool, true, false, cond, ◌&&◌, ◌==◌, not, List, [], ◌∷◌, ◌++◌, length, Option, Some}
+use Rattle.langtag_keyword.proofs.Common.{refl, ap, sym, ◌∙◌, arith, list_any, nat_tests, list_any-append, fold_text, are_alike, Alike, join, length-fold}
+use Rattle.langtag_keyword.proofs.Common.{before_key, value_of, is_key, keywords_after, is_field_key, option_map}
 use Rattle.std.proofs.lemmas.Map.Steps.{list_any_congr}
-use Rattle.langtag_scan.specs.Case.{fold_text, are_alike, Alike}
-use Rattle.langtag_scan.specs.Subtags.{join}
-use Rattle.langtag_scan.proofs.CaseLaw.{is_letter-fold, is_digit-fold, length-fold}
-use Rattle.langtag_keyword.specs.Keywords.{Keyword, before_key, value_among, value_of, is_key, keywords_after, keywords_of}
-use Rattle.langtag_keyword.specs.Transform.{is_field_key}
+use Rattle.langtag_scan.proofs.CaseLaw.{is_letter-fold, is_digit-fold}
+use Rattle.langtag_keyword.specs.Keywords.{Keyword, value_among, keywords_of}
 use Rattle.langtag.proofs.Alike.{alike_is, are_alike-right}
 
 -- ---- the case of letters

@@ -27,7 +27,7 @@ fn others_stay_after_set()
 {}
 
 /// A key that is set twice gives the same record as the second call alone.
-#[tactic(auto, using(langtag_keyword::proofs::KeywordTwice::set_twice))]
+#[tactic(auto, using(langtag_keyword::proofs::KeywordBlocks::set_twice))]
 fn set_twice()
     // law: a key that is set twice gives the same tag as the second call alone
     ensures set_twice { (k : List ℕ) (v w : List (List ℕ)) (r : model.Record) → spec.keyword_error k v ≡ None
@@ -35,7 +35,7 @@ fn set_twice()
 {}
 
 /// A record whose extensions are in canonical form stays so when a canonical keyword is set.
-#[tactic(auto, using(crate::proofs::CanonicalTags::canonical_tag))]
+#[tactic(auto, using(crate::proofs::CanonicalKeywords::canonical_tag))]
 fn canonical_after_set()
     // law: a tag whose extensions are in canonical form stays so when a canonical keyword is set
     ensures canonical { (k : List ℕ) (v : List (List ℕ)) (r : model.Record) → spec.keyword_error k v ≡ None → spec.IsCanonicalKeyword k v → model.IsWellFormed r → extensions_record r ≡ r
@@ -66,14 +66,14 @@ fn canonical_after_removal()
 {}
 
 /// Keywords of `u` with different keys may change places: the form is the same.
-#[tactic(auto, using(crate::proofs::KeywordOrder::unicode_moved))]
+#[tactic(auto, using(crate::proofs::KeywordSizes::unicode_moved))]
 fn keywords_move()
     // law: keywords of `u` with different keys may change places: the form is the same
     ensures keywords_move { OrderChangesNothing is_key unicode_form }
 {}
 
 /// Fields of `t` with different keys may change places: the form is the same.
-#[tactic(auto, using(crate::proofs::KeywordOrder::transform_moved))]
+#[tactic(auto, using(crate::proofs::KeywordSizes::transform_moved))]
 fn fields_move()
     // law: fields of `t` with different keys may change places: the form is the same
     ensures fields_move { OrderChangesNothing is_field_key transform_form }

@@ -1,8 +1,7 @@
 use Rattle.std.proofs.Common.{arith}
 use Rattle.std.proofs.lemmas.Bool.Decides.{nat_tests}
 use Rattle.langtag_scan.proofs.TagLaws.{tag_normal}
-use Rattle.langtag_span.proofs.PartLaws.{part_sets}
-use Rattle.langtag_span.proofs.TagLengths.{some_tag}
+use Rattle.langtag_span.proofs.TagLengths.{part_sets, some_tag}
 use Rattle.langtag_c.proofs.with_part.langtag_with_part.Goals as goal
 
 pub returns-clause-set : goal.returns-clause-set

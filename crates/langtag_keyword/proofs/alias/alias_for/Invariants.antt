@@ -1,5 +1,4 @@
-use Rattle.std.proofs.Common.{◌≡◌, length, map}
-use Rattle.langtag_keyword.specs.Alias.{alias_for}
+use Rattle.langtag_keyword.proofs.Common.{◌≡◌, length, map, alias_for}
 use Rattle.langtag_keyword.proofs.alias.alias_for.Given as goal
 
 -- the text was not met so far

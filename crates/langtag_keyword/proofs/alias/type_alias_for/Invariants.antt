@@ -1,5 +1,4 @@
-use Rattle.std.proofs.Common.{◌≡◌, length, map}
-use Rattle.langtag_keyword.specs.Alias.{type_alias_for}
+use Rattle.langtag_keyword.proofs.Common.{◌≡◌, length, map, type_alias_for}
 use Rattle.langtag_keyword.proofs.alias.type_alias_for.Given as goal
 
 -- the type was not met so far

@@ -1,6 +1,4 @@
-use Rattle.std.proofs.Common.{◌≡◌, length}
-use Rattle.langtag_scan.specs.Case.{fold_text}
-use Rattle.langtag_keyword.specs.Form.{is_before}
+use Rattle.langtag_keyword.proofs.Common.{◌≡◌, length, fold_text, is_before}
 use Rattle.langtag_keyword.proofs.alphabet.is_before.Given as goal
 
 -- all bytes so far tie

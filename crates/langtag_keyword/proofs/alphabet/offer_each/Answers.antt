@@ -1,8 +1,4 @@
-use Rattle.std.proofs.Common.{◌≡◌, [], ◌∷◌, map, sym, ap, subst, ◌∙◌}
-use Rattle.std.specs.List.{AllByRecursion}
-use Rattle.langtag_scan.proofs.SubtagFacts.{IsSubtag}
-use Rattle.langtag_scan.specs.Subtags.{segments_left}
-use Rattle.langtag_keyword.specs.Least.{IsOffered, order_number}
+use Rattle.langtag_keyword.proofs.Common.{◌≡◌, [], ◌∷◌, map, sym, ap, subst, ◌∙◌, AllByRecursion, IsSubtag, segments_left, IsOffered, order_number}
 use Rattle.langtag_keyword.proofs.LeastTexts.{offered-both, offered-none}
 use Rattle.langtag_keyword.proofs.alphabet.offer_each.Goals as goal
 

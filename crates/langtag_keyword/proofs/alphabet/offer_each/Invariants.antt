@@ -1,8 +1,4 @@
-use Rattle.std.proofs.Common.{length, map}
-use Rattle.std.specs.List.{AllByRecursion}
-use Rattle.langtag_scan.proofs.SubtagFacts.{IsSubtag}
-use Rattle.langtag_scan.specs.Subtags.{segments_left}
-use Rattle.langtag_keyword.specs.Least.{IsOffered, Least, order_number}
+use Rattle.langtag_keyword.proofs.Common.{length, map, AllByRecursion, IsSubtag, segments_left, IsOffered, Least, order_number}
 use Rattle.langtag_keyword.proofs.alphabet.offer_each.Given as goal
 
 -- those that are left are offered after those before them

@@ -1,6 +1,4 @@
-use Rattle.std.proofs.Common.{map, refl, sym, ap}
-use Rattle.langtag_output.proofs.Pushed.{pushes_ended, pushes_next, pushes_same}
-use Rattle.langtag_scan.specs.Case.{fold_text}
+use Rattle.langtag_keyword.proofs.Common.{map, refl, sym, ap, pushes_ended, pushes_next, pushes_same, fold_text}
 use Rattle.langtag_keyword.proofs.alphabet.push_each_lowercase.Goals as goal
 
 pub loop-subtag-preserved : goal.loop-subtag-preserved

@@ -1,8 +1,4 @@
-use Rattle.std.proofs.Common.{map}
-use Rattle.langtag_scan.specs.Case.{fold_text}
-use Rattle.langtag_scan.specs.Subtags.{subtags}
-use Rattle.langtag_output.specs.declared.output.Output.{Output}
-use Rattle.langtag_output.specs.Output.{Pushes}
+use Rattle.langtag_keyword.proofs.Common.{map, fold_text, subtags, Output, Pushes}
 use Rattle.langtag_keyword.proofs.alphabet.push_each_lowercase.Given as goal
 
 -- those that are left are put after those before them

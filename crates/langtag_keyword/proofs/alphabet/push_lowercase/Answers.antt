@@ -1,5 +1,4 @@
-use Rattle.std.proofs.Common.{[], ap, sym, subst, arith, append-nil, length}
-use Rattle.langtag_output.specs.Output.{HasText, with_subtag}
+use Rattle.langtag_keyword.proofs.Common.{[], ap, sym, subst, arith, append-nil, length, HasText, with_subtag}
 use Rattle.langtag_keyword.proofs.AlphabetLaws.{byte-put, bytes-put}
 use Rattle.langtag_keyword.proofs.alphabet.push_lowercase.Goals as goal
 

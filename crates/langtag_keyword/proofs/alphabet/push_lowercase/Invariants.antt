@@ -1,6 +1,5 @@
-use Rattle.std.proofs.Common.{ℕ, List, [], ◌++◌, take, MutBor}
-use Rattle.langtag_scan.specs.Case.{fold_text}
-use Rattle.langtag_output.specs.Output.{HasText, with_subtag}
+use Rattle.langtag_keyword.proofs.Common.{ℕ, List, [], ◌++◌, take, fold_text, HasText, with_subtag}
+use Rattle.std.proofs.Common.{MutBor}
 use Rattle.langtag_keyword.proofs.alphabet.push_lowercase.Given as goal
 
 -- the bytes before this index stand after the hyphen

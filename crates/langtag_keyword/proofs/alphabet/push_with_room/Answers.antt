@@ -1,8 +1,4 @@
-use Rattle.std.proofs.Common.{◌∷◌, []}
-use Rattle.langtag_output.proofs.Pushed.{pushes_same}
-use Rattle.langtag_scan.specs.Subtags.{segments_left}
-use Rattle.langtag_keyword.specs.Form.{in_alphabet}
-use Rattle.langtag_keyword.specs.Least.{number_text}
+use Rattle.langtag_keyword.proofs.Common.{◌∷◌, [], pushes_same, segments_left, in_alphabet, number_text}
 use Rattle.langtag_keyword.proofs.LeastTexts.{each-number, put-texts, rounds-ended, rounds-first, rounds-next, rounds-smaller}
 use Rattle.langtag_keyword.proofs.alphabet.push_with_room.Goals as goal
 

@@ -1,6 +1,4 @@
-use Rattle.std.proofs.Common.{◌≡◌}
-use Rattle.langtag_scan.specs.Subtags.{subtags}
-use Rattle.langtag_keyword.specs.Edit.{without_keyword, without_within}
+use Rattle.langtag_keyword.proofs.Common.{◌≡◌, subtags, without_keyword, without_within}
 use Rattle.langtag_keyword.proofs.edited_subtags.has_others.Given as goal
 
 -- none of those before this one stays

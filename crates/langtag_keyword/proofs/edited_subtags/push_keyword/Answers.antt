@@ -1,5 +1,4 @@
-use Rattle.std.proofs.Common.{◌∷◌, sym}
-use Rattle.langtag_output.proofs.Pushed.{pushes_ended, pushes_next, pushes_same}
+use Rattle.langtag_keyword.proofs.Common.{◌∷◌, sym, pushes_ended, pushes_next, pushes_same}
 use Rattle.langtag_keyword.proofs.edited_subtags.push_keyword.Goals as goal
 
 pub loop-subtag-preserved : goal.loop-subtag-preserved

@@ -1,7 +1,4 @@
-use Rattle.std.proofs.Common.{◌∷◌}
-use Rattle.langtag_scan.specs.Subtags.{subtags}
-use Rattle.langtag_output.specs.declared.output.Output.{Output}
-use Rattle.langtag_output.specs.Output.{Pushes}
+use Rattle.langtag_keyword.proofs.Common.{◌∷◌, subtags, Output, Pushes}
 use Rattle.langtag_keyword.proofs.edited_subtags.push_keyword.Given as goal
 
 -- those that are left are put after those before them

@@ -1,9 +1,6 @@
-use Rattle.std.proofs.Common.{◌≡◌, ◌∷◌, ◌++◌, false, true, option_map, unwrap_or, sym, ap, ◌∙◌}
-use Rattle.std.specs.Option.{is_some}
-use Rattle.langtag_output.proofs.Pushed.{pushes_both, pushes_next, pushes_same}
-use Rattle.langtag_scan.specs.Subtags.{segments_left, subtags}
-use Rattle.langtag_keyword.specs.Edit.{is_place, without_keyword}
-use Rattle.langtag_keyword.proofs.KeywordEdits.{put-here, put-later, put_at_standing, standing-some, standing-text}
+use Rattle.langtag_keyword.proofs.Common.{◌≡◌, ◌∷◌, ◌++◌, false, true, option_map, unwrap_or, sym, ap, ◌∙◌, is_some, pushes_both, pushes_next, pushes_same}
+use Rattle.langtag_keyword.proofs.Common.{segments_left, subtags, is_place, without_keyword}
+use Rattle.langtag_keyword.proofs.KeywordLaws.{put-here, put-later, put_at_standing, standing-some, standing-text}
 use Rattle.langtag_keyword.proofs.edited_subtags.push_with_keyword.Goals as goal
 
 pub returns-then-is_place : goal.returns-then-is_place

@@ -1,9 +1,5 @@
-use Rattle.std.proofs.Common.{length, option_map}
-use Rattle.langtag_scan.specs.Subtags.{segments_left, subtags}
-use Rattle.langtag_output.specs.declared.output.Output.{Output}
-use Rattle.langtag_output.specs.Output.{Pushes}
-use Rattle.langtag_keyword.specs.Edit.{with_keyword}
-use Rattle.langtag_keyword.proofs.KeywordEdits.{put_at_standing}
+use Rattle.langtag_keyword.proofs.Common.{length, option_map, segments_left, subtags, Output, Pushes, with_keyword}
+use Rattle.langtag_keyword.proofs.KeywordLaws.{put_at_standing}
 use Rattle.langtag_keyword.proofs.edited_subtags.push_with_keyword.Given as goal
 
 -- the keyword, and those that stay of the rest, are put after those before them

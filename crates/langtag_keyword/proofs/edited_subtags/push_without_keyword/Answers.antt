@@ -1,8 +1,5 @@
-use Rattle.std.proofs.Common.{◌≡◌, ◌∷◌, sym, ap, ◌∙◌}
-use Rattle.langtag_output.proofs.Pushed.{pushes_ended, pushes_next, pushes_same}
-use Rattle.langtag_scan.specs.Subtags.{segments_left}
-use Rattle.langtag_keyword.specs.Edit.{without_within}
-use Rattle.langtag_keyword.proofs.KeywordEdits.{without-gone, without-kept}
+use Rattle.langtag_keyword.proofs.Common.{◌≡◌, ◌∷◌, sym, ap, ◌∙◌, pushes_ended, pushes_next, pushes_same, segments_left, without_within}
+use Rattle.langtag_keyword.proofs.KeywordLaws.{without-gone, without-kept}
 use Rattle.langtag_keyword.proofs.edited_subtags.push_without_keyword.Goals as goal
 
 pub loop-rest-preserved-then-not-is_inside : goal.loop-rest-preserved-then-not-is_inside

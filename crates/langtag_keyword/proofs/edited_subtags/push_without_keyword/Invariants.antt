@@ -1,8 +1,4 @@
-use Rattle.std.proofs.Common.{length}
-use Rattle.langtag_scan.specs.Subtags.{segments_left}
-use Rattle.langtag_output.specs.declared.output.Output.{Output}
-use Rattle.langtag_output.specs.Output.{Pushes}
-use Rattle.langtag_keyword.specs.Edit.{without_keyword, without_within}
+use Rattle.langtag_keyword.proofs.Common.{length, segments_left, Output, Pushes, without_keyword, without_within}
 use Rattle.langtag_keyword.proofs.edited_subtags.push_without_keyword.Given as goal
 
 -- those that stay of the rest are put after those before them

@@ -1,9 +1,6 @@
-use Rattle.std.proofs.Common.{◌∷◌, [], true, false, refl, sym, ap, ◌∙◌, arith}
-use Rattle.langtag_output.proofs.Pushed.{pushes_joined, pushes_same}
-use Rattle.langtag_scan.specs.Record.{extension_flat}
-use Rattle.langtag_scan.specs.Subtags.{subtags}
-use Rattle.langtag_keyword.specs.Form.{extension_form, transform_form, unicode_form}
-use Rattle.langtag_keyword.proofs.ExtensionForms.{form_tested}
+use Rattle.langtag_keyword.proofs.Common.{◌∷◌, [], true, false, refl, sym, ap, ◌∙◌, arith, pushes_joined, pushes_same, extension_flat, subtags, extension_form}
+use Rattle.langtag_keyword.proofs.Common.{transform_form, unicode_form}
+use Rattle.langtag_keyword.proofs.KeywordLaws.{form_tested}
 use Rattle.langtag_keyword.proofs.extension_form.push_extension.Goals as goal
 
 pub returns-then-is_first : goal.returns-then-is_first

@@ -1,9 +1,6 @@
-use Rattle.std.proofs.Common.{List, false, ap, ◌∙◌}
-use Rattle.std.specs.List.{flat_map}
-use Rattle.langtag_extension.specs.Text.{extension_text, extensions_left}
-use Rattle.langtag_scan.specs.Record.{Extension, extension_flat}
-use Rattle.langtag_keyword.specs.Form.{extension_form, forms_after}
-use Rattle.langtag_keyword.proofs.ExtensionsPut.{left-ended, left-next}
+use Rattle.langtag_keyword.proofs.Common.{List, false, ap, ◌∙◌, flat_map, extension_text, extensions_left, Extension, extension_flat, extension_form}
+use Rattle.langtag_keyword.proofs.Common.{forms_after}
+use Rattle.langtag_keyword.proofs.ExtensionsPut.{left-next, left-none}
 use Rattle.langtag_keyword.proofs.extension_form.push_extensions.Goals as goal
 
 pub loop-extension-init : goal.loop-extension-init
@@ -14,7 +11,7 @@ loop-extension-init c = record {
     left = es;
     spelled = ap extensions_left c.into_iter-extension-iterator.ensures.into_iter_gives ∙ c.iter-extension-items.ensures.list es spells;
     members = spells.members;
-    these = λ new those. those;
+    holds = λ new those. those;
   };
 }
 
@@ -33,6 +30,4 @@ loop-extension-preserved c =
     }
 
 pub returns : goal.returns
-returns c = λ es spells.
-    left-ended (λ (left : List Extension). flat_map extension_flat (forms_after c.loop-extension.after_u c.loop-extension.after_t left)) (flat_map extension_flat (forms_after false false es)) _ c.loop-extension.out
-    _ _ c.in-None.ensures.steps.0 (c.loop-extension.invariant.so_far es spells) (λ first text has. has)
+returns c = λ es spells. left-none _ _ (c.loop-extension.invariant.so_far es spells) c.in-None.ensures.steps.0 _ (λ first text has. has)

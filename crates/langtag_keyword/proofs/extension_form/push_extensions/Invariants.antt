@@ -1,10 +1,6 @@
-use Rattle.std.proofs.Common.{List, false}
-use Rattle.std.specs.List.{flat_map}
-use Rattle.langtag_extension.specs.Spelling.{SpellsExtensions}
-use Rattle.langtag_extension.specs.Text.{extensions_left, extensions_text}
+use Rattle.langtag_keyword.proofs.Common.{List, false, flat_map, SpellsExtensions, extensions_left, extensions_text, forms_after}
 use Rattle.langtag_scan.specs.Record as model
-use Rattle.langtag_keyword.specs.Form.{forms_after}
-use Rattle.langtag_keyword.proofs.ExtensionsPut.{AreLeft}
+use Rattle.langtag_keyword.proofs.ExtensionsPut.{AreLeft, ArePut}
 use Rattle.langtag_keyword.proofs.extension_form.push_extensions.Given as goal
 
 -- the forms of those that are left are put after the forms of those before them
@@ -14,6 +10,6 @@ invariant-loop-extension l = record {
   is_finite : (goal.iterator-loop-extension).is_finite l.extension-iterator;
   so_far :
       (es : List model.Extension) → SpellsExtensions es (extensions_text l.fn.extensions) →
-      AreLeft (λ left. flat_map model.extension_flat (forms_after l.after_u l.after_t left)) (flat_map model.extension_flat (forms_after false false es))
-      (extensions_left l.extension-iterator) l.fn.out l.out;
+      AreLeft (ArePut (λ left. flat_map model.extension_flat (forms_after l.after_u l.after_t left)) (flat_map model.extension_flat (forms_after false false es)) l.fn.out l.out)
+      (extensions_left l.extension-iterator);
 }

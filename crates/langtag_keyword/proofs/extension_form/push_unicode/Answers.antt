@@ -1,11 +1,6 @@
-use Rattle.std.proofs.Common.{◌∷◌, [], ap, subst, sym}
-use Rattle.langtag_output.proofs.Pushed.{pushes_both, pushes_same}
-use Rattle.std.specs.List.{AllByRecursion}
-use Rattle.langtag_scan.proofs.SubtagFacts.{IsSubtag}
+use Rattle.langtag_keyword.proofs.Common.{◌∷◌, [], ap, subst, sym, pushes_both, pushes_same, AllByRecursion, IsSubtag, segments_left, subtags, in_alphabet}
+use Rattle.langtag_keyword.proofs.Common.{keywords_form, unicode_form, unicode_value, before_key, is_key}
 use Rattle.langtag_keyword.proofs.SubtagTexts.{fits-before_key}
-use Rattle.langtag_scan.specs.Subtags.{segments_left, subtags}
-use Rattle.langtag_keyword.specs.Form.{in_alphabet, keywords_form, unicode_form, unicode_value}
-use Rattle.langtag_keyword.specs.Keywords.{before_key, is_key}
 use Rattle.langtag_keyword.proofs.extension_form.push_unicode.Goals as goal
 
 pub push_in_alphabet-requires : goal.push_in_alphabet-requires

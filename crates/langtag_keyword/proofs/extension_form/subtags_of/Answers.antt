@@ -1,7 +1,4 @@
-use Rattle.std.proofs.Common.{drop, sym, ap, subst, ◌∙◌}
-use Rattle.std.specs.List.{AllByRecursion}
-use Rattle.langtag_scan.proofs.SubtagFacts.{IsSubtag}
-use Rattle.langtag_scan.specs.Subtags.{subtags}
+use Rattle.langtag_keyword.proofs.Common.{drop, sym, ap, subst, ◌∙◌, AllByRecursion, IsSubtag, subtags}
 use Rattle.langtag_keyword.proofs.SubtagTexts.{boundary-after_singleton, fits-after_singleton, subtags-after_singleton}
 use Rattle.langtag_keyword.proofs.extension_form.subtags_of.Goals as goal
 

@@ -1,7 +1,5 @@
-use Rattle.std.proofs.Common.{◌≡◌, ◌+◌}
-use Rattle.langtag_scan.specs.Subtags.{subtags}
+use Rattle.langtag_keyword.proofs.Common.{◌≡◌, ◌+◌, subtags, length_with_hyphens}
 use Rattle.langtag_keyword.specs.Edit.{invalid_type, invalid_type_from}
-use Rattle.langtag_keyword.specs.Keys.{length_with_hyphens}
 use Rattle.langtag_keyword.proofs.keyword_check.invalid_type.Given as goal
 
 -- those before this one are types

@@ -1,8 +1,4 @@
-use Rattle.std.proofs.Common.{◌++◌, [], sym, ap, ◌∙◌}
-use Rattle.std.specs.List.{flat_map}
-use Rattle.langtag_output.proofs.Pushed.{pushes_both, pushes_same}
-use Rattle.langtag_scan.specs.Record.{extension_flat}
-use Rattle.langtag_keyword.specs.Edit.{at_place, extension_of}
+use Rattle.langtag_keyword.proofs.Common.{◌++◌, [], sym, ap, ◌∙◌, flat_map, pushes_both, pushes_same, extension_flat, at_place, extension_of}
 use Rattle.langtag_keyword.specs.EditText.{edited_by, replaces}
 use Rattle.langtag_keyword.proofs.ExtensionsPut.{extension-pushed, flat-last}
 use Rattle.langtag_keyword.proofs.keyword_edit.push_at.Goals as goal

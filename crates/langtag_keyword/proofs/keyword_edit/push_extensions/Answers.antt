@@ -1,9 +1,5 @@
-use Rattle.std.proofs.Common.{refl}
-use Rattle.std.specs.List.{flat_map}
-use Rattle.langtag_extension.specs.Text.{extension_text, extensions_left}
-use Rattle.langtag_scan.specs.Record.{extension_flat}
-use Rattle.langtag_keyword.proofs.ExtensionsPut.{extension-pushed, left-ended, left-next}
-use Rattle.langtag_output.proofs.Pushed.{pushes_ended}
+use Rattle.langtag_keyword.proofs.Common.{refl, flat_map, extension_text, extensions_left, extension_flat, pushes_ended}
+use Rattle.langtag_keyword.proofs.ExtensionsPut.{extension-pushed, left-next, left-none}
 use Rattle.langtag_keyword.proofs.keyword_edit.push_extensions.Goals as goal
 
 pub loop-extension-preserved : goal.loop-extension-preserved
@@ -17,6 +13,4 @@ loop-extension-preserved c = record {
 }
 
 pub returns : goal.returns
-returns c = λ es members spelled.
-    left-ended (flat_map extension_flat) (flat_map extension_flat es) c.args.out.now c.loop-extension.out _ c.loop-extension.out c.in-None.ensures.steps.0 (c.loop-extension.invariant.so_far es members spelled)
-    (pushes_ended _ _ refl)
+returns c = λ es members spelled. left-none _ _ (c.loop-extension.invariant.so_far es members spelled) c.in-None.ensures.steps.0 _ (pushes_ended _ _ refl)

@@ -1,11 +1,7 @@
-use Rattle.std.proofs.Common.{[], ◌∷◌, List, ℕ, Option, option_map, refl, sym, ap, ◌∙◌}
+use Rattle.langtag_keyword.proofs.Common.{[], ◌∷◌, List, ℕ, Option, option_map, refl, sym, ap, ◌∙◌, flat_map, pushes_next, pushes_same, extension_flat, subtags}
+use Rattle.langtag_keyword.proofs.Common.{edited, extension_of, with_keyword}
 use Rattle.std.specs.Borrow.{Bor}
-use Rattle.std.specs.List.{flat_map}
-use Rattle.langtag_output.proofs.Pushed.{pushes_next, pushes_same}
-use Rattle.langtag_scan.specs.Record.{extension_flat}
-use Rattle.langtag_scan.specs.Subtags.{subtags}
-use Rattle.langtag_keyword.specs.Edit.{edited, extension_of, with_keyword}
-use Rattle.langtag_keyword.proofs.KeywordTwice.{extension-flat, some-put}
+use Rattle.langtag_keyword.proofs.KeywordBlocks.{extension-flat, some-put}
 use Rattle.langtag_keyword.proofs.keyword_edit.push_unicode.Goals as goal
 
 pub returns : goal.returns

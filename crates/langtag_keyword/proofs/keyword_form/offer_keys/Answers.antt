@@ -1,8 +1,4 @@
-use Rattle.std.proofs.Common.{map, sym, ap, subst, ◌∙◌}
-use Rattle.std.specs.List.{AllByRecursion, filter}
-use Rattle.langtag_scan.proofs.SubtagFacts.{IsSubtag}
-use Rattle.langtag_keyword.specs.Keys.{opens_keyword}
-use Rattle.langtag_keyword.specs.Least.{IsOffered, order_number}
+use Rattle.langtag_keyword.proofs.Common.{map, sym, ap, subst, ◌∙◌, AllByRecursion, filter, IsSubtag, opens_keyword, IsOffered, order_number}
 use Rattle.langtag_keyword.proofs.LeastTexts.{offered-more, offered-none, offered-other}
 use Rattle.langtag_keyword.proofs.keyword_form.offer_keys.Goals as goal
 

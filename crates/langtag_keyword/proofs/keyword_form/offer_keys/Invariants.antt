@@ -1,9 +1,4 @@
-use Rattle.std.proofs.Common.{map}
-use Rattle.std.specs.List.{AllByRecursion, filter}
-use Rattle.langtag_scan.proofs.SubtagFacts.{IsSubtag}
-use Rattle.langtag_scan.specs.Subtags.{subtags}
-use Rattle.langtag_keyword.specs.Keys.{opens_keyword}
-use Rattle.langtag_keyword.specs.Least.{IsOffered, Least, order_number}
+use Rattle.langtag_keyword.proofs.Common.{map, AllByRecursion, filter, IsSubtag, subtags, opens_keyword, IsOffered, Least, order_number}
 use Rattle.langtag_keyword.proofs.keyword_form.offer_keys.Given as goal
 
 -- the keys that are left are offered after those before them

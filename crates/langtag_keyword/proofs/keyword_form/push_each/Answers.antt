@@ -1,11 +1,5 @@
-use Rattle.std.proofs.Common.{ap, arith}
-use Rattle.std.specs.List.{flat_map}
-use Rattle.std.proofs.lemmas.List.{drop_all}
-use Rattle.langtag_output.proofs.Pushed.{pushes_ended, pushes_same}
-use Rattle.langtag_scan.specs.Subtags.{subtags}
-use Rattle.langtag_keyword.specs.Form.{keyword_form}
-use Rattle.langtag_keyword.specs.Keys.{canonical_value_of, opens_keyword}
-use Rattle.langtag_keyword.specs.Least.{key_of}
+use Rattle.langtag_keyword.proofs.Common.{ap, arith, flat_map, drop_all, pushes_ended, pushes_same, subtags, keyword_form, canonical_value_of, opens_keyword}
+use Rattle.langtag_keyword.proofs.Common.{key_of}
 use Rattle.langtag_keyword.proofs.LeastTexts.{put_more}
 use Rattle.langtag_keyword.proofs.keyword_form.push_each.Goals as goal
 

@@ -1,11 +1,4 @@
-use Rattle.std.proofs.Common.{ℕ, List, drop}
-use Rattle.std.specs.List.{flat_map}
-use Rattle.langtag_output.specs.declared.output.Output.{Output}
-use Rattle.langtag_output.specs.Output.{Pushes}
-use Rattle.langtag_scan.specs.Subtags.{subtags}
-use Rattle.langtag_keyword.specs.Form.{keyword_form}
-use Rattle.langtag_keyword.specs.Keys.{canonical_value_of, opens_keyword}
-use Rattle.langtag_keyword.specs.Least.{key_of}
+use Rattle.langtag_keyword.proofs.Common.{ℕ, List, drop, flat_map, Output, Pushes, subtags, keyword_form, canonical_value_of, opens_keyword, key_of}
 use Rattle.langtag_keyword.proofs.keyword_form.push_each.Given as goal
 
 -- the keywords of the numbers that are left are put after those before them

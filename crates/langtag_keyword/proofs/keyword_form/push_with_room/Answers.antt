@@ -1,9 +1,4 @@
-use Rattle.std.specs.List.{filter}
-use Rattle.langtag_output.proofs.Pushed.{pushes_same}
-use Rattle.langtag_scan.specs.Subtags.{subtags}
-use Rattle.langtag_keyword.specs.Form.{keyword_form}
-use Rattle.langtag_keyword.specs.Keys.{canonical_value_of, opens_keyword}
-use Rattle.langtag_keyword.specs.Least.{key_of}
+use Rattle.langtag_keyword.proofs.Common.{filter, pushes_same, subtags, keyword_form, canonical_value_of, opens_keyword, key_of}
 use Rattle.langtag_keyword.proofs.KeySetLaws.{are-keys}
 use Rattle.langtag_keyword.proofs.LeastTexts.{keys-fit, put-keys_in_order, rounds-ended, rounds-first, rounds-next, rounds-smaller}
 use Rattle.langtag_keyword.proofs.keyword_form.push_with_room.Goals as goal

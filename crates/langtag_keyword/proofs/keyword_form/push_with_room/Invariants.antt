@@ -1,9 +1,4 @@
-use Rattle.std.proofs.Common.{◌-◌}
-use Rattle.std.specs.List.{filter}
-use Rattle.langtag_scan.specs.Subtags.{subtags}
-use Rattle.langtag_keyword.specs.Form.{keyword_form}
-use Rattle.langtag_keyword.specs.Keys.{canonical_value_of, opens_keyword}
-use Rattle.langtag_keyword.specs.Least.{key_of}
+use Rattle.langtag_keyword.proofs.Common.{◌-◌, filter, subtags, keyword_form, canonical_value_of, opens_keyword, key_of}
 use Rattle.langtag_keyword.proofs.LeastTexts.{Rounds}
 use Rattle.langtag_keyword.proofs.keyword_form.push_with_room.Given as goal
 

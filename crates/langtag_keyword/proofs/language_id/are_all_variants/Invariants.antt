@@ -1,7 +1,4 @@
-use Rattle.std.proofs.Common.{◌≡◌, length}
-use Rattle.std.specs.List.{list_all}
-use Rattle.langtag_scan.specs.Class.{is_variant}
-use Rattle.langtag_scan.specs.Subtags.{segments_left}
+use Rattle.langtag_keyword.proofs.Common.{◌≡◌, length, list_all, is_variant, segments_left}
 use Rattle.langtag_keyword.proofs.language_id.are_all_variants.Given as goal
 
 -- the answer hangs on what is left

@@ -1,7 +1,4 @@
-use Rattle.std.proofs.Common.{◌≡◌, length}
-use Rattle.std.specs.List.{list_any}
-use Rattle.langtag_scan.specs.Case.{are_alike}
-use Rattle.langtag_scan.specs.Subtags.{segments_left}
+use Rattle.langtag_keyword.proofs.Common.{◌≡◌, length, list_any, are_alike, segments_left}
 use Rattle.langtag_keyword.proofs.language_id.is_among.Given as goal
 
 -- none so far is equal

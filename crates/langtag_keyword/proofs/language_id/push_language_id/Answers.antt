@@ -1,9 +1,5 @@
-use Rattle.std.proofs.Common.{◌∷◌, ◌++◌, [], map, sym, ap, ◌∙◌}
-use Rattle.langtag_output.proofs.Pushed.{pushes_both, pushes_same}
-use Rattle.langtag_scan.specs.Case.{fold_text}
-use Rattle.langtag_scan.specs.Class.{is_region, is_script}
-use Rattle.langtag_scan.specs.Subtags.{segments, segments_left}
-use Rattle.langtag_keyword.specs.Form.{after_one, in_alphabet, language_form, one_of}
+use Rattle.langtag_keyword.proofs.Common.{◌∷◌, ◌++◌, [], map, sym, ap, ◌∙◌, pushes_both, pushes_same, fold_text, is_region, is_script, segments, segments_left}
+use Rattle.langtag_keyword.proofs.Common.{after_one, in_alphabet, language_form, one_of}
 use Rattle.langtag_keyword.proofs.language_id.push_language_id.Goals as goal
 
 pub returns : goal.returns

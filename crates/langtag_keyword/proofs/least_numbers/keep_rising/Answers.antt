@@ -1,5 +1,4 @@
-use Rattle.std.proofs.Common.{◌≡◌, ◌<◌, [], ◌++◌, take, drop, length, append-nil, sym, ap, ◌∙◌, arith}
-use Rattle.std.proofs.lemmas.List.{drop_all}
+use Rattle.langtag_keyword.proofs.Common.{◌≡◌, ◌<◌, [], ◌++◌, take, drop, length, append-nil, sym, ap, ◌∙◌, arith, drop_all}
 use Rattle.langtag_keyword.specs.Least.{ascending_after}
 use Rattle.langtag_keyword.proofs.LeastLaws.{moved-more, moved-passed}
 use Rattle.langtag_keyword.proofs.least_numbers.keep_rising.Goals.{then-number-last, else-number-last}

@@ -1,6 +1,5 @@
-use Rattle.std.proofs.Common.{ℕ, List, [], ◌++◌, not, ◌==◌, take, MutBor}
-use Rattle.std.specs.List.{filter}
-use Rattle.langtag_output.specs.Output.{HasText, with_subtag}
+use Rattle.langtag_keyword.proofs.Common.{ℕ, List, [], ◌++◌, not, ◌==◌, take, filter, HasText, with_subtag}
+use Rattle.std.proofs.Common.{MutBor}
 use Rattle.langtag_keyword.proofs.least_numbers.push_number.Given as goal
 
 -- the digits before this index that are not zero stand after the hyphen

@@ -1,8 +1,4 @@
-use Rattle.std.proofs.Common.{◌∷◌, [], ap, arith}
-use Rattle.std.specs.List.{flat_map}
-use Rattle.std.proofs.lemmas.List.{drop_all}
-use Rattle.langtag_output.proofs.Pushed.{pushes_ended}
-use Rattle.langtag_keyword.specs.Least.{number_text}
+use Rattle.langtag_keyword.proofs.Common.{◌∷◌, [], ap, arith, flat_map, drop_all, pushes_ended, number_text}
 use Rattle.langtag_keyword.proofs.LeastTexts.{put_more}
 use Rattle.langtag_keyword.proofs.least_numbers.push_numbers.Goals as goal
 

@@ -1,8 +1,4 @@
-use Rattle.std.proofs.Common.{◌∷◌, [], drop}
-use Rattle.std.specs.List.{flat_map}
-use Rattle.langtag_output.specs.declared.output.Output.{Output}
-use Rattle.langtag_output.specs.Output.{Pushes}
-use Rattle.langtag_keyword.specs.Least.{number_text}
+use Rattle.langtag_keyword.proofs.Common.{◌∷◌, [], drop, flat_map, Output, Pushes, number_text}
 use Rattle.langtag_keyword.proofs.least_numbers.push_numbers.Given as goal
 
 -- the subtags of the numbers that are left are put after those before them

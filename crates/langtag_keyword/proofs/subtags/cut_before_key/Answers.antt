@@ -1,5 +1,4 @@
-use Rattle.std.proofs.Common.{◌-◌, ap, ◌∙◌}
-use Rattle.langtag_keyword.specs.Keys.{opens_keyword}
+use Rattle.langtag_keyword.proofs.Common.{◌-◌, ap, ◌∙◌, opens_keyword}
 use Rattle.langtag_keyword.proofs.SubtagTexts.{boundary-before_key}
 use Rattle.langtag_keyword.proofs.subtags.cut_before_key.Goals as goal
 

@@ -1,7 +1,4 @@
-use Rattle.std.proofs.Common.{◌≡◌, ◌+◌}
-use Rattle.langtag_scan.specs.Subtags.{subtags}
-use Rattle.langtag_keyword.specs.Keys.{length_with_hyphens, opens_keyword}
-use Rattle.langtag_keyword.specs.Keywords.{before_key}
+use Rattle.langtag_keyword.proofs.Common.{◌≡◌, ◌+◌, subtags, length_with_hyphens, opens_keyword, before_key}
 use Rattle.langtag_keyword.proofs.subtags.len_before_key.Given as goal
 
 -- what is counted, and those before the first key that are left, are all before the first key

@@ -1,8 +1,4 @@
-use Rattle.std.proofs.Common.{ap, ◌∙◌}
-use Rattle.langtag_scan.proofs.SubtagLists.{subtags-joined}
-use Rattle.langtag_scan.specs.Subtags.{join, subtags}
-use Rattle.langtag_keyword.specs.Keys.{opens_keyword}
-use Rattle.langtag_keyword.specs.Keywords.{before_key}
+use Rattle.langtag_keyword.proofs.Common.{ap, ◌∙◌, subtags-joined, join, subtags, opens_keyword, before_key}
 use Rattle.langtag_keyword.proofs.SubtagTexts.{fits-before_key}
 use Rattle.langtag_keyword.proofs.subtags.preceding.Goals as goal
 

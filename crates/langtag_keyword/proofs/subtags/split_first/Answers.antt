@@ -1,6 +1,4 @@
-use Rattle.std.proofs.Common.{◌≡◌, ◌-◌, ◌<◌, length, take, get_or, sym, subst, ap, ◌∙◌, arith}
-use Rattle.std.proofs.lemmas.Str.{IsCharBoundary-after_ascii}
-use Rattle.langtag_scan.specs.Subtags.{NoHyphenWithin}
+use Rattle.langtag_keyword.proofs.Common.{◌≡◌, ◌-◌, ◌<◌, length, take, get_or, sym, subst, ap, ◌∙◌, arith, IsCharBoundary-after_ascii, NoHyphenWithin}
 use Rattle.langtag_keyword.proofs.SubtagTexts.{segments-cut, segments-whole}
 use Rattle.langtag_keyword.proofs.subtags.split_first.Goals as goal
 

@@ -1,7 +1,4 @@
-use Rattle.std.proofs.Common.{◌≡◌, length}
-use Rattle.langtag_scan.specs.Subtags.{subtags, segments_left}
-use Rattle.langtag_keyword.specs.Keys.{opens_keyword}
-use Rattle.langtag_keyword.specs.Keywords.{value_of}
+use Rattle.langtag_keyword.proofs.Common.{◌≡◌, length, subtags, segments_left, opens_keyword, value_of}
 use Rattle.langtag_keyword.proofs.subtags.value_in.Given as goal
 
 -- the key was not met so far

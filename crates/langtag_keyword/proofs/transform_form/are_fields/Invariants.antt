@@ -1,6 +1,4 @@
-use Rattle.std.proofs.Common.{◌≡◌, false}
-use Rattle.langtag_scan.specs.Subtags.{subtags}
-use Rattle.langtag_keyword.specs.Form.{are_fields}
+use Rattle.langtag_keyword.proofs.Common.{◌≡◌, false, subtags, are_fields}
 use Rattle.langtag_keyword.proofs.transform_form.are_fields.Given as goal
 
 -- the answer hangs on what is left

@@ -1,7 +1,5 @@
-use Rattle.std.proofs.Common.{sym, ap, ◌∙◌}
-use Rattle.langtag_scan.specs.Subtags.{segments_left}
-use Rattle.langtag_keyword.specs.Form.{is_language_or_none}
-use Rattle.langtag_keyword.proofs.ExtensionForms.{language-some}
+use Rattle.langtag_keyword.proofs.Common.{sym, ap, ◌∙◌, segments_left, is_language_or_none}
+use Rattle.langtag_keyword.proofs.KeywordLaws.{language-some}
 use Rattle.langtag_keyword.proofs.transform_form.is_language_or_none.Goals as goal
 
 pub returns-in-Some : goal.returns-in-Some

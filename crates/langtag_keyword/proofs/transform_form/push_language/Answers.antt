@@ -1,11 +1,6 @@
-use Rattle.std.proofs.Common.{sym, ap, subst, ◌∙◌}
-use Rattle.langtag_output.proofs.Pushed.{pushes_ended, pushes_same}
-use Rattle.std.specs.List.{AllByRecursion}
-use Rattle.langtag_scan.proofs.SubtagFacts.{IsSubtag}
+use Rattle.langtag_keyword.proofs.Common.{sym, ap, subst, ◌∙◌, pushes_ended, pushes_same, AllByRecursion, IsSubtag, is_field_key, segments_left, subtags}
+use Rattle.langtag_keyword.proofs.Common.{language_form}
 use Rattle.langtag_keyword.proofs.SubtagTexts.{fits-before_key}
-use Rattle.langtag_keyword.specs.Transform.{is_field_key}
-use Rattle.langtag_scan.specs.Subtags.{segments_left, subtags}
-use Rattle.langtag_keyword.specs.Form.{language_form}
 use Rattle.langtag_keyword.proofs.transform_form.push_language.Goals as goal
 
 pub push_language_id-requires : goal.push_language_id-requires

@@ -1,9 +1,5 @@
-use Rattle.std.proofs.Common.{◌∷◌, []}
-use Rattle.langtag_output.proofs.Pushed.{pushes_both}
-use Rattle.langtag_scan.specs.Subtags.{subtags}
-use Rattle.langtag_keyword.specs.Form.{keywords_form, language_form, transform_form, transform_value}
-use Rattle.langtag_keyword.specs.Keywords.{before_key}
-use Rattle.langtag_keyword.specs.Transform.{is_field_key}
+use Rattle.langtag_keyword.proofs.Common.{◌∷◌, [], pushes_both, subtags, keywords_form, language_form, transform_form, transform_value, before_key}
+use Rattle.langtag_keyword.proofs.Common.{is_field_key}
 use Rattle.langtag_keyword.proofs.transform_form.push_transform.Goals as goal
 
 pub returns : goal.returns

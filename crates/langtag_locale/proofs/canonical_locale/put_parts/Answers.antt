@@ -1,19 +1,13 @@
-use Rattle.std.proofs.Common.{◌++◌, [], sym, ap, subst, ◌∙◌, rules}
-use Rattle.std.specs.List.{flat_map}
+use Rattle.langtag_keyword.proofs.Common.{◌++◌, [], sym, ap, subst, ◌∙◌, rules, flat_map, HasText, pushes_both, pushes_same, extension_flat, private_part_flat}
+use Rattle.langtag_keyword.proofs.Common.{each_from_test, is_variant, subtags}
 use Rattle.langtag.specs.Text.{normal_lang_tag_text}
 use Rattle.langtag_likely.specs.Texts.{field_texts}
-use Rattle.langtag_output.specs.Output.{HasText}
 use Rattle.langtag.proofs.PartsFound.{variants_listed}
-use Rattle.langtag_output.proofs.Pushed.{pushes_both, pushes_same}
-use Rattle.langtag_scan.specs.Record.{extension_flat, private_part_flat}
 use Rattle.langtag_locale.specs.LocaleForm.{extensions_in_order, identifier_form, new_variants, record_fields}
 use Rattle.langtag_unicode.specs.Identifier.{identifier_flat}
 use Rattle.langtag_locale.proofs.IdentifierForms.{locale_joined}
-use Rattle.langtag_locale.proofs.SpelledLocales.{spelled_locale}
+use Rattle.langtag_locale.proofs.WholeLaws.{spelled_locale}
 use Rattle.langtag_place.specs.Text.{variants_text}
-use Rattle.langtag_scan.proofs.SubtagLists.{each_from_test}
-use Rattle.langtag_scan.specs.Class.{is_variant}
-use Rattle.langtag_scan.specs.Subtags.{subtags}
 use Rattle.langtag_unicode.proofs.IdentifierParts.{AreVariants}
 use Rattle.langtag_locale.proofs.canonical_locale.put_parts.Goals as goal
 

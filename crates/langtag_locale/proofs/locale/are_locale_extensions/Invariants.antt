@@ -1,8 +1,6 @@
-use Rattle.std.proofs.Common.{List}
-use Rattle.langtag_extension.specs.Spelling.{SpellsExtensions}
-use Rattle.langtag_extension.specs.Text.{extensions_left, extensions_text}
+use Rattle.langtag_keyword.proofs.Common.{List, SpellsExtensions, extensions_left, extensions_text}
 use Rattle.langtag_scan.specs.Record as model
-use Rattle.langtag_locale.proofs.LocaleExtensions.{AreAsked}
+use Rattle.langtag_locale.proofs.LocaleRecords.{AreAsked}
 use Rattle.langtag_locale.proofs.locale.are_locale_extensions.Given as goal
 
 -- those before this one are allowed

@@ -1,10 +1,7 @@
-use Rattle.std.proofs.Common.{◌∷◌, [], true, false, refl, sym, ap, ◌∙◌, arith}
-use Rattle.langtag_output.proofs.Pushed.{pushes_joined, pushes_same}
-use Rattle.langtag_scan.specs.Record.{extension_flat}
-use Rattle.langtag_scan.specs.Subtags.{subtags}
-use Rattle.langtag_keyword.specs.Form.{is_of, is_transform, unicode_form}
+use Rattle.langtag_keyword.proofs.Common.{◌∷◌, [], true, false, refl, sym, ap, ◌∙◌, arith, pushes_joined, pushes_same, extension_flat, subtags, is_of}
+use Rattle.langtag_keyword.proofs.Common.{is_transform, unicode_form}
 use Rattle.langtag_locale.specs.LocaleForm.{locale_extension_form, locale_transform_form}
-use Rattle.langtag_locale.proofs.LocaleExtensions.{locale_form_tested, transform_allowed}
+use Rattle.langtag_locale.proofs.LocaleRecords.{locale_form_tested, transform_allowed}
 use Rattle.langtag_locale.proofs.locale_extensions.push_extension.Goals as goal
 
 pub push_locale_transform-requires-clause-allowed : goal.push_locale_transform-requires-clause-allowed

@@ -1,10 +1,7 @@
-use Rattle.std.proofs.Common.{◌≡◌, option_map, sym, ap, ◌∙◌}
-use Rattle.langtag_extension.specs.Spelling.{find_extension}
-use Rattle.langtag_extension.specs.Text.{extension_text, singleton_byte}
-use Rattle.langtag_output.proofs.Pushed.{pushes_ended, pushes_same}
-use Rattle.langtag_locale.proofs.LocaleExtensions.{at_found, at_nothing, found_one, none_found}
+use Rattle.langtag_keyword.proofs.Common.{◌≡◌, option_map, sym, ap, ◌∙◌, find_extension, extension_text, pushes_ended, pushes_same, found_has}
+use Rattle.langtag_extension.specs.Text.{singleton_byte}
+use Rattle.langtag_locale.proofs.LocaleRecords.{at_found, at_nothing, found_one, none_found}
 use Rattle.langtag_locale.specs.Locale.{is_locale_extension}
-use Rattle.langtag_keyword.proofs.Found.{found_has}
 use Rattle.langtag_locale.proofs.locale_extensions.push_extension_at.Goals as goal
 
 pub push_extension-requires : goal.push_extension-requires

@@ -1,12 +1,7 @@
-use Rattle.std.proofs.Common.{false, sym, ap, ◌∙◌}
-use Rattle.langtag_output.proofs.Pushed.{pushes_ended, pushes_same}
-use Rattle.langtag_scan.specs.Subtags.{segments_left, subtags}
-use Rattle.langtag_keyword.specs.Form.{are_fields, is_language_or_none}
-use Rattle.langtag_keyword.specs.Keywords.{before_key}
+use Rattle.langtag_keyword.proofs.Common.{false, sym, ap, ◌∙◌, pushes_ended, pushes_same, segments_left, subtags, are_fields, is_language_or_none, before_key}
+use Rattle.langtag_keyword.proofs.Common.{is_field_key, both}
 use Rattle.langtag_locale.specs.LocaleForm.{transform_language_form}
-use Rattle.langtag_keyword.specs.Transform.{is_field_key}
-use Rattle.langtag_keyword.proofs.ExtensionForms.{language-some}
-use Rattle.langtag_keyword.proofs.Found.{both}
+use Rattle.langtag_keyword.proofs.KeywordLaws.{language-some}
 use Rattle.langtag_locale.proofs.locale_extensions.push_language.Goals as goal
 
 pub push_language_id-requires : goal.push_language_id-requires

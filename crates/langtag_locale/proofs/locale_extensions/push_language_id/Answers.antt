@@ -1,8 +1,6 @@
-use Rattle.std.proofs.Common.{◌≡◌, sym, ap, subst, ◌∙◌}
-use Rattle.langtag_scan.specs.Class.{is_region, is_script}
-use Rattle.langtag_scan.specs.Subtags.{segments_left}
-use Rattle.langtag_keyword.specs.Form.{after_one, are_different_variants, is_language_id, is_unicode_language}
-use Rattle.langtag_keyword.proofs.Found.{both}
+use Rattle.langtag_keyword.proofs.Common.{◌≡◌, sym, ap, subst, ◌∙◌, is_region, is_script, segments_left, after_one, are_different_variants, is_unicode_language}
+use Rattle.langtag_keyword.proofs.Common.{both}
+use Rattle.langtag_keyword.specs.Form.{is_language_id}
 use Rattle.langtag_unicode.proofs.IdentifierParts.{AreVariants, different_variants}
 use Rattle.langtag_locale.proofs.locale_extensions.push_language_id.Goals as goal
 

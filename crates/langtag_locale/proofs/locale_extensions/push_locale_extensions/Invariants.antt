@@ -1,9 +1,4 @@
-use Rattle.std.proofs.Common.{List, drop}
-use Rattle.std.specs.List.{flat_map}
-use Rattle.langtag_extension.specs.Spelling.{SpellsExtensions}
-use Rattle.langtag_extension.specs.Text.{extensions_text}
-use Rattle.langtag_output.specs.declared.output.Output.{Output}
-use Rattle.langtag_output.specs.Output.{Pushes}
+use Rattle.langtag_keyword.proofs.Common.{List, drop, flat_map, SpellsExtensions, extensions_text, Output, Pushes}
 use Rattle.langtag_scan.specs.Record as model
 use Rattle.langtag_registry.specs.Canonical.{singletons}
 use Rattle.langtag_locale.specs.LocaleForm.{extension_at}

@@ -1,11 +1,8 @@
-use Rattle.std.proofs.Common.{not, sym, ap, ◌∙◌}
-use Rattle.std.specs.List.{fold, list_all}
+use Rattle.langtag_keyword.proofs.Common.{not, sym, ap, ◌∙◌, list_all, segments_left, TypeAlias, fold}
 use Rattle.langtag.specs.FieldClasses.{is_language_field}
-use Rattle.langtag_scan.specs.Subtags.{segments_left}
-use Rattle.langtag_keyword.specs.Alias.{TypeAlias}
 use Rattle.langtag_locale.specs.LocaleForm.{language_after}
 use Rattle.langtag_locale.specs.LocaleAliases.{variant_languages}
-use Rattle.langtag_locale.proofs.IdentifierLast.{not_some}
+use Rattle.langtag_locale.proofs.IdentifierTwice.{not_some}
 use Rattle.langtag_locale.proofs.LocaleTables.{no_variants, variant_languages_good}
 use Rattle.langtag_locale.proofs.locale_fields.language_with.Goals as goal
 

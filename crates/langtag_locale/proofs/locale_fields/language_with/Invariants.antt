@@ -1,8 +1,5 @@
-use Rattle.std.proofs.Common.{◌≡◌, true, length, map}
-use Rattle.std.specs.List.{fold, list_all}
+use Rattle.langtag_keyword.proofs.Common.{◌≡◌, true, length, map, list_all, segments_left, TypeAlias, fold}
 use Rattle.langtag.specs.FieldClasses.{is_language_field}
-use Rattle.langtag_scan.specs.Subtags.{segments_left}
-use Rattle.langtag_keyword.specs.Alias.{TypeAlias}
 use Rattle.langtag_locale.specs.LocaleAliases.{variant_languages}
 use Rattle.langtag_locale.specs.LocaleForm.{language_after}
 use Rattle.langtag_locale.proofs.locale_fields.language_with.Given as goal

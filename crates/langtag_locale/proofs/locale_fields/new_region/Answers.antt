@@ -1,10 +1,5 @@
-use Rattle.std.proofs.Common.{ap, refl, sym, ◌∙◌}
-use Rattle.std.specs.List.{list_all}
-use Rattle.std.specs.Option.{option_map}
+use Rattle.langtag_keyword.proofs.Common.{ap, refl, sym, ◌∙◌, list_all, are_alike, segments, alias_for, option_map}
 use Rattle.langtag.specs.FieldClasses.{is_region_field}
-use Rattle.langtag_scan.specs.Case.{are_alike}
-use Rattle.langtag_scan.specs.Subtags.{segments}
-use Rattle.langtag_keyword.specs.Alias.{alias_for}
 use Rattle.langtag_locale.specs.LocaleAliases.{region_heirs}
 use Rattle.langtag_locale.proofs.LocaleTables.{found_good, heir_good, region_heirs_good}
 use Rattle.langtag_locale.proofs.locale_fields.new_region.Goals as goal

@@ -1,8 +1,5 @@
-use Rattle.std.proofs.Common.{ap, sym, ◌∙◌}
-use Rattle.std.specs.Option.{option_map}
+use Rattle.langtag_keyword.proofs.Common.{ap, sym, ◌∙◌, are_alike, alias_for, option_map}
 use Rattle.langtag.specs.FieldClasses.{is_script_field}
-use Rattle.langtag_scan.specs.Case.{are_alike}
-use Rattle.langtag_keyword.specs.Alias.{alias_for}
 use Rattle.langtag_locale.specs.LocaleAliases.{script_aliases}
 use Rattle.langtag_locale.proofs.LocaleTables.{found_good, scripts_good}
 use Rattle.langtag_locale.proofs.locale_fields.new_script.Goals as goal

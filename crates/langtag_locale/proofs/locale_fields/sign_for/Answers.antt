@@ -1,7 +1,5 @@
-use Rattle.std.proofs.Common.{ap, sym, ◌∙◌}
+use Rattle.langtag_keyword.proofs.Common.{ap, sym, ◌∙◌, are_alike, alias_for}
 use Rattle.langtag.specs.FieldClasses.{is_language_field}
-use Rattle.langtag_scan.specs.Case.{are_alike}
-use Rattle.langtag_keyword.specs.Alias.{alias_for}
 use Rattle.langtag_locale.specs.LocaleAliases.{sign_languages}
 use Rattle.langtag_locale.proofs.LocaleTables.{found_good, sign_languages_good}
 use Rattle.langtag_locale.proofs.locale_fields.sign_for.Goals as goal

@@ -1,11 +1,9 @@
-use Rattle.std.proofs.Common.{◌≡◌, inl, sym, ap, ◌∙◌, arith}
-use Rattle.std.proofs.lemmas.Grind.{common_steps}
+use Rattle.langtag_keyword.proofs.Common.{◌≡◌, inl, sym, ap, ◌∙◌, arith, common_steps, is_extended}
 use Rattle.langtag_language.specs.Text.{extended_lang_tag_text}
 use Rattle.langtag_registry.proofs.FaultLaws.{language_spelled}
-use Rattle.langtag_scan.specs.Class.{is_extended}
 use Rattle.langtag_scan.specs.Tag.{IsNormal, IsTag}
 use Rattle.langtag_locale.specs.LocaleForm.{extlang_replaced}
-use Rattle.langtag_locale.proofs.WholeForms.{rest_boundary, rest_spelled}
+use Rattle.langtag_locale.proofs.WholeLaws.{rest_boundary, rest_spelled}
 use Rattle.langtag_locale.proofs.locale_for.from_extlang.Goals as goal
 
 pub range_from-requires : goal.range_from-requires

@@ -1,11 +1,10 @@
-use Rattle.std.proofs.Common.{Some, None, refl, sym, subst, ◌∙◌}
-use Rattle.std.proofs.lemmas.Bool.{false≢true}
+use Rattle.langtag_keyword.proofs.Common.{Some, None, refl, sym, subst, ◌∙◌, false≢true}
 use Rattle.std.proofs.lemmas.Option.{IfSome_then}
 use Rattle.langtag.specs.Text.{lang_tag_text}
 use Rattle.langtag_scan.specs.Tag.{IsNormal}
 use Rattle.langtag_locale.specs.Locale.{IsLocale}
 use Rattle.langtag_locale.specs.LocaleForm.{IsLocaleForm}
-use Rattle.langtag_locale.proofs.WholeForms.{none_form, own_form, rest_form, stays_none, value_form}
+use Rattle.langtag_locale.proofs.WholeLaws.{none_form, own_form, rest_form, stays_none, value_form}
 use Rattle.langtag_locale.proofs.locale_for.locale_for.Goals as goal
 
 pub returns-in-Some-clause-form : goal.returns-in-Some-clause-form

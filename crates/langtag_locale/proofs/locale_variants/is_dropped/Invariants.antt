@@ -1,6 +1,4 @@
-use Rattle.std.proofs.Common.{◌≡◌, length, map}
-use Rattle.std.specs.List.{list_any}
-use Rattle.langtag_scan.specs.Case.{are_alike}
+use Rattle.langtag_keyword.proofs.Common.{◌≡◌, length, map, list_any, are_alike}
 use Rattle.langtag_locale.specs.LocaleAliases.{dropped_variants}
 use Rattle.langtag_locale.proofs.locale_variants.is_dropped.Given as goal
 

@@ -1,13 +1,9 @@
-use Rattle.std.proofs.Common.{map, rules, sym, ap, subst, ◌∙◌}
-use Rattle.std.specs.List.{AllByRecursion}
+use Rattle.langtag_keyword.proofs.Common.{map, rules, sym, ap, subst, ◌∙◌, AllByRecursion, IsSubtag, of_variant, one_flat, segments_left, IsOffered}
+use Rattle.langtag_keyword.proofs.Common.{order_number}
 use Rattle.langtag.specs.Fields.{subtag_of}
-use Rattle.langtag_scan.proofs.SubtagFacts.{IsSubtag, of_variant}
-use Rattle.langtag_scan.specs.Record.{one_flat}
-use Rattle.langtag_scan.specs.Subtags.{segments_left}
-use Rattle.langtag_keyword.specs.Least.{IsOffered, order_number}
 use Rattle.langtag_locale.specs.LocaleForm.{variant_form}
 use Rattle.langtag_locale.proofs.KeptVariants.{kept_number}
-use Rattle.langtag_locale.proofs.VariantForms.{variant_fits}
+use Rattle.langtag_locale.proofs.IdentifierForms.{variant_fits}
 use Rattle.langtag_locale.proofs.locale_variants.offer_form.Goals as goal
 
 pub order_number-number-requires : goal.order_number-number-requires

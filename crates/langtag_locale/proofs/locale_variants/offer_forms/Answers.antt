@@ -1,9 +1,5 @@
-use Rattle.std.proofs.Common.{◌≡◌, ◌∷◌, map, rules, sym, ap, subst, ◌∙◌}
-use Rattle.std.proofs.lemmas.List.{map-append}
+use Rattle.langtag_keyword.proofs.Common.{◌≡◌, ◌∷◌, map, rules, sym, ap, subst, ◌∙◌, map-append, one_flat, segments_left, IsOffered, order_number}
 use Rattle.langtag.specs.Fields.{subtag_of}
-use Rattle.langtag_scan.specs.Record.{one_flat}
-use Rattle.langtag_scan.specs.Subtags.{segments_left}
-use Rattle.langtag_keyword.specs.Least.{IsOffered, order_number}
 use Rattle.langtag_keyword.proofs.LeastTexts.{offered-both, offered-none}
 use Rattle.langtag_unicode.proofs.IdentifierParts.{AreVariants}
 use Rattle.langtag_locale.specs.LocaleForm.{forms, variant_form}

@@ -1,11 +1,7 @@
-use Rattle.std.proofs.Common.{◌∷◌, []}
-use Rattle.langtag_output.proofs.Pushed.{pushes_same}
-use Rattle.langtag_scan.specs.Subtags.{segments_left}
-use Rattle.langtag_keyword.specs.Form.{in_alphabet}
-use Rattle.langtag_keyword.specs.Least.{number_text}
+use Rattle.langtag_keyword.proofs.Common.{◌∷◌, [], pushes_same, segments_left, in_alphabet, number_text}
 use Rattle.langtag_keyword.proofs.LeastTexts.{each-number, put-texts, rounds-ended, rounds-first, rounds-next, rounds-smaller}
 use Rattle.langtag_locale.specs.LocaleForm.{forms}
-use Rattle.langtag_locale.proofs.VariantForms.{forms_fit}
+use Rattle.langtag_locale.proofs.IdentifierForms.{forms_fit}
 use Rattle.langtag_locale.proofs.locale_variants.push_with_room.Goals as goal
 
 pub loop-more-init : goal.loop-more-init

@@ -1,6 +1,4 @@
-use Rattle.std.proofs.Common.{◌-◌, ◌∷◌, []}
-use Rattle.langtag_scan.specs.Subtags.{segments_left}
-use Rattle.langtag_keyword.specs.Least.{number_text}
+use Rattle.langtag_keyword.proofs.Common.{◌-◌, ◌∷◌, [], segments_left, number_text}
 use Rattle.langtag_keyword.proofs.LeastTexts.{Rounds}
 use Rattle.langtag_locale.specs.LocaleForm.{forms}
 use Rattle.langtag_locale.proofs.locale_variants.push_with_room.Given as goal

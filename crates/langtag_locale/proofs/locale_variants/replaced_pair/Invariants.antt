@@ -1,8 +1,4 @@
-use Rattle.std.proofs.Common.{◌≡◌, length, map}
-use Rattle.std.specs.Prelude.{find}
-use Rattle.std.specs.Option.{option_map}
-use Rattle.langtag_scan.specs.Subtags.{segments_left}
-use Rattle.langtag_keyword.specs.Alias.{TypeAlias}
+use Rattle.langtag_keyword.proofs.Common.{◌≡◌, length, map, segments_left, TypeAlias, find, option_map}
 use Rattle.langtag_locale.specs.LocaleAliases.{variant_pairs}
 use Rattle.langtag_locale.specs.LocaleForm.{is_pair_of}
 use Rattle.langtag_locale.proofs.locale_variants.replaced_pair.Given as goal

@@ -1,6 +1,5 @@
-use Rattle.langtag_keyword.specs.Keys.{opens_keyword}
-use Rattle.langtag_span.proofs.SubtagSpans.{span-before_key}
-use Rattle.std.proofs.Common.{arith}
+use Rattle.langtag_keyword.proofs.Common.{opens_keyword, arith}
+use Rattle.langtag_span.proofs.ExtensionSpans.{span-before_key}
 use Rattle.langtag_span.proofs.extension_walk.before_key.Goals as goal
 
 pub returns-clause-text : goal.returns-clause-text

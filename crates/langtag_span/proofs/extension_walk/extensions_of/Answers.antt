@@ -1,7 +1,4 @@
-use Rattle.std.proofs.Common.{◌≡◌, subst, arith}
-use Rattle.std.proofs.lemmas.Bool.Decides.{nat_tests}
-use Rattle.langtag_scan.specs.Ends.{ends_of}
-use Rattle.langtag_scan.specs.Record.{EachRecord}
+use Rattle.langtag_keyword.proofs.Common.{◌≡◌, subst, arith, nat_tests, ends_of, EachRecord}
 use Rattle.langtag_span.proofs.FoundExtension.{extensions-span}
 use Rattle.langtag_span.proofs.extension_walk.extensions_of.Goals as goal
 

@@ -1,10 +1,8 @@
-use Rattle.std.proofs.Common.{refl, sym, subst, ap, ◌∙◌, arith}
-use Rattle.std.proofs.lemmas.Bool.Decides.{nat_tests}
-use Rattle.langtag_extension.specs.ExtensionTexts.{extension_texts}
+use Rattle.langtag_keyword.proofs.Common.{refl, sym, subst, ap, ◌∙◌, arith, nat_tests, extension_texts, subtags}
+use Rattle.std.proofs.Common.{eq-eqb, ne_eqb}
 use Rattle.langtag_span.specs.Spans.{end_of, span_text}
-use Rattle.langtag_span.proofs.FoundExtension.{after-singleton, extension-step, no-bytes, opens-not, opens-so, subtags-first, subtags-none, taken-some, taken-text, without-singleton}
-use Rattle.langtag_span.proofs.SubtagSpans.{AreSubtags}
-use Rattle.langtag_scan.specs.Subtags.{subtags}
+use Rattle.langtag_span.proofs.FoundExtension.{after-singleton, extension-step, no-bytes, opens-text, subtags-first, subtags-none, without-singleton}
+use Rattle.langtag_span.proofs.ExtensionSpans.{AreSubtags}
 use Rattle.langtag_span.proofs.extension_walk.find_extension.Goals as goal
 
 pub without_singleton-requires-clause-some : goal.without_singleton-requires-clause-some
@@ -12,7 +10,7 @@ without_singleton-requires-clause-some c =
     let part = c.in-Some.ensures in
     let taken = c.take_first-extension.ensures in
     let step = extension-step _ c.loop-part.rest _ _ c.in-Some.part _ c.loop-part.invariant.extensions part.0 part.1 c.first_extension_end.ensures taken.first taken.rest in
-    (taken-some _ c.loop-part.rest _ _ c.in-Some.part _ part.0 part.1 c.first_extension_end.ensures.within taken.first step).1
+    step.place.1
 
 pub returns-then-into_smallcase-clause-subtags : goal.returns-then-into_smallcase-clause-subtags
 returns-then-into_smallcase-clause-subtags c es spells =
@@ -21,12 +19,11 @@ returns-then-into_smallcase-clause-subtags c es spells =
     let text = c.args.bytes.now in
     let byte = c.args.singleton in
     let step = extension-step _ c.loop-part.rest _ _ c.in-Some.part _ c.loop-part.invariant.extensions part.0 part.1 c.first_extension_end.ensures taken.first taken.rest in
-    let some = taken-some _ c.loop-part.rest _ _ c.in-Some.part _ part.0 part.1 c.first_extension_end.ensures.within taken.first step in
-    let first = taken-text text c.loop-part.rest c.take_first-extension.result c.in-Some.part _ part.0 part.1 c.first_extension_end.ensures.within taken.first in
-    let opened = opens-so byte _ c.in-Some.part.now c.first_extension_end.result first (omega (arith, some.1, ap (λ span. span.len) taken.first)) (sym c.into_smallcase.ensures ∙ c.if-into_smallcase.true ∙ c.into_smallcase-in-Some.ensures) in
+    let opened = opens-text byte _ c.in-Some.part.now c.first_extension_end.result step.bytes (omega (arith, step.place.1, ap (λ span. span.len) taken.first))
+    ∙ eq-eqb _ _ (sym c.into_smallcase.ensures ∙ c.if-into_smallcase.true ∙ c.into_smallcase-in-Some.ensures) in
     subtags-first byte text c.args.extensions c.take_first-extension.result c.without_singleton.result (extension_texts (span_text text c.loop-part.rest)) c.loop-part.invariant.same
     (rw (step.texts, opened) refl)
-    (ap (span_text text) c.without_singleton.ensures ∙ without-singleton text c.take_first-extension.result some.1) es spells
+    (ap (span_text text) c.without_singleton.ensures ∙ without-singleton text c.take_first-extension.result step.place.1) es spells
 
 pub returns-then-into_smallcase-clause-some : goal.returns-then-into_smallcase-clause-some
 returns-then-into_smallcase-clause-some c =
@@ -34,10 +31,9 @@ returns-then-into_smallcase-clause-some c =
     let taken = c.take_first-extension.ensures in
     let text = c.args.bytes.now in
     let step = extension-step _ c.loop-part.rest _ _ c.in-Some.part _ c.loop-part.invariant.extensions part.0 part.1 c.first_extension_end.ensures taken.first taken.rest in
-    let some = taken-some _ c.loop-part.rest _ _ c.in-Some.part _ part.0 part.1 c.first_extension_end.ensures.within taken.first step in
-    let is = ap (span_text text) c.without_singleton.ensures ∙ without-singleton text c.take_first-extension.result some.1 in
+    let is = ap (span_text text) c.without_singleton.ensures ∙ without-singleton text c.take_first-extension.result step.place.1 in
     record {
-      within = omega (arith, ap end_of c.without_singleton.ensures, some.0, some.1);
+      within = omega (arith, ap end_of c.without_singleton.ensures, step.place.0, step.place.1);
       some = subst (λ t. AreSubtags (subtags t)) (sym is) (after-singleton _ step.first).0;
     }
 
@@ -48,9 +44,8 @@ loop-part-preserved c =
     let text = c.args.bytes.now in
     let byte = c.args.singleton in
     let step = extension-step _ c.loop-part.rest _ _ c.in-Some.part _ c.loop-part.invariant.extensions part.0 part.1 c.first_extension_end.ensures taken.first taken.rest in
-    let some = taken-some _ c.loop-part.rest _ _ c.in-Some.part _ part.0 part.1 c.first_extension_end.ensures.within taken.first step in
-    let first = taken-text text c.loop-part.rest c.take_first-extension.result c.in-Some.part _ part.0 part.1 c.first_extension_end.ensures.within taken.first in
-    let other = opens-not byte _ c.in-Some.part.now c.first_extension_end.result first (omega (arith, some.1, ap (λ span. span.len) taken.first)) (λ same. c.if-into_smallcase.false (c.into_smallcase.ensures ∙ same ∙ sym c.into_smallcase-in-Some.ensures)) in
+    let other = opens-text byte _ c.in-Some.part.now c.first_extension_end.result step.bytes (omega (arith, step.place.1, ap (λ span. span.len) taken.first))
+    ∙ ne_eqb _ _ (λ same. c.if-into_smallcase.false (c.into_smallcase.ensures ∙ same ∙ sym c.into_smallcase-in-Some.ensures)) in
     record {
       within = omega (arith, taken.ends, c.loop-part.invariant.within);
       extensions = step.left;

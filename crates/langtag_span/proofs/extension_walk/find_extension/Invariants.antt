@@ -1,6 +1,5 @@
-use Rattle.std.proofs.Common.{◌≡◌, find}
+use Rattle.langtag_keyword.proofs.Common.{◌≡◌, find, extension_texts}
 use Rattle.langtag_extension.specs.Decided.{opens_alike}
-use Rattle.langtag_extension.specs.ExtensionTexts.{extension_texts}
 use Rattle.langtag_extension.specs.Spelling.{IsExtensions}
 use Rattle.langtag_span.specs.Spans.{IsWithin, span_text}
 use Rattle.langtag_span.proofs.extension_walk.find_extension.Given as goal

@@ -1,6 +1,4 @@
-use Rattle.std.proofs.Common.{◌≡◌, ◌+◌}
-use Rattle.langtag_keyword.specs.Keys.{length_with_hyphens, opens_keyword}
-use Rattle.langtag_keyword.specs.Keywords.{before_key}
+use Rattle.langtag_keyword.proofs.Common.{◌≡◌, ◌+◌, length_with_hyphens, opens_keyword, before_key}
 use Rattle.langtag_span.specs.Keywords.{HasSubtags, subtags_in}
 use Rattle.langtag_span.proofs.extension_walk.len_before_key.Given as goal
 

@@ -1,15 +1,12 @@
-use Rattle.std.proofs.Common.{◌≡◌, ◌≤◌, true, false, not, ◌&&◌, [], ◌∷◌, ◌++◌, take, refl, ap, sym, subst, ◌∙◌, arith}
-use Rattle.std.proofs.lemmas.List.{length-drop}
-use Rattle.std.proofs.lemmas.Bool.Decides.{nat_tests}
+use Rattle.langtag_keyword.proofs.Common.{◌≡◌, ◌≤◌, true, false, not, ◌&&◌, [], ◌∷◌, ◌++◌, take, refl, ap, sym, subst, ◌∙◌, arith, length-drop, nat_tests}
+use Rattle.langtag_keyword.proofs.Common.{HasKeys, opens_keyword, is_new_key, keywords_after}
 use Rattle.std.proofs.Math.Bool.{and-false}
-use Rattle.langtag_keyword.specs.KeySets.{HasKeys, has_key}
-use Rattle.langtag_keyword.specs.Keys.{opens_keyword}
-use Rattle.langtag_keyword.specs.Keywords.{is_new_key, keywords_after}
+use Rattle.langtag_keyword.specs.KeySets.{has_key}
 use Rattle.langtag_keyword.proofs.KeySetLaws.{is_new-met, met-more, met-none}
-use Rattle.langtag_keyword.proofs.WalkSteps.{keywords-new, take-turn}
+use Rattle.langtag_keyword.proofs.SubtagTexts.{keywords-new, take-turn}
 use Rattle.langtag_span.specs.Keywords.{keywords_from, subtags_in}
 use Rattle.langtag_span.specs.Spans.{span_text}
-use Rattle.langtag_span.proofs.SubtagSpans.{AreSubtags, drop-next, keywords-step, length-subtags_in}
+use Rattle.langtag_span.proofs.ExtensionSpans.{AreSubtags, drop-next, keywords-step, length-subtags_in}
 use Rattle.langtag_span.proofs.extension_walk.next_key.Goals.{else-count-passed-via-then-count-passed+then-has+else-is_new, else-count-passed-via-then-count-passed+else-has, else-count-passed-via-else-count-passed}
 use Rattle.langtag_span.proofs.extension_walk.next_key.Goals as goal
 

@@ -1,7 +1,4 @@
-use Rattle.std.proofs.Common.{◌≡◌, ◌≤◌, drop, take}
-use Rattle.langtag_keyword.specs.Keys.{opens_keyword}
-use Rattle.langtag_keyword.specs.Keywords.{keywords_after}
-use Rattle.langtag_keyword.specs.KeySets.{HasKeys}
+use Rattle.langtag_keyword.proofs.Common.{◌≡◌, ◌≤◌, drop, take, opens_keyword, keywords_after, HasKeys}
 use Rattle.langtag_span.specs.Keywords.{HasSubtags, keywords_from, subtags_in}
 use Rattle.langtag_span.proofs.extension_walk.next_key.Given as goal
 

@@ -1,6 +1,5 @@
-use Rattle.std.proofs.Common.{arith}
-use Rattle.std.proofs.lemmas.Bool.Decides.{nat_tests}
-use Rattle.langtag_span.proofs.SubtagSpans.{span-left, span-subtags}
+use Rattle.langtag_keyword.proofs.Common.{arith, nat_tests}
+use Rattle.langtag_span.proofs.ExtensionSpans.{span-left, span-subtags}
 use Rattle.langtag_span.proofs.extension_walk.take_subtag.Goals as goal
 
 pub returns-clause-subtags : goal.returns-clause-subtags

@@ -1,6 +1,4 @@
-use Rattle.std.proofs.Common.{◌≡◌}
-use Rattle.langtag_keyword.specs.Keys.{opens_keyword}
-use Rattle.langtag_keyword.specs.Keywords.{value_of}
+use Rattle.langtag_keyword.proofs.Common.{◌≡◌, opens_keyword, value_of}
 use Rattle.langtag_span.specs.Keywords.{HasSubtags, subtags_in}
 use Rattle.langtag_span.proofs.extension_walk.value_of.Given as goal
 

@@ -1,7 +1,6 @@
-use Rattle.std.proofs.Common.{◌≡◌, ◌+◌, ap, sym, ◌∙◌, arith}
-use Rattle.std.proofs.lemmas.Bool.Decides.{nat_tests}
+use Rattle.langtag_keyword.proofs.Common.{◌≡◌, ◌+◌, ap, sym, ◌∙◌, arith, nat_tests}
 use Rattle.langtag_span.specs.Spans.{end_of, span_between}
-use Rattle.langtag_span.proofs.ItemLaws.{item_few, item_passed, item_taken}
+use Rattle.langtag_span.proofs.ExtensionSpans.{few, item_passed, item_taken}
 use Rattle.langtag_span.proofs.items.next_item.Goals as goal
 
 pub returns-then-not-is_empty_element-clause-taken : goal.returns-then-not-is_empty_element-clause-taken
@@ -12,11 +11,11 @@ returns-then-not-is_empty_element-clause-taken c =
     let invariant = c.loop-list.invariant in
     let other = sym c.is_empty_element.ensures ∙ c.if-not-is_empty_element.true in
     let ends : end_of c.take_first-item.result ≡ c.loop-list.left.start + c.len_before-len.result = ap end_of taken.first in
-    let few = item_few _ _ c.loop-list.left _ part.0 part.1 len.within in
+    let inside = few _ _ c.loop-list.left _ part.0 part.1 len.within in
     record {
       has_bytes = (omega (arith, part.0.0, invariant.begins, invariant.ends), omega (arith, part.0.1, invariant.ends));
       begins = omega (arith, invariant.begins, ap (λ span. span.start) taken.first);
-      within = omega (arith, ends, few, invariant.ends);
+      within = omega (arith, ends, inside, invariant.ends);
       items = sym invariant.same ∙ item_taken _ _ c.loop-list.left _ _ part.0 part.1 len.within len.first taken.rest c.take_first-item.result other taken.first;
       rest = taken.rest ∙ ap (λ start. span_between start (end_of c.loop-list.left)) (sym ends) ∙ ap (span_between (end_of c.take_first-item.result)) invariant.ends;
     }

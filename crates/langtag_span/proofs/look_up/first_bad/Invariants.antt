@@ -1,8 +1,7 @@
-use Rattle.std.proofs.Common.{◌≡◌, true, length, take}
-use Rattle.std.specs.List.{sum_by}
+use Rattle.langtag_keyword.proofs.Common.{◌≡◌, true, length, take, sum_by}
 use Rattle.langtag_match.specs.AcceptLanguage.{are_good}
 use Rattle.langtag_range.specs.Element.{items}
-use Rattle.langtag_span.proofs.Offsets.{width}
+use Rattle.langtag_span.proofs.TagsAt.{width}
 use Rattle.langtag_span.proofs.look_up.first_bad.Given as goal
 
 -- what was passed over is good, and ends with a comma

@@ -5,8 +5,7 @@ use Rattle.std.proofs.lemmas.List.{length-map, take_all}
 use Rattle.langtag_range.specs.Element.{is_comma, items}
 use Rattle.langtag_range.specs.Wanted.{hyphened_byte, wanted_element}
 use Rattle.langtag_span.specs.RangePlaces.{range_count}
-use Rattle.langtag_span.proofs.HeaderRanges.{is_range_at, no_more, one_more, spaces_within}
-use Rattle.langtag_span.proofs.LookUps.{width-next, width_fits}
+use Rattle.langtag_span.proofs.LookUps.{is_range_at, no_more, one_more, spaces_within, width-next, width_fits}
 use Rattle.langtag_span.proofs.range_place.range_at.Goals.{in-Some-split_wanted+else-left-eq0, in_default}
 use Rattle.langtag_span.proofs.range_place.range_at.Goals as goal
 

@@ -1,7 +1,6 @@
-use Rattle.std.proofs.Common.{◌≡◌, ◌+◌, length, take}
-use Rattle.std.specs.List.{sum_by}
+use Rattle.langtag_keyword.proofs.Common.{◌≡◌, ◌+◌, length, take, sum_by}
 use Rattle.langtag_range.specs.Element.{items}
-use Rattle.langtag_span.proofs.Offsets.{width}
+use Rattle.langtag_span.proofs.TagsAt.{width}
 use Rattle.langtag_span.specs.RangePlaces.{range_count}
 use Rattle.langtag_span.proofs.range_place.range_at.Given as goal
 

@@ -1,5 +1,4 @@
-use Rattle.std.proofs.Common.{drop, [], IsTrue, sym, ap, subst, ◌∙◌}
-use Rattle.langtag_scan.specs.Subtags.{subtags}
+use Rattle.langtag_keyword.proofs.Common.{drop, [], IsTrue, sym, ap, subst, ◌∙◌, subtags}
 use Rattle.langtag_extension.proofs.ExtensionLookUp.{subtags_found}
 use Rattle.langtag_extension.specs.Decided.{are_extension_subtags}
 use Rattle.langtag_keyword.proofs.KeySetLaws.{after-singleton-fits}

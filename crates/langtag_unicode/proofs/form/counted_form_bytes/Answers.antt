@@ -1,9 +1,8 @@
-use Rattle.std.proofs.Common.{◌≡◌, ◌++◌, [], append-nil, drop, length, sym, ap, subst, ◌∙◌, arith}
-use Rattle.std.proofs.lemmas.List.{drop_all, take_at}
+use Rattle.langtag_keyword.proofs.Common.{◌≡◌, ◌++◌, [], append-nil, drop, length, sym, ap, subst, ◌∙◌, arith, drop_all, extensions_record}
+use Rattle.std.proofs.lemmas.List.{take_at}
 use Rattle.langtag.specs.Text.{lang_tag_text}
 use Rattle.langtag.specs.Form.{IsForm}
 use Rattle.langtag.proofs.FormLaws.{one_form}
-use Rattle.langtag_keyword.specs.Form.{extensions_record}
 use Rattle.langtag_unicode.proofs.form.counted_form_bytes.Goals as goal
 
 -- both calls write the one form, and the second one has just the room for it

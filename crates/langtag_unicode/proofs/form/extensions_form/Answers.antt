@@ -1,11 +1,10 @@
+use Rattle.langtag_keyword.proofs.Common.{sym, subst, extensions_record}
 use Rattle.langtag.proofs.KeptFound.{found_kept}
-use Rattle.std.proofs.Common.{sym, subst}
 use Rattle.langtag.specs.Text.{lang_tag_text}
 use Rattle.langtag.proofs.FormLaws.{form_is_tag, one_form}
 use Rattle.langtag.specs.Form.{IsForm}
-use Rattle.langtag_keyword.specs.Form.{extensions_record}
 use Rattle.langtag_unicode.proofs.ExtensionCase.{extensions_form-alike}
-use Rattle.langtag_unicode.proofs.ExtensionsTwice.{extensions_settled}
+use Rattle.langtag_unicode.proofs.FormTwice.{extensions_settled}
 use Rattle.langtag_unicode.proofs.FormRecords.{form_well_formed}
 use Rattle.langtag_unicode.proofs.form.extensions_form.Goals as goal
 

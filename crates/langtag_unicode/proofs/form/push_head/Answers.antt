@@ -1,13 +1,7 @@
-use Rattle.std.proofs.lemmas.Grind.{common_steps}
-use Rattle.std.proofs.Common.{◌∷◌, ◌++◌, [], length, take, sym, ap, ◌∙◌, arith}
-use Rattle.std.proofs.lemmas.List.{length-take}
-use Rattle.langtag_output.proofs.Pushed.{pushes_joined, pushes_same}
-use Rattle.langtag_scan.proofs.SubtagFacts.{of_primary}
-use Rattle.langtag_scan.specs.Record.{one_flat}
-use Rattle.langtag_scan.specs.Subtags.{join}
+use Rattle.langtag_keyword.proofs.Common.{common_steps, ◌∷◌, ◌++◌, [], length, take, sym, ap, ◌∙◌, arith, length-take, pushes_joined, pushes_same, of_primary}
+use Rattle.langtag_keyword.proofs.Common.{one_flat, join, to_variants}
 use Rattle.langtag_scan.specs.Tag.{IsNormal}
-use Rattle.langtag_scan.specs.Ends.{to_variants}
-use Rattle.langtag_keyword.proofs.ExtensionForms.{head-cut, head_inside}
+use Rattle.langtag_keyword.proofs.KeywordLaws.{head-cut, head_inside}
 use Rattle.langtag_unicode.proofs.form.push_head.Goals as goal
 
 pub slice_bounds-push_subtag-end : goal.slice_bounds-push_subtag-end

@@ -1,11 +1,6 @@
-use Rattle.std.proofs.Common.{◌++◌, [], false, sym, subst, ◌∙◌, rules}
-use Rattle.std.specs.List.{flat_map}
-use Rattle.langtag_output.specs.Output.{HasText}
-use Rattle.langtag_output.proofs.Pushed.{pushes_both}
-use Rattle.langtag_scan.specs.Record.{extension_flat, private_part_flat}
-use Rattle.langtag_keyword.specs.Form.{forms_after}
-use Rattle.langtag_scan.specs.Ends.{to_variants}
-use Rattle.langtag_keyword.proofs.ExtensionForms.{form_joined}
+use Rattle.langtag_keyword.proofs.Common.{◌++◌, [], false, sym, subst, ◌∙◌, rules, flat_map, HasText, pushes_both, extension_flat, private_part_flat}
+use Rattle.langtag_keyword.proofs.Common.{forms_after, to_variants}
+use Rattle.langtag_keyword.proofs.KeywordLaws.{form_joined}
 use Rattle.langtag_unicode.proofs.form.put_parts.Goals as goal
 
 pub returns : goal.returns

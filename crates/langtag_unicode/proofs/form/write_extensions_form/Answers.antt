@@ -1,8 +1,6 @@
-use Rattle.std.proofs.Common.{◌++◌, drop, refl, sym, ap, ◌∙◌, arith}
+use Rattle.langtag_keyword.proofs.Common.{◌++◌, drop, refl, sym, ap, ◌∙◌, arith, spell, extensions_record}
 use Rattle.langtag.proofs.FormLaws.{kept_form, record_form}
-use Rattle.langtag_scan.specs.Record.{spell}
 use Rattle.langtag_scan.specs.Tag.{IsNormal}
-use Rattle.langtag_keyword.specs.Form.{extensions_record}
 use Rattle.langtag_unicode.proofs.form.write_extensions_form.Goals as goal
 
 pub returns-in-Some : goal.returns-in-Some

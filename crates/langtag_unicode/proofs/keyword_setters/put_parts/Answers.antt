@@ -1,12 +1,7 @@
-use Rattle.std.proofs.Common.{◌++◌, [], sym, subst, ◌∙◌, rules}
-use Rattle.std.specs.List.{flat_map}
-use Rattle.langtag_output.specs.Output.{HasText}
-use Rattle.langtag_output.proofs.Pushed.{pushes_both}
-use Rattle.langtag_scan.specs.Record.{extension_flat, private_part_flat}
-use Rattle.langtag_keyword.specs.Edit.{with_changed_u}
+use Rattle.langtag_keyword.proofs.Common.{◌++◌, [], sym, subst, ◌∙◌, rules, flat_map, HasText, pushes_both, extension_flat, private_part_flat, with_changed_u}
+use Rattle.langtag_keyword.proofs.Common.{to_variants}
 use Rattle.langtag_keyword.specs.EditText.{edited_by, value_subtags}
-use Rattle.langtag_scan.specs.Ends.{to_variants}
-use Rattle.langtag_keyword.proofs.KeywordEdits.{edited_joined}
+use Rattle.langtag_keyword.proofs.KeywordLaws.{edited_joined}
 use Rattle.langtag_unicode.proofs.keyword_setters.put_parts.Goals as goal
 
 pub returns : goal.returns

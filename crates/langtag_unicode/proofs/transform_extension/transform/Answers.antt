@@ -1,6 +1,4 @@
-use Rattle.std.proofs.Common.{◌≡◌, None, ap, ◌∙◌, arith}
-use Rattle.std.proofs.lemmas.Grind.{common_steps}
-use Rattle.std.specs.Option.{option_map}
+use Rattle.langtag_keyword.proofs.Common.{◌≡◌, None, ap, ◌∙◌, arith, common_steps, option_map}
 use Rattle.langtag_extension.specs.Text.{singleton_byte}
 use Rattle.langtag_keyword.specs.Keywords.{subtags_of}
 use Rattle.langtag_unicode.specs.Text.{transformation_subtags}

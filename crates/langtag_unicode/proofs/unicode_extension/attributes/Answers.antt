@@ -1,5 +1,4 @@
-use Rattle.std.proofs.lemmas.Grind.{common_steps}
-use Rattle.std.proofs.Common.{arith}
+use Rattle.langtag_keyword.proofs.Common.{common_steps, arith}
 use Rattle.langtag_keyword.proofs.SubtagTexts.{subtags-before_key}
 use Rattle.langtag_unicode.proofs.unicode_extension.attributes.Goals as goal
 

@@ -1,6 +1,4 @@
-use Rattle.std.proofs.lemmas.Grind.{common_steps}
-use Rattle.std.proofs.Common.{arith}
-use Rattle.langtag_keyword.specs.Keywords.{is_key}
+use Rattle.langtag_keyword.proofs.Common.{common_steps, arith, is_key}
 use Rattle.langtag_unicode.proofs.WalkLaws.{value_of-alike}
 use Rattle.langtag_unicode.proofs.unicode_extension.keyword.Goals as goal
 

@@ -1,7 +1,6 @@
-use Rattle.std.proofs.lemmas.Grind.{common_steps}
-use Rattle.std.proofs.Common.{arith}
+use Rattle.langtag_keyword.proofs.Common.{common_steps, arith}
 use Rattle.langtag.proofs.RepeatLaws.{IsAt-drop}
-use Rattle.langtag_keyword.proofs.WalkSteps.{first-new, first-other}
+use Rattle.langtag_keyword.proofs.SubtagTexts.{first-new, first-other}
 use Rattle.langtag_unicode.proofs.attributes_iter.AttributesIterIterator.next.Goals as goal
 
 pub invariant_of-self : goal.invariant_of-self

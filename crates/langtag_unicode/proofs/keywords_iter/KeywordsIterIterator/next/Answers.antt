@@ -1,7 +1,4 @@
-use Rattle.std.proofs.Common.{sym, ap, subst, ◌∙◌}
-use Rattle.std.specs.List.{AllByRecursion}
-use Rattle.langtag_scan.specs.Subtags.{segments_left}
-use Rattle.langtag_scan.proofs.SubtagFacts.{IsSubtag}
+use Rattle.langtag_keyword.proofs.Common.{sym, ap, subst, ◌∙◌, AllByRecursion, segments_left, IsSubtag}
 use Rattle.langtag_keyword.proofs.KeySetLaws.{each-fits}
 use Rattle.langtag_unicode.proofs.keywords_iter.KeywordsIterIterator.next.Goals as goal
 

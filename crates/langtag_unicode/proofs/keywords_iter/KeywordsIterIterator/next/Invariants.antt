@@ -1,5 +1,4 @@
-use Rattle.std.proofs.Common.{◌≡◌, length}
-use Rattle.langtag_scan.specs.Subtags.{segments_left}
+use Rattle.langtag_keyword.proofs.Common.{◌≡◌, length, segments_left}
 use Rattle.langtag_unicode.specs.Text.{keywords_left}
 use Rattle.langtag_unicode.proofs.keywords_iter.KeywordsIterIterator.next.Given as goal
 
