@@ -269,20 +269,9 @@ class Edits(unittest.TestCase):
     def test_several(self):
         tag = Tag("zh-yue-Hant-HK-1994-u-co-pinyin-T-aa-x-mine")
         self.assertIs(tag.replace(), tag)
-        again = Tag("de").replace(language=tag.language, script=tag.script, region=tag.region, variants=tag.variants,
-                                  extensions=tag.extensions, private_use=tag.private_use)
-        self.assertEqual(again, tag)
         self.assertEqual(str(tag.replace(extensions={"u": ["co", "eor"]}, variants=[])), "zh-yue-Hant-HK-u-co-eor-x-mine")
-        with self.assertRaises(EditError):
-            Tag("de-x-a").replace(language=None)
         for nothing in ([], (), {}, set(), "", None):
             self.assertEqual(str(Tag("de-1996-u-co-pinyin").replace(variants=nothing, extensions=nothing)), "de")
-        wrongs = [{part: wrong} for part in ("variants", "extensions") for wrong in (
-            [""], ["", ""], {""}, ["1994", ""], {"": []}, {"": ""}, {"": ["a"]}, {"u": []}, {"u": ""}, {"u": [""]})]
-        wrongs += [{part: wrong} for part in ("language", "script", "region", "private_use") for wrong in ([], [""], {})]
-        for wrong in wrongs:
-            with self.assertRaises(EditError):
-                tag.replace(**wrong)
 
     def test_from_parts(self):
         tag = Tag("zh-yue-Hant-HK-1994-u-co-pinyin-t-aa-x-mine")
@@ -290,12 +279,6 @@ class Edits(unittest.TestCase):
                                extensions=tag.extensions, private_use=tag.private_use)
         self.assertEqual(str(again), str(tag))
         self.assertEqual(str(Tag.from_parts("DE")), "DE")
-        for wrong in (("zh-Hant",), ("x-a",), ("",)):
-            with self.assertRaises(EditError):
-                Tag.from_parts(*wrong)
-        for wrong in ({"script": "Latin"}, {"region": ""}, {"variants": "abcd"}, {"private_use": "a"}):
-            with self.assertRaises(EditError):
-                Tag.from_parts("de", **wrong)
 
     def test_subclasses_of_texts(self):
         class Odd(str):
@@ -329,9 +312,6 @@ class Edits(unittest.TestCase):
             error = caught(lambda keywords: tag.replace(keywords=keywords), wrong)
             self.assertEqual((type(error), error.part, error.text), (EditError, part, text))
             self.assertLess(len(str(error)), 1200)
-        for text in ("x-a", "i-klingon"):
-            error = caught(lambda text: Tag(text).replace(keywords={"ca": "roc"}), text)
-            self.assertEqual((error.part, error.text, str(error)), ("keywords", None, "not a normal language tag"))
         self.assertEqual(str(tag), "th-u-ca-gregory")
 
 

@@ -18,6 +18,9 @@ BY_RANGES = [best_for_ranges, suitable_for_ranges, look_up]
 AMONG = [*(lambda tags, call=call: call("de", tags) for call in BY_HEADER), *(lambda tags, call=call: call(["de"], tags) for call in BY_RANGES),
          *(lambda tags, call=call: call(None, tags) for call in BY_HEADER), lambda tags: best_for_header("de," * 2000, tags)]
 FOR_RANGES = [lambda ranges, call=call: call(ranges, ["de"]) for call in BY_RANGES]
+LISTS = [[""], ["", ""], {""}, ["1994", ""], {"": []}, {"": ""}, {"": ["a"]}, {"u": []}, {"u": ""}, {"u": [""]}]
+PARTS = [*({part: wrong} for part in ("variants", "extensions") for wrong in LISTS), *({part: wrong} for part in ("script", "region", "private_use") for wrong in ([], [""], {})),
+         {"script": "Latin"}, {"region": ""}, {"variants": "abcd"}, {"private_use": "a"}]
 EDITS = [lambda value: TAG.replace(keywords=value), lambda value: TAG.replace(script=value), lambda value: TAG.replace(variants=[value])]
 
 
@@ -37,6 +40,9 @@ CALLS = [
     *each(AttributeError, [Range, str, hash, lambda it: it.matches_basic("de")], [MADE_RANGE]),
     *each(TypeError, EDITS, [5]), *each(TypeError, EDITS[1:], [b"x"]), *each(EditError, EDITS[1:], ["\ud800", "Latin-"]), *each(EditError, EDITS[:1], [{"c1": "roc"}, {"ca": "ab"}]),
     *each(TypeError, EDITS[:1], [None, "ca", b"ca", [("ca", "roc")], ["ca"], {"ca": True}, {"ca": 5}, {"ca": b"roc"}, {b"ca": "roc"}, {5: "roc"}, {"ca": ["roc"]}, {"c1": "roc", "ca": 5}]),
+    *each(EditError, [lambda it: Tag("zh-yue-Hant-HK-1994-u-co-pinyin-T-aa-x-mine").replace(**it), lambda it: Tag.from_parts("de", **it)], PARTS),
+    *each(EditError, [Tag.from_parts, lambda language: Tag("de-x-a").replace(language=language)], ["zh-Hant", "x-a", ""]),
+    *each(EditError, [lambda language: Tag("de-x-a").replace(language=language)], [None, [], [""], {}]),
     *each(AttributeError, [lambda it: it.__init__("en")], [TAG, RANGE]), (TypeError, lambda: TAG < RANGE),
 ]
 

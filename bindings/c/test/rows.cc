@@ -79,10 +79,7 @@ static std::string kind_of(std::string_view text) {
 static std::string parts_of(const tag &one) {
     std::string out;
     const auto offset = [&](std::string_view part) { return std::to_string(part.data() - one.text().data()); };
-    say(out, "language", one.language());
-    say(out, "script", one.script());
-    say(out, "region", one.region());
-    say(out, "variants", one.variants());
+    say(out, "language", one.language()), say(out, "script", one.script()), say(out, "region", one.region()), say(out, "variants", one.variants());
     if (!one.extensions().empty()) out += "\n  extensions";
     for (std::string_view extension : langtag::extensions(one.extensions())) out.append(1, ' ').append(extension);
     say(out, "private_use", one.private_use());
@@ -101,19 +98,22 @@ static std::string tag_of(const strings &asked) {
     if (!one) return owned ? "an owned one" : out;
     const langtag::owned_tag copy(*one), moved(std::move(*owned));
     out += parts_of(*one);
-    if (parts_of(moved.view()) != parts_of(*one) || parts_of(copy.view()) != parts_of(*one))
-        out += "\n  owned ones have others";
-    if (moved.text() != asked[0] || copy != moved || moved.view().kind() != one->kind())
-        out += "\n  owned ones are others";
-    const std::string recommended = langtag::recommended(asked[0]), folded = langtag::folded(asked[0]);
-    out += "\n  recommended " + recommended + "\n  folded " + folded;
-    char digits[17];
-    std::snprintf(digits, sizeof digits, "%016llx", static_cast<unsigned long long>(one->fnv1a()));
-    out += std::string("\n  hash ") + digits;
+    if (parts_of(moved.view()) != parts_of(*one) || parts_of(copy.view()) != parts_of(*one)) out += "\n  owned ones have others";
+    if (moved.text() != asked[0] || copy != moved || moved.view().kind() != one->kind()) out += "\n  owned ones are others";
+    const std::string folded = langtag::folded(asked[0]);
+    char hash[32];
+    std::snprintf(hash, sizeof hash, "\n  hash %016llx", static_cast<unsigned long long>(one->fnv1a()));
+    out += "\n  recommended " + langtag::recommended(asked[0]) + "\n  folded " + folded + hash;
     const auto other = tag::parse(folded);
     if (one->text() != asked[0]) out += "\n  text " + std::string(one->text());
     if (!other || *one != *other || std::hash<tag>()(*one) != std::hash<tag>()(*other)) out += "\n  case is seen";
     return out;
+}
+
+/* Returns the message for a tag that is not valid, without the suggestion. */
+static std::string fault_of(const tag &one) {
+    const auto wrong = one.invalid_subtag();
+    return wrong ? wrong->message().substr(0, wrong->message().find(": did you mean ")) : "valid";
 }
 
 static std::string validity_of(const strings &asked) {
@@ -124,19 +124,12 @@ static std::string validity_of(const strings &asked) {
     if (!wrong) return "valid";
     const std::string subtag(wrong->subtag), at = " " + std::to_string(wrong->start) + " " + subtag;
     if (wrong->subtag.data() != one->text().data() + wrong->start) return "another offset than" + at;
-    const std::string code = wrong->suggestion(), meant = code.empty() ? "" : ": did you mean " + code + "?";
-    const std::string message = wrong->message();
-    if (message.substr(std::min(message.find(": did you mean "), message.size())) != meant) return "another suggestion";
+    const std::string code = wrong->suggestion();
+    if (wrong->message() != fault_of(*one) + (code.empty() ? "" : ": did you mean " + code + "?")) return "another suggestion";
     using langtag::fault;
     return named(wrong->fault, {{fault::language, "language"}, {fault::extlang, "extlang"}, {fault::second_extlang, "second-extlang"}, {fault::script, "script"},
                                 {fault::region, "region"}, {fault::variant, "variant"}, {fault::repeated_variant, "repeated-variant"},
                                 {fault::repeated_singleton, "repeated-singleton"}}) + at;
-}
-
-/* Returns the message for a tag that is not valid, without the suggestion. */
-static std::string fault_of(const tag &one) {
-    const auto wrong = one.invalid_subtag();
-    return wrong ? wrong->message().substr(0, wrong->message().find(": did you mean ")) : "valid";
 }
 
 static std::string suggestion_of(const tag &one) {
@@ -147,9 +140,8 @@ static std::string suggestion_of(const tag &one) {
 static std::string canonical_of(const tag &one) {
     const std::string form = one.canonical();
     const auto same = tag::parse(form);
-    if (!same || !same->is_canonical() || one.is_canonical() != (one == *same))
-        return form + ", and is_canonical says otherwise";
-    return form;
+    const bool agrees = same && same->is_canonical() && one.is_canonical() == (one == *same);
+    return agrees ? form : form + ", and is_canonical says otherwise";
 }
 
 static std::string grandfathered_of(const strings &asked) {
@@ -167,11 +159,9 @@ static std::string scan_of(const strings &asked) {
     int tags = 0;
     for (std::size_t len = 0; len <= text.size(); len++) tags += tag::parse(text.substr(0, len)).has_value();
     std::string out = std::to_string(langtag::stop_len(text)) + " " + std::to_string(tags) + " " + kind_of(text);
-    if (one && one->kind() == langtag::kind::irregular)
-        out += " " + grandfathered_of(asked).substr(0, grandfathered_of(asked).find(' '));
+    if (one && one->kind() == langtag::kind::irregular) out += " " + grandfathered_of(asked).substr(0, grandfathered_of(asked).find(' '));
     if (!one || one->kind() != langtag::kind::normal) return out;
-    for (std::string_view part :
-         {one->language(), one->script(), one->region(), one->variants(), one->extensions(), one->private_use()})
+    for (std::string_view part : {one->language(), one->script(), one->region(), one->variants(), one->extensions(), one->private_use()})
         out += " " + std::to_string(part.data() + part.size() - text.data());
     return out;
 }
@@ -181,9 +171,7 @@ static std::string match_of(const strings &asked) {
     const auto one = tag::parse(asked[1]);
     if (!one) return "neither";
     const bool basic = langtag::matches_basic(asked[0], *one), extended = langtag::matches_extended(asked[0], *one);
-    const bool by_range = range && range->matches_basic(*one),
-               extended_by_range = range && range->matches_extended(*one);
-    if (basic != by_range || extended != extended_by_range) return "the range says otherwise";
+    if (basic != (range && range->matches_basic(*one)) || extended != (range && range->matches_extended(*one))) return "the range says otherwise";
     return basic ? extended ? "both" : "basic" : extended ? "extended" : "neither";
 }
 
@@ -192,9 +180,7 @@ static std::string order_of(const strings &asked) {
     const auto one = tag::parse(asked[0]), other = tag::parse(asked[1]);
     if (!one || !other) return "";
     const bool before = *one<*other, after = *one> * other, equal = *one == *other;
-    if ((*one <= *other) == after || (*one >= *other) == before || (*one != *other) == equal ||
-        before + after + equal != 1)
-        return "the operators disagree";
+    if ((*one <= *other) == after || (*one >= *other) == before || (*one != *other) == equal || before + after + equal != 1) return "the operators disagree";
     if ((*one == other->text()) != equal || (other->text() == *one) != equal) return "the text says otherwise";
     const std::string key = langtag::folded(asked[0]), other_key = langtag::folded(asked[1]);
     const bool is_prefix = other_key.rfind(key, 0) == 0, has_prefix = key.rfind(other_key, 0) == 0;
@@ -252,8 +238,8 @@ static std::string ranges_of(const strings &asked) {
 static std::string edit_of(const strings &asked) {
     using langtag::part;
     static const std::map<std::string, part> parts = {
-        {"language", part::language}, {"script", part::script},         {"region", part::region},
-        {"variants", part::variants}, {"extensions", part::extensions}, {"private_use", part::private_use}};
+        {"language", part::language}, {"script", part::script}, {"region", part::region}, {"variants", part::variants}, {"extensions", part::extensions},
+        {"private_use", part::private_use}};
     const auto one = tag::parse(asked[0]);
     const std::string given = asked[2] == "none" ? "" : asked[2];
     const part which = parts.at(asked[1]);
@@ -261,15 +247,12 @@ static std::string edit_of(const strings &asked) {
     if (!one) return "not a tag";
     if (one->kind() == langtag::kind::normal && is_optional && asked[2].empty()) return "";
     const auto made = one->with(which, given);
-    langtag::owned_tag kept(*one);
-    if (!made && (kept.set(which, given) || kept.text() != asked[0] || one->with({{which, given}})))
-        return "others have one";
+    langtag::owned_tag owned(*one);
+    const bool is_set = owned.set(which, given);
+    if (is_set != made.has_value() || owned.text() != made.value_or(asked[0]) || one->with({{which, given}}) != made) return "another call has another";
     if (!made) return one->kind() == langtag::kind::normal ? "refused" : "no parts";
     const auto again = tag::parse(*made);
     if (!again) return "not a tag: " + *made;
-    langtag::owned_tag owned(*one);
-    if (!owned.set(which, given) || owned.text() != *made || one->with({{which, given}}) != made)
-        return "others have another";
     const auto whole = langtag::from_parts(again->language(), again->script(), again->region(), again->variants(),
                                            again->extensions(), again->private_use());
     return whole == made ? *made : "from_parts has another: " + whole.value_or("none");

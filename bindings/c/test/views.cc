@@ -15,52 +15,35 @@ static int failures;
 
 using langtag::tag;
 
-/* Whether a type of text is accepted. A temporary string is not, since it is destroyed before its view is used. */
-template <class Text, class = void> struct is_viewed : std::false_type {};
-template <class Text>
-struct is_viewed<
-    Text, std::void_t<decltype(tag::parse(std::declval<Text>())), decltype(langtag::range::parse(std::declval<Text>())),
-                      decltype(langtag::accept_language(std::declval<Text>())),
-                      decltype(langtag::subtags(std::declval<Text>()))>> : std::true_type {};
-template <class Text, class = void> struct is_parsed : std::false_type {};
-template <class Text>
-struct is_parsed<Text, std::void_t<decltype(tag::parse(std::declval<Text>()))>> : std::true_type {};
-template <class Text, class = void> struct is_range : std::false_type {};
-template <class Text>
-struct is_range<Text, std::void_t<decltype(langtag::range::parse(std::declval<Text>()))>> : std::true_type {};
-static_assert(is_viewed<const char (&)[3]>::value && is_viewed<const char *>::value &&
-              is_viewed<std::string_view>::value);
-static_assert(is_viewed<std::string &>::value && is_viewed<const std::string &>::value);
-static_assert(!is_parsed<std::string>::value && !is_parsed<const std::string>::value);
-static_assert(!is_range<std::string>::value && !is_range<const std::string>::value);
-static_assert(!std::is_constructible<langtag::accept_language, std::string>::value);
-static_assert(!std::is_constructible<langtag::subtags, std::string>::value);
-static_assert(!std::is_constructible<langtag::extensions, const std::string>::value);
+/* Whether a call with an argument of a type compiles. */
+template <template <class> class Call, class Argument, class = void> struct compiles : std::false_type {};
+template <template <class> class Call, class Argument> struct compiles<Call, Argument, std::void_t<Call<Argument>>> : std::true_type {};
+template <template <class> class Call, class... Arguments> constexpr bool is_taken = (compiles<Call, Arguments>::value && ...);
+template <template <class> class Call, class... Arguments> constexpr bool is_refused = !(compiles<Call, Arguments>::value || ...);
 
-/* Whether a type of list is accepted. A temporary list that owns its texts is not. */
-template <class List, class = void> struct is_listed : std::false_type {};
-template <class List>
-struct is_listed<List, std::void_t<decltype(langtag::best_for_header("de", std::declval<List>())),
-                                   decltype(langtag::best_for_ranges({"de"}, std::declval<List>()))>> : std::true_type {};
-template <class Element> constexpr bool is_listed_as_temporary = is_listed<std::vector<Element>>::value;
-static_assert(is_listed_as_temporary<tag> && is_listed_as_temporary<std::string_view> && is_listed_as_temporary<const char *>);
-static_assert(!is_listed_as_temporary<std::string> && !is_listed_as_temporary<langtag::owned_tag>);
-static_assert(is_listed<std::vector<std::string> &>::value && is_listed<const std::set<langtag::owned_tag> &>::value);
-static_assert(!is_listed<int>::value);
+/* A temporary string is not accepted, since it is destroyed before its view is used. */
+template <class Text> using parsed = decltype(tag::parse(std::declval<Text>()));
+template <class Text> using read_as_range = decltype(langtag::range::parse(std::declval<Text>()));
+template <class Text> using accepted = decltype(langtag::accept_language(std::declval<Text>()));
+template <class Text> using walked = decltype(langtag::subtags(std::declval<Text>()));
+template <class Text> using walked_by_extension = decltype(langtag::extensions(std::declval<Text>()));
+template <class Header> using matched = decltype(langtag::match_for_header(std::declval<Header>(), {"de"})); /* the range is a view of the header */
+template <template <class> class Call>
+constexpr bool is_of_views = is_taken<Call, const char (&)[3], const char *, std::string_view, std::string &, const std::string &> && is_refused<Call, std::string, const std::string>;
+static_assert(is_of_views<parsed> && is_of_views<read_as_range> && is_of_views<accepted> && is_of_views<walked> && is_of_views<walked_by_extension> && is_of_views<matched>);
 
-/* The range of a match is a view of the header. */
-template <class Header, class = void> struct is_matched : std::false_type {};
-template <class Header>
-struct is_matched<Header, std::void_t<decltype(langtag::match_for_header(std::declval<Header>(), {"de"}))>> : std::true_type {};
-static_assert(is_matched<const char *>::value && is_matched<std::string &>::value && !is_matched<std::string>::value);
+/* A temporary list that owns its texts is not accepted. */
+template <class List> using chosen = decltype(langtag::best_for_header("de", std::declval<List>()));
+template <class List> using chosen_by_ranges = decltype(langtag::best_for_ranges({"de"}, std::declval<List>()));
+template <template <class> class Call>
+constexpr bool is_of_lists = is_taken<Call, std::vector<tag>, std::vector<std::string_view>, std::vector<const char *>, std::vector<std::string> &, const std::set<langtag::owned_tag> &> &&
+                             is_refused<Call, std::vector<std::string>, std::vector<langtag::owned_tag>, int>;
+static_assert(is_of_lists<chosen> && is_of_lists<chosen_by_ranges>);
 
 /* The tags that a site returns are views of it, so a temporary site returns none. */
-template <class Site, class = void> struct is_asked : std::false_type {};
-template <class Site> struct is_asked<Site, std::void_t<decltype(std::declval<Site>().best_for_header("de"))>> : std::true_type {};
-template <class Site, class = void> struct is_indexed : std::false_type {};
-template <class Site> struct is_indexed<Site, std::void_t<decltype(std::declval<Site>()[0])>> : std::true_type {};
-static_assert(is_asked<const langtag::site &>::value && !is_asked<langtag::site>::value);
-static_assert(is_indexed<const langtag::site &>::value && !is_indexed<langtag::site>::value);
+template <class Site> using asked = decltype(std::declval<Site>().best_for_header("de"));
+template <class Site> using indexed = decltype(std::declval<Site>()[0]);
+static_assert(is_taken<asked, const langtag::site &> && is_taken<indexed, const langtag::site &> && is_refused<asked, langtag::site> && is_refused<indexed, langtag::site>);
 
 static void check_views() {
     CHECK(!tag::parse({}) && !langtag::range::parse({}) && langtag::viable_len({}) == 0 && langtag::stop_len({}) == 0);

@@ -32,13 +32,6 @@ class Faults(unittest.TestCase):
     def tearDown(self):
         self.assertEqual(server.lines("SELECT 'DE-ch'::langtag", "faults"), ["de-CH"], "the server stands")
 
-    def test_texts(self):
-        for text in ("", "en-", " de", "de ", "i-no", "dé", "abcdefghi", "d" * 500, "ü" * 100, "de-419-DE", "de_CH", "de-CH\n"):
-            self.refused(f"SELECT {server.quoted(text)}::langtag", "22P02: invalid language tag `", "DETAIL:")
-            self.refused(f"SELECT {server.quoted(text)}::text::langtag", "22P02: invalid language tag `")
-        for text in ("", "de_*", "de-", "*-*-", "1", "de-*a"):
-            self.refused(f"SELECT {server.quoted(text)}::langtag_range", "22P02: invalid language range `")
-
     def binary(self, database, kind, data):
         with tempfile.NamedTemporaryFile() as file:
             file.write(b"PGCOPY\n\xff\r\n\0" + struct.pack(">ii", 0, 0) + struct.pack(">hi", 1, len(data)) + data + struct.pack(">h", -1))

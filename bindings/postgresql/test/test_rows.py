@@ -3,6 +3,7 @@ of the registry's subtags, which were compared with registry/oracle.py. In SQL a
 tags. So they are compared in lowercase."""
 import os
 import pathlib
+import re
 import sys
 import unittest
 
@@ -68,41 +69,20 @@ def tags(data):
     return texts(data) + "::langtag[]"
 
 
-def kept(function):
-    """Returns the results for three headers in one statement, which keeps the tags. For the planner, the headers may differ."""
-    return f"(SELECT array_agg({function}(tags, asked || left('a', k - k))::text) FROM generate_series(1, 3) AS k)"
+# The tags of a row and other tags that no header of the rows wants. The library gets a part of these at a time.
+MORE_TAGS = "(SELECT array_agg(CASE WHEN k % 41 = 0 THEN tags[k / 41] ELSE 'x-other' END ORDER BY k) FROM generate_series(1, 41 * cardinality(tags)) AS k)"
 
 
-def best(asked, names):
-    """Chooses among the tags of the row, then in a statement that keeps the tags, and then among these and other tags that no header of
-    the rows wants. The library gets a part of these at a time."""
-    others = f"(SELECT array_agg(CASE WHEN k % 41 = 0 THEN tags[k / 41] ELSE 'x-other' END ORDER BY k) FROM generate_series(1, 41 * cardinality(tags)) AS k)"
-    return (f"SELECT CASE WHEN c IS DISTINCT FROM ARRAY[a, a, a]::text[] THEN 'differs in a statement' WHEN a IS DISTINCT FROM b THEN 'differs among others' ELSE a::text END "
-            f"FROM (SELECT best_for_header(tags, asked) AS a, best_for_header({others}, asked) AS b, {kept('best_for_header')} AS c "
-            f"FROM (SELECT {tags(names)} AS tags, {text(asked)} AS asked) s) t")
+def chosen(function, *more):
+    """Returns the query of a function that chooses for a header among the tags, among their texts, and among more tags, which has to choose the same. Each is
+    called three times in one statement, which keeps the tags. For the planner, the headers may differ."""
+    calls = ", ".join(f"lower({function}({among}, asked || left('a', n - n))::text)" for among in ("tags", "texts", *more))
+    return lambda asked, names: (
+        f"SELECT CASE WHEN count(DISTINCT coalesce(said, '-')) = 1 THEN min(said) ELSE 'differ: ' || string_agg(said, ' ') END "
+        f"FROM (SELECT {texts(names)} AS texts, {tags(names)} AS tags, {text(asked)} AS asked) s, generate_series(1, 3) AS n, unnest(ARRAY[{calls}]) AS said")
 
 
-def best_match(asked, names):
-    """Chooses among tags, in a statement that keeps them, and among texts. The index of a tag in an array is counted from 1."""
-    return (f"SELECT CASE WHEN c IS DISTINCT FROM ARRAY[b, b, b]::text[] THEN 'differs in a statement' "
-            f"WHEN ((a).index, (a).distance, (a).range) IS NOT DISTINCT FROM ((b).index, (b).distance, (b).range) THEN (a).index - 1 || ' ' || (a).distance || ' ' || (a).range ELSE 'differs as text' END FROM "
-            f"(SELECT match_for_header(tags::langtag[], asked) AS a, match_for_header(tags, asked) AS b, {kept('match_for_header')} AS c FROM (SELECT {texts(names)} AS tags, {text(asked)} AS asked) s) t")
-
-
-def suitable(asked, names):
-    """Lists the suitable tags, and the suitable strings."""
-    return (f"SELECT CASE WHEN a::text[] = b::langtag[]::text[] THEN array_to_string(a, ' ') ELSE 'differs as text' END FROM (SELECT "
-            f"suitable_for_header(tags::langtag[], asked) AS a, suitable_for_header(tags, asked) AS b FROM (SELECT {texts(names)} AS tags, {text(asked)} AS asked) s) t")
-
-
-def header(asked, names):
-    return by_texts("tag_for_header_lenient", asked, names)
-
-
-def by_texts(function, asked, names):
-    """Chooses among the tags, and among their texts."""
-    return (f"SELECT CASE WHEN a::text IS NOT DISTINCT FROM b::langtag::text THEN b ELSE 'differs as text' END FROM (SELECT {function}(tags::langtag[], asked) AS a, "
-            f"{function}(tags, asked) AS b FROM (SELECT {texts(names)} AS tags, {text(asked)} AS asked) s) t")
+look_up = chosen("tag_for_header_lenient")
 
 
 def edit(tag, part, given):
@@ -120,7 +100,7 @@ def with_keyword(tag, key, value):
 
 def ranges(asked, names):
     """Makes a header from ranges: they are joined by commas, and each "-*" is removed."""
-    return header(asked.replace(b"-*", b"").replace(b" ", b", "), names) if asked else None
+    return look_up(asked.replace(b"-*", b"").replace(b" ", b", "), names) if asked else None
 
 
 def of_tag(function):
@@ -152,7 +132,8 @@ QUERIES = {
     "posix": lambda name: f"SELECT from_posix({text(name)})::text",
     "posix-name": of_tag("to_posix"),
     "unknown-modifier": lambda name: f"SELECT unknown_modifier({text(name)})",
-    "best": best, "best-match": best_match, "suitable": suitable, "header": header, "ranges": ranges, "edit": edit,
+    "best": chosen("best_for_header", MORE_TAGS), "best-match": chosen("match_for_header"), "suitable": chosen("suitable_for_header"),
+    "header": look_up, "ranges": ranges, "edit": edit,
     "with-keyword": with_keyword,
     "is-locale": lambda tag: f"SELECT CASE WHEN is_locale({text(tag)}::langtag) THEN 'yes' ELSE 'no' END",
     "cldr-version": lambda: "SELECT langtag_cldr_version()",
@@ -167,7 +148,6 @@ WRITTEN = {
     "order": {"-1": "before", "0": "equal", "1": "after"},
     "edit": {"22023": "refused", "22023 no parts": "no parts"},
     "with-keyword": {f"22023 {why}": why for why in ("bad key", "bad value", "no parts")},
-    "suitable": {"": "-"},
 }
 # The calls whose rows have the case of SQL's answers, and the calls whose answers are tags in their recommended case.
 EXACT = {"suggestion", "recommended", "message", "range-message", "describe", "autonym", "posix-name", "unknown-modifier", "cldr-version"}
@@ -179,6 +159,10 @@ def answer_of(call, said):
     """Returns SQL's answer in the form of the rows."""
     if said == NO_TAG and call in REFUSED:
         return REFUSED[call]
+    if call == "best-match":  # a row of the index, which is counted from 1, the tag, the distance and the range
+        said = re.sub(r"\((\d+),[^,]*,(\d+),(.*)\)", lambda it: f"{int(it[1]) - 1} {it[2]} {it[3]}", said)
+    if call == "suitable":
+        said = said.strip("{}").replace(",", " ") or "-"
     said = WRITTEN.get(call, {}).get(said, said.replace("/", "\n") if call == "tag" else said)
     return said.lower() if call in TAGS else rows.escaped(said)
 
