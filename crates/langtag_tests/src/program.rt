@@ -363,6 +363,10 @@ const OUTCOMES: [(Result<(), ShowError>, &[u8], u8, &str); 4] = [
     (Err(ShowError::Write), b"write failed\n", 5, "Err(Write)"),
 ];
 
+fn debug_text(alloc: Global, outcome: Result<(), ShowError>) -> Result<String, AllocError> {
+    format!(in alloc; "{outcome:?}")
+}
+
 #[test]
 fn each_outcome_is_said(rt: HostRuntime) {
     let owed = Cell::new(0);
@@ -378,9 +382,7 @@ fn each_outcome_is_said(rt: HostRuntime) {
         let mut full = Sheet::new(all(b""), Fault::None, &owed);
         let is_said = conclude(outcome, &mut full) == ExitCode::from(status);
         expect_true(&rt, is_said, words.len());
-        let debug = format!(in rt.alloc(); "{outcome:?}").or_else(|_| format!(in rt.alloc();
-            "{outcome:?}"
-        ));
+        let debug = debug_text(rt.alloc(), outcome).or_else(|_| debug_text(rt.alloc(), outcome));
         let debug = debug.ok().expect(&rt, "memory was refused twice");
         expect_true(&rt, debug.as_str() == shown, words.len());
     }

@@ -33,12 +33,17 @@ pub(crate) fn are_answered(
 
 /// Cuts a question at its first `|`.
 pub(crate) fn cut(question: &str) -> (&str, &str) {
-    question.split_once('|').unwrap_or((question, ""))
+    cut_at(question, '|')
+}
+
+/// Cuts a text at the first such character. Without one, all of it is the first part.
+fn cut_at(text: &str, mark: char) -> (&str, &str) {
+    text.split_once(mark).unwrap_or((text, ""))
 }
 
 /// Returns the string before the first `+`, and then the piece after it, this many times.
 pub(crate) fn repeated(alloc: Global, text: &str, times: u32) -> Result<String, AllocError> {
-    let (start, piece) = text.split_once('+').unwrap_or((text, ""));
+    let (start, piece) = cut_at(text, '+');
     let mut whole = String::from_str(alloc, start)?;
     for _ in 0..times {
         whole.push_str(piece)?;

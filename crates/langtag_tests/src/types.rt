@@ -27,12 +27,14 @@ fn shown<T: Display, U: Display + Drop>(
     value: &T,
     copy: Result<U, AllocError>,
 ) -> Result<String, AllocError> {
-    let lent = value.to_string(alloc)?;
+    let mut lent = value.to_string(alloc)?;
     let kept = copy?.to_string(alloc)?;
     if lent.as_str() == text && kept.as_str() == text {
         return String::from_str(alloc, "accepted");
     }
-    format!(in alloc; "{lent} {kept}")
+    lent.push_str(" ")?;
+    lent.push_str(kept.as_str())?;
+    Ok(lent)
 }
 
 fn primary_language(text: &str, alloc: Global) -> Result<String, AllocError> {
