@@ -351,7 +351,7 @@ size_t langtag_without_keyword(const char *tag, size_t tag_len, const char *key,
  * that UTS #35 does not allow, such as t-m0, stays as it is. The order of the extensions stays, too; langtag_canonical
  * sorts them.
  *
- * Time is quadratic beyond 512 attributes, or variants in the language of t: up to 4 s for 1 MB. The form may be
+ * Time is quadratic beyond 512 attributes, or variants in the language of t: up to 2 s for 1 MB. The form may be
  * longer than the tag.
  *
  * Returns 0 and writes nothing if the string is not a tag.
@@ -388,7 +388,7 @@ LANGTAG_PURE bool langtag_is_locale(const char *bytes, size_t len);
  * becomes that value: i-klingon becomes tlh. In any other tag, a registered extended language replaces the language
  * before it: zh-yue-HK becomes yue-HK. If the result is not a Unicode locale identifier, either, the tag has no form.
  *
- * Time is quadratic beyond 512 variants or attributes: up to 4 s for 1 MB.
+ * Time is quadratic beyond 512 variants or attributes: up to 2 s for 1 MB.
  *
  * Returns 0 and writes nothing if the tag has no form, such as x-a, i-default and und-t-m0, or if the string is not a
  * tag.

@@ -47,7 +47,7 @@ pub extern "C" fn langtag_is_locale(bytes: &[u8]) -> bool
 /// becomes that value: i-klingon becomes tlh. In any other tag, a registered extended language replaces the language
 /// before it: zh-yue-HK becomes yue-HK. If the result is not a Unicode locale identifier, either, the tag has no form.
 ///
-/// Time is quadratic beyond 512 variants or attributes: up to 4 s for 1 MB.
+/// Time is quadratic beyond 512 variants or attributes: up to 2 s for 1 MB.
 ///
 /// Returns 0 and writes nothing if the tag has no form, such as x-a, i-default and und-t-m0, or if the string is not a
 /// tag.

@@ -25,7 +25,7 @@ use crate::spans::tag_of;
 /// t are changed. A t that UTS #35 does not allow, such as t-m0, stays as it is. The order of the
 /// extensions stays, too; `langtag_canonical` sorts them.
 ///
-/// Time is quadratic beyond 512 attributes, or variants in the language of t: up to 4 s for 1 MB.
+/// Time is quadratic beyond 512 attributes, or variants in the language of t: up to 2 s for 1 MB.
 /// The form may be longer than the tag.
 ///
 /// Returns 0 and writes nothing if the string is not a tag.
