@@ -148,7 +148,7 @@ FAULTS = {
         rust("invalid", "$error(self.0.into())", "$error(Default::default())"),
         rust("message", "RefusalKind::Subtag if subtag.is_empty()", "RefusalKind::End if subtag.is_empty()", "rows"),
         rust("message", "for byte in chunk.invalid() {", "for byte in &chunk.invalid()[..0] {", "rows"),
-        rust("message", "const MOST: usize = 80;", "const MOST: usize = 8;", "rows"),
+        rust("message", "let mut left = MOST;", "let mut left = 8;", "rows"),
         rust("message", "map_or(1, char::len_utf8)", "map_or(1, |_| 1)", "rows"),
         rust("lists", "this => LangTag::new(this).ok();", "this => LangTag::new(&this[..2.min(this.len())]).ok();", "rows"),
         rust("lists", "this => Some(this.as_lang_tag());", "this => None;", "rows"),
@@ -431,7 +431,7 @@ FAULTS = {
 # How the tests of each language are built, in a copy of what they need.
 CARGO = "cd rust && CARGO_TARGET_DIR=../target RUSTFLAGS='-Awarnings -Cdebuginfo=0' cargo test -q --offline --features names,oxilangtag"
 BUILD = {
-    "C": "cc -w -std=c11 -Ibindings/include bindings/c/test/*.c $LIBRARIES/liblangtag_verified.a -o test",
+    "C": "cc -w -std=c11 -DMOST_VARIANTS=20000 -Ibindings/include bindings/c/test/*.c $LIBRARIES/liblangtag_verified.a -o test",
     "C++": "cc -w -c bindings/c/test/rows.c bindings/c/test/fences.c && c++ -w -std=c++17 -Ibindings/include bindings/c/test/rows.cc"
            " rows.o fences.o $LIBRARIES/liblangtag_verified.a -o test",
     "Rust": f"{CARGO} --no-run $TESTS",
@@ -481,12 +481,13 @@ def linked(one: str, other: str) -> None:
 
 
 class Copy:
-    """A copy of the files that a language needs, in which faults are planted and the language's tests are built and run."""
+    """A copy of the files that a language needs, in which faults are planted and the language's tests are built and run. The copy of
+    another copy has what that one has built."""
 
-    def __init__(self, language: str, libraries: pathlib.Path):
+    def __init__(self, language: str, libraries: pathlib.Path, built: Copy | None = None):
         self.language, self.libraries, self.folder = language, libraries, pathlib.Path(tempfile.mkdtemp())
         for name in NEEDED.get(language, ["bindings"]):
-            shutil.copytree(ROOT / name, self.folder / name, ignore=LEFT_OUT, copy_function=linked)
+            shutil.copytree((built.folder if built else ROOT) / name, self.folder / name, ignore=LEFT_OUT, copy_function=shutil.copy2 if built else linked)
         (self.folder / "rows").symlink_to(ROOT / "rows")
         self.environment = {**os.environ, "CFLAGS": "-w -O0", "LIBRARIES": str(libraries), "PYTHON": os.environ.get("PYTHON", ""),
                             "TESTS": " ".join(f"--test {test}" for test in tests(language)), "PYTHONDONTWRITEBYTECODE": "1",
@@ -548,13 +549,14 @@ class Copy:
         shutil.rmtree(self.folder)
 
 
-def alone(language: str, libraries: pathlib.Path, fault: Fault | None) -> str | None:
+def alone(all_faults: Copy, fault: Fault | None) -> str | None:
     """Builds a language with one fault, or with none, and runs the test that has to find it, or all tests. Returns what differs from the
-    expectation, or None."""
-    copy = Copy(language, libraries)
+    expectation, or None. A fault in SQL needs no other module than the one with all faults behind switches."""
+    copy = Copy(all_faults.language, all_faults.libraries, all_faults if fault and fault.file.endswith(".sql.in") else None)
     try:
         if fault is None:
             return copy.build() or copy.passes("")
+        copy.environment["TESTS"] = f"--test {fault.by}"
         copy.plant(fault)
         return copy.build() or copy.refuses(fault)
     finally:
@@ -578,11 +580,10 @@ def to_be_asked(copy: Copy) -> list[Asked]:
         return [Asked(language, None, lambda: why)]
     asked = [Asked(language, None, functools.partial(copy.passes, by)) for by in tests(language)]
     for number, fault in sorted(enumerate(FAULTS[language], 1), key=lambda it: it[0] not in switches):
-        ask = functools.partial(copy.refuses, fault, str(number)) if number in switches else functools.partial(
-            alone, language, copy.libraries, fault)
+        ask = functools.partial(copy.refuses, fault, str(number)) if number in switches else functools.partial(alone, copy, fault)
         asked.append(Asked(language, fault, ask))
     if language == "PostgreSQL":  # the server still stands
-        asked.append(Asked(language, None, functools.partial(alone, language, copy.libraries, None)))
+        asked.append(Asked(language, None, functools.partial(alone, copy, None)))
     return asked
 
 

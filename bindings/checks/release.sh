@@ -109,12 +109,12 @@ needs '[ -n "${wine:-}" ]' "there is no mingw, or no wine64" "release: C by the 
 # The crate names serde, which cargo looks up even if the feature is off.
 crate() {
     away 'tar -xzf ../dist/*.crate; cargo new -q --vcs none first; cp parts.rs first/src/main.rs; cd first
-        cp -r ../../with-serde/.cargo .cargo; export CARGO_TARGET_DIR=$PWD/target CARGO_HOME=$PWD/cargo-home
+        cp -r ../../with-serde/.cargo .cargo; export CARGO_TARGET_DIR=$PWD/../../released CARGO_HOME=$PWD/cargo-home
         cargo add -q --offline --path ../langtag-verified-*/ '"$1"'; cargo run -q --offline zh-Hant-TW'
 }
 # Its own tests, with all features.
 crate_tests() {
-    away 'tar -xzf ../dist/*.crate; cd langtag-verified-*; cp -r ../../with-serde/.cargo .cargo; export CARGO_TARGET_DIR=$PWD/target CARGO_HOME=$PWD/cargo-home
+    away 'tar -xzf ../dist/*.crate; cd langtag-verified-*; cp -r ../../with-serde/.cargo .cargo; export CARGO_TARGET_DIR=$PWD/../../released CARGO_HOME=$PWD/cargo-home
         cargo test -q --offline --all-features >log 2>&1 || { cat log; exit 1; }; cargo run -q --offline --example parts zh-Hant-TW'
 }
 if [ -d "$work/with-serde" ]; then
