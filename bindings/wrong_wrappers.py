@@ -451,7 +451,7 @@ def command(language: str, by: str) -> str:
         asked = "asked" if language == "C" else "asked-cc"
         return f"./test rows/calls.txt rows/{by} 1" if by else f"./test $(make -s -C bindings/c ROWS=$PWD/rows {asked})"
     if language == "Rust":
-        return f"{CARGO} --test {by}"
+        return f"{CARGO} --test {by} -- --skip prefixes"  # a long test, of the recogniser
     if language == "JavaScript":
         alone = f"--test-name-pattern='{by}'" if by else ""
         return f"node --test-reporter=tap {alone} bindings/js/test/{'rows' if is_rows else 'langtag'}.test.js"
