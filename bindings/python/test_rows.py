@@ -31,12 +31,20 @@ def alike(*answers):
     return said[0]
 
 
-def made(kind, text):
+def outcome(call, *given, **named):
+    """Returns what a call returns and None, or None and the error, of which a copy by pickle has to be the same."""
     try:
-        return kind(text)
-    except (InvalidTag, InvalidRange) as error:
-        assert error.text == text
-        return None
+        return call(*given, **named), None
+    except langtag.Error as error:
+        again = pickle.loads(pickle.dumps(error))
+        assert (type(again), str(again), vars(again)) == (type(error), str(error), vars(error))
+        return None, error
+
+
+def made(kind, text):
+    value, error = outcome(kind, text)
+    assert error is None or (type(error) is (InvalidTag if kind is Tag else InvalidRange) and error.text == text)
+    return value
 
 
 def of_tag(ask, otherwise="-"):
@@ -45,13 +53,6 @@ def of_tag(ask, otherwise="-"):
         tag = made(Tag, text)
         return otherwise if tag is None else shown(ask(tag, *more))
     return answer
-
-
-def copied(error):
-    """Returns a copy of an error made by pickle, after checking that it is the same."""
-    again = pickle.loads(pickle.dumps(error))
-    assert (type(again), str(again), vars(again)) == (type(error), str(error), vars(error))
-    return again
 
 
 def extensions_of(tag):
@@ -173,12 +174,11 @@ def answer_order(a, b):
 
 
 def strict(header, tags):
-    try:
-        return shown(tag_for_header(header, tags))
-    except AcceptLanguageError as error:
-        assert error.header == header and str(error) == f"element {error.index} has a bad {error.part}"
-        copied(error)
-        return f"bad {error.index} {error.offset} {({'language range': 'range', 'weight': 'weight'})[error.part]}"
+    found, error = outcome(tag_for_header, header, tags)
+    if error is None:
+        return shown(found)
+    assert type(error) is AcceptLanguageError and error.header == header and str(error) == f"element {error.index} has a bad {error.part}"
+    return f"bad {error.index} {error.offset} {({'language range': 'range', 'weight': 'weight'})[error.part]}"
 
 
 def answer_header(header, tags):
@@ -188,23 +188,19 @@ def answer_header(header, tags):
 
 
 def answer_elements(header):
-    listed = " ".join(f"{it.range} {it.weight}" for it in AcceptLanguage.lenient(header).ranges) or "-"
-    try:
-        assert AcceptLanguage(header).ranges == AcceptLanguage.lenient(header).ranges
-        return listed
-    except AcceptLanguageError as error:
-        return f"{error} | {listed}"
+    ranges, (accepted, error) = AcceptLanguage.lenient(header).ranges, outcome(AcceptLanguage, header)
+    assert error or accepted.ranges == ranges
+    listed = shown([f"{it.range} {it.weight}" for it in ranges])
+    return f"{error} | {listed}" if error else listed
 
 
 def replaced(tag, part, value, given):
-    try:
-        return str(tag.replace(**{part: value}))
-    except EditError as error:
-        assert (error.part, error.text) == (part, given if tag.kind is langtag.Kind.NORMAL else None)
-        wanted = "not a normal language tag" if error.text is None else f"invalid {part.replace('_', ' ')} {langtag._quoted_text(given)}"
-        assert str(error) == wanted
-        copied(error)
-        return "no parts" if error.text is None else "refused"
+    made, error = outcome(tag.replace, **{part: value})
+    if error is None:
+        return str(made)
+    assert type(error) is EditError and (error.part, error.text) == (part, given if tag.kind is langtag.Kind.NORMAL else None)
+    assert str(error) == ("not a normal language tag" if error.text is None else f"invalid {part.replace('_', ' ')} {langtag._quoted_text(given)}")
+    return "no parts" if error.text is None else "refused"
 
 
 def answer_edit(tag, part, given):
@@ -218,15 +214,13 @@ def answer_edit(tag, part, given):
 
 
 def with_keyword(tag, keywords):
-    try:
-        return str(tag.replace(keywords=keywords))
-    except EditError as error:
-        wrong = {"key": "bad key", "value": "bad value", "keywords": "no parts"}[error.part]
-        begin = "not a normal language tag" if error.text is None else f"{langtag._quoted_text(error.text)} is not a {error.part} of "
-        assert error.part == "keywords" if error.text is None else error.part in ("key", "value")
-        assert str(error).startswith(begin), str(error)
-        assert error.text in (None, *keywords, *keywords.values()) and copied(error)
-        return wrong
+    made, error = outcome(tag.replace, keywords=keywords)
+    if error is None:
+        return str(made)
+    begin = "not a normal language tag" if error.text is None else f"{langtag._quoted_text(error.text)} is not a {error.part} of "
+    assert type(error) is EditError and error.part in (("keywords",) if error.text is None else ("key", "value"))
+    assert str(error).startswith(begin) and error.text in (None, *keywords, *keywords.values()), str(error)
+    return {"key": "bad key", "value": "bad value", "keywords": "no parts"}[error.part]
 
 
 def answer_with_keyword(tag, key, value):
@@ -245,32 +239,25 @@ def answer_with_keyword(tag, key, value):
 
 def answer_refused(text):
     """Returns the kind of the error, which it reads from the message."""
-    try:
-        Tag(text)
-    except InvalidTag as error:
-        assert text.decode("utf-8", "backslashreplace").find(error.subtag) >= 0 and error.viable_len <= len(text)
-        why = error.reason
-        kind = "end" if why == "unexpected end: expected a subtag" else "byte" if why.startswith("invalid character ") else "subtag"
-        answer, start, length, offset = langtag._backend.refused(text)
-        assert (start, offset) == (error.start, error.offset) and text[start : start + length].decode("utf-8", "backslashreplace") == error.subtag
-        return f"{kind} {start} {length} {offset}"
-    return f"none {len(text)} 0 {len(text)}"
+    _, error = outcome(Tag, text)
+    if error is None:
+        return f"none {len(text)} 0 {len(text)}"
+    assert text.decode("utf-8", "backslashreplace").find(error.subtag) >= 0 and error.viable_len <= len(text)
+    why = error.reason
+    kind = "end" if why == "unexpected end: expected a subtag" else "byte" if why.startswith("invalid character ") else "subtag"
+    answer, start, length, offset = langtag._backend.refused(text)
+    assert (start, offset) == (error.start, error.offset) and text[start : start + length].decode("utf-8", "backslashreplace") == error.subtag
+    return f"{kind} {start} {length} {offset}"
 
 
 def as_in_row(message):
     return re.sub(rb"[^ -~]|[\\\\{}]", lambda it: b"\\x%02x" % ord(it[0]), message.encode()).decode()
 
 
-def answer_message(text, kind=Tag, error=InvalidTag):
-    """Returns the message for the text, and checks that it is the same for the text as a str."""
-    said = set()
-    for given in {text, text.decode("utf-8", "ignore").encode() == text and text.decode()} - {False}:
-        try:
-            kind(given)
-        except error as refused:
-            said.add(as_in_row(str(refused)))
-    assert len(said) == 1
-    return said.pop()
+def answer_message(text, kind=Tag):
+    """Returns the message for the text, which has to be the same for the text as a str."""
+    as_str = text.decode("utf-8", "ignore")
+    return alike(*(as_in_row(str(outcome(kind, it)[1])) for it in (text, as_str if as_str.encode() == text else text)))
 
 
 def answer_distance(desired, supported):
@@ -281,13 +268,6 @@ def answer_distance(desired, supported):
 def answer_parents(tag):
     assert tag.parents[0] is tag and tag.parent == (tag.parents[1] if len(tag.parents) > 1 else None)
     return tag.parents
-
-
-def answer_posix(name):
-    try:
-        return str(Tag.from_posix(name))
-    except ValueError:
-        return "-"
 
 
 def answer_posix_name(tag):
@@ -358,8 +338,8 @@ ANSWERS = {
     "keyword": of_tag(Tag.keyword), "keywords": of_tag(answer_keywords), "transform": of_tag(answer_transform),
     "attributes": of_tag(lambda tag: tag.attributes), "refused": answer_refused,
     "fault": of_tag(lambda tag: str(tag.invalid_subtag or "valid").partition(": did you mean ")[0]),
-    "message": answer_message, "range-message": lambda text: answer_message(text, Range, InvalidRange), "distance": answer_distance,
-    "right-to-left": of_tag(lambda tag: tag.is_right_to_left), "posix": answer_posix, "posix-name": of_tag(answer_posix_name),
+    "message": answer_message, "range-message": lambda text: answer_message(text, Range), "distance": answer_distance,
+    "right-to-left": of_tag(lambda tag: tag.is_right_to_left), "posix": lambda name: shown(outcome(Tag.from_posix, name)[0]), "posix-name": of_tag(answer_posix_name),
     "unknown-modifier": lambda name: shown(langtag.unknown_modifier(name)), "best": answer_best, "best-ranges": answer_best_ranges,
     "best-accepted": answer_best_accepted, "best-match": answer_best_match,
     "suitable": lambda header, tags: alike(*among(langtag.suitable_for_header, header, tags)),

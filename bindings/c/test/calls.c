@@ -116,19 +116,6 @@ OF_ONE(validity, a) {
     put_bytes(to, a.at + invalid.start, invalid.len);
 }
 
-/* The suggestion for the first invalid subtag, in a buffer of exactly its length. In a shorter buffer nothing is written. */
-OF_ONE(suggestion, a) {
-    langtag_span invalid;
-    char code[8] = "~~~~~~~";
-    uint32_t fault = langtag_validity(a.at, a.len, &invalid);
-    size_t len = langtag_suggestion(fault, a.at + invalid.start, invalid.len, code, 0);
-    if (len > 0 && langtag_suggestion(fault, a.at + invalid.start, invalid.len, code, len - 1) != len) put_word(to, " another length");
-    if (memcmp(code, "~~~~~~~", sizeof code)) put_word(to, " in no room");
-    if (langtag_suggestion(fault, a.at + invalid.start, invalid.len, code, len) != len || code[len] != '~') put_word(to, " too much");
-    if (len > 0) put_word(to, " "), put(to, code, len);
-    else put_word(to, " -");
-}
-
 typedef size_t write_form(const char *, size_t, char *, size_t);
 
 /* A call that writes a text, for the arguments of a row. */
@@ -171,8 +158,29 @@ OF_ONE(canonical, a) {
     if (langtag_is_canonical(a.at, a.len) != is_form) put_word(to, " but langtag_is_canonical says otherwise");
 }
 
+/* The suggestion for the first invalid subtag. */
+static size_t write_suggestion(const char *bytes, size_t len, char *buffer, size_t room) {
+    langtag_span invalid;
+    uint32_t fault = langtag_validity(bytes, len, &invalid);
+    return langtag_suggestion(fault, bytes + invalid.start, invalid.len, buffer, room);
+}
+
+static size_t write_version(const char *bytes, size_t len, char *buffer, size_t room) {
+    (void)bytes, (void)len;
+    return langtag_cldr_version(buffer, room);
+}
+
+static void answer_cldr_version(text *to, const text *arguments) {
+    (void)arguments;
+    put_form(to, (text){NULL, 0, 0}, write_version);
+}
+
+OF_ONE(suggestion, a) { put_form(to, a, write_suggestion); }
 OF_ONE(maximized, a) { put_form(to, a, langtag_maximized); }
 OF_ONE(minimized, a) { put_form(to, a, langtag_minimized); }
+OF_ONE(extensions_form, a) { put_form(to, a, langtag_extensions_form); }
+OF_ONE(posix, a) { put_form(to, a, langtag_from_posix); }
+OF_ONE(posix_name, a) { put_form(to, a, langtag_to_posix); }
 
 /* The tag and its parents. Each parent is asked of the one before it. */
 OF_ONE(parents, a) {
@@ -191,8 +199,6 @@ OF_ONE(parents, a) {
     }
 }
 
-OF_ONE(extensions_form, a) { put_form(to, a, langtag_extensions_form); }
-
 OF_ONE(base, a) {
     size_t len = langtag_base_len(a.at, a.len);
     if (len > 0) put_bytes(to, a.at, len);
@@ -200,16 +206,6 @@ OF_ONE(base, a) {
 }
 
 OF_ONE(is_locale, a) { put_word(to, langtag_is_locale(a.at, a.len) ? " yes" : " no"); }
-
-static size_t write_version(const char *bytes, size_t len, char *buffer, size_t buffer_len) {
-    (void)bytes, (void)len;
-    return langtag_cldr_version(buffer, buffer_len);
-}
-
-static void answer_cldr_version(text *to, const text *arguments) {
-    (void)arguments;
-    put_form(to, (text){NULL, 0, 0}, write_version);
-}
 
 /* The form, which has to be a Unicode locale identifier. Each such identifier has a form. */
 OF_ONE(locale_form, a) {
@@ -219,19 +215,18 @@ OF_ONE(locale_form, a) {
     if (!has_form && langtag_is_locale(a.at, a.len)) put_word(to, " but langtag_is_locale accepts the tag");
 }
 
-OF_ONE(posix, a) { put_form(to, a, langtag_from_posix); }
-
-OF_ONE(posix_name, a) { put_form(to, a, langtag_to_posix); }
+/* Writes the bytes of a span that a call found. A call that found nothing leaves the span {1, 2} as it was. */
+static bool put_found(text *to, text from, bool is_found, langtag_span span) {
+    if (is_found) put_bytes(to, from.at + span.start, span.len);
+    else put_word(to, span.start == 1 && span.len == 2 ? " -" : " - with a span");
+    return is_found;
+}
 
 OF_ONE(unknown_modifier, name) {
     langtag_span modifier = {1, 2};
-    if (langtag_unknown_modifier(name.at, name.len, &modifier)) {
-        put_bytes(to, name.at + modifier.start, modifier.len);
-        if (name.at[modifier.start - 1] != '@' || modifier.start + modifier.len != name.len) put_word(to, " in another place");
-        return;
-    }
-    put_word(to, " -");
-    if (modifier.start != 1 || modifier.len != 2) put_word(to, " and a modifier");
+    bool is_found = langtag_unknown_modifier(name.at, name.len, &modifier);
+    if (put_found(to, name, is_found, modifier) && (name.at[modifier.start - 1] != '@' || modifier.start + modifier.len != name.len))
+        put_word(to, " in another place");
 }
 
 OF_ONE(right_to_left, a) {
@@ -442,8 +437,8 @@ typedef bool next_pair(const char *, size_t, size_t *, langtag_span *, langtag_s
 
 OF_TWO(keyword, tag, key) {
     langtag_span value = {1, 2};
-    if (langtag_keyword(tag.at, tag.len, key.at, key.len, &value)) put_bytes(to, tag.at + value.start, value.len);
-    else put_word(to, value.start == 1 && value.len == 2 ? " -" : " - with a span");
+    bool is_found = langtag_keyword(tag.at, tag.len, key.at, key.len, &value);
+    put_found(to, tag, is_found, value);
 }
 
 /* Calls langtag_without_keyword if the value is -, otherwise langtag_with_keyword. */
@@ -493,12 +488,8 @@ OF_ONE(attributes, tag) {
 
 OF_ONE(transform, tag) {
     langtag_span language = {1, 2};
-    if (!langtag_transform(tag.at, tag.len, &language)) {
-        put_word(to, language.start == 1 && language.len == 2 ? " -" : " - with a span");
-        return;
-    }
-    put_bytes(to, tag.at + language.start, language.len);
-    put_pairs(to, tag, langtag_next_field, langtag_field);
+    bool is_found = langtag_transform(tag.at, tag.len, &language);
+    if (put_found(to, tag, is_found, language)) put_pairs(to, tag, langtag_next_field, langtag_field);
 }
 
 static langtag_prepared_tag site[MOST_TAGS], stale[MOST_TAGS];

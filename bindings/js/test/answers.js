@@ -6,7 +6,7 @@ import {
 } from "../index.js";
 import * as calls from "../calls.js";
 
-const KINDS = { normal: "normal", "private-use": "private", irregular: "irregular" };
+const KINDS = { none: "none", normal: "normal", "private-use": "private", irregular: "irregular" };
 
 function assert(holds, what) {
     if (!holds) throw new Error(`not so: ${what}`);
@@ -56,10 +56,7 @@ const ofTag = (ask, otherwise = "-") => (text, ...more) => {
 const wordsOf = (list) => list.split(" ").filter(Boolean);
 const tagsOf = (list) => wordsOf(list).map((text) => LanguageTag.parse(text));
 
-const kindOf = (text) => {
-    const tag = made(LanguageTag, text);
-    return tag === undefined ? "none" : KINDS[tag.kind];
-};
+const kindOf = (text) => KINDS[made(LanguageTag, text)?.kind ?? "none"];
 
 const extensionsOf = (tag) => [...tag.extensions].map(([key, subtags]) => [key, ...subtags].join("-"));
 
