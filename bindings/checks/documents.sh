@@ -8,6 +8,7 @@ if has sqlite3 && echo '#include <sqlite3ext.h>' | cc -E - >/dev/null 2>&1; then
 else
     not_run "documents: SQLite" "there is no sqlite3, or its headers are not installed"
 fi
+if [ -d "$work/clone" ]; then export LANGTAG_CLONE="$work/clone"; fi # of checks/clone.sh, with what cargo has built in it
 check "documents: the commands in a clone" examples_of clone
 needs 'has rt' "there is no rt" "documents: the program by rt try" examples_of rattle
 if [ -d "$work/dist" ]; then
