@@ -57,28 +57,21 @@ among-alike : (words : List (List ℕ)) (a b : List ℕ) → Alike a b → is_am
 among-alike [] a b h = refl
 among-alike (word ∷ words) a b h = rw (are_alike-right word a b h, among-alike words a b h) refl
 
-by_language-alike : (a b c d : Fields) → AlikeFields a b → AlikeFields c d → by_language a c ≡ by_language b d
-by_language-alike a b c d h k = grind (arith, common_steps, are_alike-right, among-alike, nat_tests)
-
-languages-alike : (a b c d : Fields) → AlikeFields a b → AlikeFields c d → language_distance a c ≡ language_distance b d
-unfolding language_distance
-languages-alike a b c d h k =
-    rw (both-alike _ _ _ _ h.language k.language, distance_by-alike language_rules 80 (language_alone a) (language_alone b) (language_alone c) (language_alone d) (alone_alike a b h.language) (alone_alike c d k.language)) refl
-
 scripts-alike : (a b c d : Fields) → AlikeFields a b → AlikeFields c d → script_distance a c ≡ script_distance b d
 unfolding script_distance
 scripts-alike a b c d h k = grind (arith, common_steps, both-alike, distance_by-alike)
 
 regions-alike : (a b c d : Fields) → AlikeFields a b → AlikeFields c d → region_distance a c ≡ region_distance b d
 unfolding region_distance
-regions-alike a b c d h k =
-    rw (both-alike _ _ _ _ h.region k.region, both-alike _ _ _ _ h.language k.language, by_language-alike a b c d h k) refl
+regions-alike a b c d h k = grind (arith, both-alike, common_steps, are_alike-right, among-alike, nat_tests)
 
 -- ---- the law
 
 pub forms-alike :
     (a b c d : List ℕ) → Alike a b → Alike c d → (f g v w : Option Fields) → AlikeOptions f g → AlikeOptions v w → distance_of_forms a c f v ≡ distance_of_forms b d g w
-forms-alike a b c d h k f g v w same also = grind (arith, nat_tests, both-alike a b c d h k, languages-alike, scripts-alike, regions-alike)
+unfolding language_distance
+forms-alike a b c d h k f g v w same also =
+    grind (arith, nat_tests, both-alike a b c d h k, both-alike, distance_by-alike, alone_alike, scripts-alike, regions-alike)
 
 -- ---- bytes and subtags
 

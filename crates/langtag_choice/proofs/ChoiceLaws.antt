@@ -110,10 +110,6 @@ look_up_answered elements tags answer some place element index tag range_there w
 
 -- ---- what is kept whole is the range
 
-kept_alike : (range tag : List ℕ) → Alike range tag → kept range tag ≡ length range
-unfolding kept
-kept_alike range tag alike = grind (arith, nat_tests, whole_fallback range tag alike, length-alike range tag alike)
-
 alike_kept : (range tag : List ℕ) → 0 < length range → length range - kept range tag ≡ 0 → Alike range tag
 unfolding kept
 alike_kept range tag some whole =
@@ -121,7 +117,8 @@ alike_kept range tag some whole =
 
 module _ (elements : List Element) (all : List (Option (List ℕ))) (place : ℕ) (element : Element) (index : ℕ) (heaviest : IsHeaviest elements place element) (wish : IsTrue (is_wish element)) (most : element.weight ≤ 1000) (star : is_star element.range ≡ false) (long : 0 < length element.range) (first : IsFirstAlike elements all element.range index) where
   lost_none : length element.range - kept element.range first.tag ≡ 0
-  lost_none = let whole = kept_alike element.range first.tag first.alike in omega (arith, whole)
+  unfolding kept
+  lost_none = grind (arith, nat_tests, whole_fallback, length-alike)
 
   reach_none : reach element.range first.tag ≡ 0
   unfolding reach
@@ -172,14 +169,11 @@ rank-fold place element index tag =
 
 -- ---- what is refused
 
-matches-fold : (element : Element) (tag : List ℕ) → matches (folded element) (fold_text tag) ≡ matches element tag
-matches-fold element tag = grind (arith, common_steps, is_star-fold, length-fold, take-map, drop-map, same-fold, ends_subtag-fold)
-
 longest-fold : (of_kind : Element → Bool) → ((element : Element) → of_kind (folded element) ≡ of_kind element) → (elements : List Element) (tag : List ℕ) →
     longest of_kind (map folded elements) (fold_text tag) ≡ longest of_kind elements tag
 longest-fold of_kind same [] tag = refl
 longest-fold of_kind same (element ∷ elements) tag =
-    grind (arith, nat_tests, matches-fold element tag, length-fold element.range, longest-fold of_kind same elements tag)
+    grind (arith, nat_tests, common_steps, is_star-fold, length-fold, take-map, drop-map, same-fold, ends_subtag-fold, length-fold element.range, longest-fold of_kind same elements tag)
 
 is_refused-fold : (elements : List Element) (tag : List ℕ) → is_refused (map folded elements) (fold_text tag) ≡ is_refused elements tag
 unfolding is_refused

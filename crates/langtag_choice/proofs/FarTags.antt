@@ -1,38 +1,120 @@
--- Tags that are far from a range, as their first letters and the numbers of languages show, and that lookup does not
--- find.
-use Rattle.std.proofs.Common.{◌≡◌, ℕ, Bool, true, false, ◌||◌, not, ◌==◌, List, [], ◌∷◌, length, inl, inr, refl, sym, ap, subst, ◌∙◌, arith, ◌&&◌, ◌<◌, ◌≤◌, ◌+◌, ◌-◌, ◌*◌, cond, get_or, length-take, take, drop, Option, Some, None, option_map, codes, lit≤}
-use Rattle.std.proofs.lemmas.Bool.Decides.{eqb_tells, nat_tests}
-use Rattle.std.proofs.lemmas.Bool.{and_parts, both_ways, eq-eqb, false_from_ne_true, not_from_true, or_cases, and_from, or_parts, not-true}
+-- Ranges as they are read, and tags that are far from a range, as their first letters and the numbers of languages show.
+use Rattle.std.proofs.Common.{◌≡◌, ℕ, true, not, ◌==◌, List, [], ◌∷◌, length, length-drop, length-take, take, drop, filter, refl, sym, ap, ◌∙◌, arith, ◌&&◌, ◌||◌, codes, Bool, false, inl, inr, subst, ◌<◌, ◌≤◌, ◌+◌, ◌-◌, ◌*◌, cond, get_or, Option, Some, None, option_map, lit≤}
+use Rattle.std.proofs.lemmas.Bool.Decides.{nat_tests, eqb_tells}
 use Rattle.std.proofs.lemmas.Grind.{common_steps}
+use Rattle.langtag_scan.specs.Case.{are_alike, fold_byte, Alike}
+use Rattle.langtag_scan.specs.CaseLaws.{are_alike-decides}
+use Rattle.langtag_scan.specs.Subtags.{subtags}
+use Rattle.langtag_range.proofs.AlikeTexts.{is_star-fold}
+use Rattle.langtag_range.proofs.BasicForms.{basic_form-basic, basic_of, is_plain, IsBasicOf}
+use Rattle.langtag_range.proofs.BasicRanges.{is_language_range-from_basic}
+use Rattle.langtag_range.proofs.AsciiRanges.{hyphened_range}
+use Rattle.langtag_range.proofs.Prefixes.{length-alike}
+use Rattle.langtag_range.specs.Basic.{ends_subtag}
+use Rattle.langtag_range.specs.Fallback.{ends_in_single}
+use Rattle.langtag_range.specs.Listed.{basic_text}
+use Rattle.langtag_range.specs.BasicForm.{basic_form}
+use Rattle.langtag_range.specs.Range.{are_extended_range, is_basic_range, is_language_range, is_star}
+use Rattle.langtag_range.specs.Wanted.{hyphened, is_separator}
+use Rattle.langtag_likely.proofs.CommonTexts.{nothing_read, read_byte, read_nothing, some_length, all_fields, next_part, no_fields}
+use Rattle.langtag_likely.specs.Matching.{matching_form, language_replaced, matching_fields}
+use Rattle.langtag_likely.specs.Ranges.{after_common, BeginsPlain}
+use Rattle.langtag_likely.specs.TextFields.{counted, fields_of_subtags, text_fields, last_language, counted_parts}
+use Rattle.langtag_choice.specs.Nearness.{is_fallback, kept}
+use Rattle.langtag_likely.proofs.AddedTwice.{either_way}
+use Rattle.std.proofs.lemmas.Bool.{and_parts, both_ways, eq-eqb, false_from_ne_true, not_from_true, or_cases, and_from, or_parts, not-true}
 use Rattle.std.proofs.lemmas.List.Sums.{take_while-cons}
 use Rattle.std.specs.Option.{ForSome}
 use Rattle.std.specs.List.{list_all, after_first, before_first, position_or_len}
-use Rattle.langtag_scan.specs.Case.{are_alike, Alike, fold_byte}
-use Rattle.langtag_scan.specs.CaseLaws.{are_alike-decides}
 use Rattle.langtag_scan.specs.Class.{are_letters, is_extended, is_letter, is_primary}
 use Rattle.langtag_scan.proofs.Disjoint.{extended_three}
 use Rattle.langtag_tables.specs.Numbers.{letter_number}
 use Rattle.langtag_tables.proofs.Letters.{letter_number-tells, number_of_two, primary_length, primary_letters}
-use Rattle.langtag_range.specs.Listed.{basic_text}
-use Rattle.langtag_range.specs.Wanted.{hyphened, is_separator}
-use Rattle.langtag_range.proofs.Prefixes.{length-alike}
 use Rattle.langtag_likely.specs.Aliases.{language_aliases}
 use Rattle.langtag_likely.specs.Likely.{Likely, known, language_alone, likely_for}
 use Rattle.langtag.specs.Fields.{Fields}
-use Rattle.langtag_likely.specs.Matching.{language_replaced, matching_fields, matching_form}
-use Rattle.langtag_likely.specs.TextFields.{last_language, counted_parts, text_fields}
-use Rattle.langtag_likely.proofs.AddedTwice.{either_way}
-use Rattle.langtag_likely.proofs.AlikeFields.{by_options}
-use Rattle.langtag_likely.proofs.CommonTexts.{some_length}
-use Rattle.langtag_likely.proofs.CompletedForms.{completed_language}
+use Rattle.langtag_likely.proofs.AlikeFields.{by_options, completed_language}
 use Rattle.langtag.proofs.Alike.{alike_length}
-use Rattle.langtag_likely.proofs.TextParts.{all_fields, next_part, no_fields}
 use Rattle.langtag_choice.specs.Distance.{distance_of_forms, distance_of_texts, language_distance}
 use Rattle.langtag_choice.specs.FirstLetters.{HasNoExtended, IsLanguageOf, IsShort, first_two}
 use Rattle.langtag_choice.specs.NearLanguages.{AreFar, HasNumber, HaveOneLanguage, form_number, is_among_numbers}
-use Rattle.langtag_choice.specs.Nearness.{kept}
 use Rattle.langtag_choice.specs.declared.matching_tables.TheConstants.{SHORT_ALIAS_KEYS}
 use Rattle.langtag_choice.proofs.AlikeDistances.{matching_form-alike}
+
+-- ---- a range of a header, and "*"
+
+pub basic_read : (range : List ℕ) → is_basic_range (hyphened range) ≡ true → basic_text range ≡ hyphened range
+unfolding basic_text
+basic_read range is = basic_form-basic (hyphened range) is
+
+pub range_read : (range : List ℕ) → is_basic_range (hyphened range) ≡ true → is_language_range (hyphened range) ≡ true
+range_read range = is_language_range-from_basic (hyphened range)
+
+pub star_read : (range : List ℕ) → are_alike range (codes "*") ≡ is_star range
+unfolding fold_byte
+star_read range = is_star-fold range
+
+-- ---- its matching form
+
+counted_plain : (ss : List (List ℕ)) → counted (filter is_plain ss) ≡ counted ss
+counted_plain [] = refl
+counted_plain (s ∷ ss) = grind (arith, common_steps, counted_plain ss, is_plain)
+
+fields_read : (text : List ℕ) → is_language_range text ≡ true → text_fields (basic_form text) ≡ text_fields text
+unfolding text_fields
+fields_read text is = by_subtags (subtags text) refl is (basic_of text is)
+  where
+    by_subtags : (ss : List (List ℕ)) → subtags text ≡ ss → are_extended_range ss ≡ true → IsBasicOf text (basic_form text) → fields_of_subtags (subtags (basic_form text)) ≡ fields_of_subtags (subtags text)
+    by_subtags [] are range basic = absurd cc
+    by_subtags (first ∷ others) are range basic = rw (basic.subtags first others are, are, counted_plain others) refl
+
+pub form_read : (range : List ℕ) → is_language_range (hyphened range) ≡ true → matching_form (basic_text range) ≡ matching_form range
+unfolding matching_form basic_text
+form_read range is = grind (arith, nat_tests, basic_of (hyphened range) is, hyphened_range (basic_form (hyphened range)), fields_read (hyphened range) is)
+
+-- ---- what is left of it and of a tag
+
+tag_left : (range tag : List ℕ) → are_alike (take (length tag) range) tag ≡ (length (after_common range tag).1 == 0)
+tag_left [] [] = refl
+tag_left [] (b ∷ tag) = rw (some_length b tag) refl
+tag_left (a ∷ range) [] = refl
+tag_left (a ∷ range) (b ∷ tag) =
+    either_way (fold_byte a == fold_byte b) (λ is. rw is (tag_left range tag)) (λ is. rw (is, some_length b tag) refl)
+
+tag_dropped : (range tag : List ℕ) → (length (after_common range tag).1 == 0) ≡ true → drop (length tag) range ≡ (after_common range tag).0
+tag_dropped [] [] none = refl
+tag_dropped [] (b ∷ tag) none = refl
+tag_dropped (a ∷ range) [] none = refl
+tag_dropped (a ∷ range) (b ∷ tag) none = grind (arith, tag_dropped range tag, some_length b tag)
+
+range_left : (range tag : List ℕ) → are_alike range (take (length range) tag) ≡ (length (after_common range tag).0 == 0)
+range_left [] tag = refl
+range_left (a ∷ range) [] = rw (some_length a range) refl
+range_left (a ∷ range) (b ∷ tag) =
+    either_way (fold_byte a == fold_byte b) (λ is. rw is (range_left range tag)) (λ is. rw (is, some_length a range) refl)
+
+range_dropped : (range tag : List ℕ) → (length (after_common range tag).0 == 0) ≡ true → drop (length range) tag ≡ (after_common range tag).1
+range_dropped [] tag none = refl
+range_dropped (a ∷ range) [] none = refl
+range_dropped (a ∷ range) (b ∷ tag) none = grind (arith, range_dropped range tag, some_length a range)
+
+ends_read : (left : List ℕ) → BeginsPlain left → ends_subtag (basic_text left) ≡ ends_subtag (hyphened left)
+ends_read [] plain = ap ends_subtag read_nothing
+ends_read (a ∷ left) plain = ap ends_subtag (read_byte a left plain)
+
+pub range_starts : (range tag left rest : List ℕ) → (left, rest) ≡ after_common (basic_text range) tag → (length rest == 0) ≡ are_alike (take (length tag) (basic_text range)) tag
+range_starts range tag left rest is = ap (λ p. length p.1 == 0) is ∙ sym (tag_left (basic_text range) tag)
+
+module _ (range tag left rest : List ℕ) (plain : BeginsPlain left) (is : (basic_text left, rest) ≡ after_common (basic_text range) tag) where
+  -- a tag is what lookup falls back to if the range begins with it
+  pub tag_begins : is_fallback (basic_text range) tag ≡ ((length rest == 0) && (ends_subtag (hyphened left) && ((length left == 0) || not (ends_in_single tag))))
+  tag_begins =
+      let begin = take (length tag) (basic_text range) in
+      grind (arith, nat_tests, tag_left, tag_dropped, ends_read left plain, nothing_read left plain, length-alike begin tag, are_alike-decides begin tag, length-take, length-drop)
+
+  -- a tag begins with a range, and ends or goes on with a hyphen
+  pub range_begins : (are_alike (basic_text range) (take (length (basic_text range)) tag) && ends_subtag (drop (length (basic_text range)) tag)) ≡ ((length left == 0) && ends_subtag rest)
+  range_begins = grind (arith, nat_tests, range_left, nothing_read, range_dropped)
 
 -- ---- a language of two letters that is not replaced
 
@@ -67,9 +149,6 @@ module _ (key : Fields) (two : length key.language ≡ 2) (letters : are_letters
   not_replaced = rw (no_alias language_aliases aliases_listed) refl
 
 -- ---- heads
-
-head-alike : (a b : List ℕ) → Alike a b → first_two a ≡ first_two b
-head-alike a b alike = grind (arith, nat_tests)
 
 head-take : (n : ℕ) (text : List ℕ) → 2 ≤ length (take n text) → first_two (take n text) ≡ first_two text
 head-take n text long = grind (arith, common_steps)
@@ -123,35 +202,22 @@ extended_mark text long other = grind (arith, common_steps, longer)
 
 -- ---- the language of a text
 
-no_extended : (text : List ℕ) → HasNoExtended text → (language : List ℕ) → last_language language (counted_parts text) ≡ language
-no_extended text none language = grind (arith, nat_tests, next_part, or_parts, not-true, unmarked, some_length)
-
 known_two : (text : List ℕ) → length text ≡ 2 → known (codes "und") text ≡ text
 known_two text two = rw (false_from_ne_true (are_alike (codes "und") text) (λ yes. let same = alike_length (codes "und") text yes in omega (arith, same, two))) refl
 
 module _ (text : List ℕ) (short : IsShort text) where
   language_first : is_primary (before_first is_separator text) ≡ true → last_language (known (codes "und") (before_first is_separator text)) (counted_parts (after_first is_separator text)) ≡ before_first is_separator text
-  language_first primary =
-      no_extended (after_first is_separator text) (short primary).1 (known (codes "und") (before_first is_separator text)) ∙ known_two (before_first is_separator text) (short primary).0
+  language_first primary = grind (arith, known_two, nat_tests, next_part, or_parts, not-true, unmarked, some_length)
 
   -- the language is the text before the first separator
   text_language : (f : Fields) → text_fields (hyphened text) ≡ Some f → (is_primary f.language ≡ true) × (length f.language ≡ 2) × (first_two f.language ≡ first_two text)
-  text_language f is = either_way (is_primary (before_first is_separator text))
-      (λ primary.
-      let same = all_fields text _ _ _ primary refl refl refl ∙ is in
-      let language : last_language (known (codes "und") (before_first is_separator text)) (counted_parts (after_first is_separator text)) ≡ f.language = cc in
-      rw (← language, language_first primary) (primary, (short primary).0, head-take (position_or_len is_separator text) text (primary_length (before_first is_separator text) primary)))
-      (λ not. absurd (let none = no_fields text not ∙ is in cc))
-
-some_letters : (a b : ℕ × ℕ) → Some a ≡ Some b → a ≡ b
-some_letters a b is = cc
+  text_language f is = grind (arith, either_way, all_fields, language_first, head-take, primary_length, no_fields)
 
 -- the number of two letters
 number_of_letters : (language : List ℕ) (letters : ℕ × ℕ) → length language ≡ 2 → first_two language ≡ Some letters → letter_number language ≡ (letters.0 - 96) * 26 + (letters.1 - 96)
 number_of_letters [] letters two is = absurd cc
 number_of_letters (a ∷ []) letters two is = absurd cc
-number_of_letters (a ∷ b ∷ []) letters two is =
-    number_of_two (a ∷ b ∷ []) two ∙ ap (λ (p : ℕ × ℕ). (p.0 - 96) * 26 + (p.1 - 96)) (some_letters (fold_byte a, fold_byte b) letters is)
+number_of_letters (a ∷ b ∷ []) letters two is = grind (arith, number_of_two)
 number_of_letters (a ∷ b ∷ c ∷ rest) letters two is = absurd (omega (arith, two))
 
 pub language_of_letters :
@@ -210,17 +276,13 @@ one_language own other r t own_is other_is same d s d_is s_is =
     let its = other_is s s_is in
     sym (letter_number-tells d.language s.language has.0 its.0) ∙ eq-eqb (letter_number s.language) (letter_number d.language) (its.1 ∙ sym same ∙ sym has.1)
 
-pub none_between : (d s : Fields) → are_alike d.language s.language ≡ true → 0 ≡ language_distance d s
-unfolding language_distance
-none_between d s alike = rw alike refl
-
 pub none_between_forms : (r t : Option Fields) (d s : Fields) → HaveOneLanguage r t → r ≡ Some d → t ≡ Some s → 0 ≡ language_distance d s
-none_between_forms r t d s one r_is t_is = none_between d s (one d s r_is t_is)
+unfolding language_distance
+none_between_forms r t d s one r_is t_is = grind arith
 
 -- ---- what lookup keeps
 
 pub nothing_kept :
     (letters begin : ℕ × ℕ) (range tag : List ℕ) → first_two range ≡ Some letters → first_two tag ≡ Some begin → (first_two tag ≡ Some letters → ⊥) → kept range tag ≡ 0
 unfolding kept
-nothing_kept letters begin range tag starts is other =
-    grind (arith, nat_tests, and_parts, length-alike, head-take, head-alike)
+nothing_kept letters begin range tag starts is other = grind (arith, nat_tests, and_parts, length-alike, head-take)

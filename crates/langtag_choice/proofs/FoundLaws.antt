@@ -40,22 +40,9 @@ pub settled_nearer :
 unfolding rank
 settled_nearer c place element index tag serves nearer same = grind (arith, common_steps, ltb-true, and_parts, eqb-true, nat_tests, ltb-false, eqb_tells)
 
--- a tag that is far, and that lookup does not find, does not serve
-pub cannot_serve : (element : Element) (tag : List ℕ) → 50 ≤ distance_of_texts element.range tag → kept element.range tag ≡ 0 → serves element tag ≡ false
-unfolding serves reach
-cannot_serve element tag far none = grind (arith, nat_tests)
-
 -- ---- pairs that were tried
 
 module _ (elements : List Element) (tags : List (Option (List ℕ))) where
-  -- no pair was tried
-  pub tries_none : (is_tried : ℕ → ℕ → Bool) (found : Option Candidate) → ((place index : ℕ) → is_tried place index ≡ false) → Tries elements tags is_tried found found
-  tries_none is_tried found none = record {
-    keeps = λ r is. is;
-    covers = λ place element index tag tried. absurd (true≢false (sym tried ∙ none place index));
-    from = λ c is. inl is;
-  }
-
   -- some pairs were tried, and then others
   pub tries_both :
       (first second both : ℕ → ℕ → Bool) (old middle new : Option Candidate) → Tries elements tags first old middle → Tries elements tags second middle new →
@@ -175,11 +162,8 @@ IsKnownAt tags index known = ForSome (get_or tags index None) (λ text. (known_t
 pub far_takes :
     (wish : Wish) (known : KnownTag) (index : ℕ) (found : Option Candidate) → (is_known known ≡ true → 50 ≤ distance_of_texts (basic_text wish.range.now) (known_text known)) →
     (is_known known ≡ true → kept (basic_text wish.range.now) (known_text known) ≡ 0) → Takes wish known index found found
-far_takes wish known index found far none = record {
-  keeps = λ r is. is;
-  covers = λ is served. absurd (true≢false (sym served ∙ cannot_serve (wish_element wish) (known_text known) (far is) (none is)));
-  from = λ c is. inl is;
-}
+unfolding serves reach
+far_takes wish known index found far none = grind (arith, nat_tests)
 
 -- what is tried at an index is the entry there
 pub takes_at :
@@ -214,28 +198,11 @@ takes_at tags wish known index old new inside at takes elements wanted = record 
 
 -- ---- one more
 
--- no entry is better for a range than what was found
-pub range_settled :
-    (element : Element) (place : ℕ) (tags : List (Option (List ℕ))) (is_tried : ℕ → Bool) (found : Option Candidate) →
-    ((index : ℕ) (tag : List ℕ) → serves element tag ≡ true → IsNotAfter found (rank place element index tag)) → TriesRange element place tags is_tried found found
-range_settled element place tags is_tried found settled = λ elements wanted. record {
-  keeps = λ r is. is;
-  covers = λ p other index tag tried asked there served.
-      let at = eqb-true p place (and_parts (is_tried index) (p == place) tried).1 in
-      let same : element ≡ other = cc in
-      let ranks : rank place element index tag ≡ rank p other index tag = cc in
-      subst (IsNotAfter found) ranks (settled index tag (ap (λ e. serves e tag) same ∙ served));
-  from = λ c is. inl is;
-}
-
 -- one more entry for a range
 pub one_more_entry :
     (tags : List (Option (List ℕ))) (wish : Wish) (element : Element) (place : ℕ) (first second both : ℕ → Bool) (old middle new : Option Candidate) → wish_element wish ≡ element → wish.place ≡ place →
     TriesRange element place tags first old middle → TriesRange (wish_element wish) wish.place tags second middle new → ((index : ℕ) → both index ≡ (first index || second index)) → TriesRange element place tags both old new
-one_more_entry tags wish element place first second both old middle new same_element same_place one other same = λ elements wanted.
-    tries_both elements tags _ _ _ old middle new (one elements wanted)
-    (subst (λ p. Tries elements tags (λ q index. second index && (q == p)) middle new) same_place (other elements (ap (slice_get elements) same_place ∙ wanted ∙ ap Some (sym same_element))))
-    (λ p index among inside. grind (arith, nat_tests, same index))
+one_more_entry tags wish element place first second both old middle new same_element same_place one other same = grind (arith, tries_both, nat_tests)
 
 -- one more range
 pub one_more_range :
@@ -261,10 +228,7 @@ none_flagged (suc n) (suc k) is = none_flagged n k is ∙ grind (arith, nat_test
 pub flag_next :
     (start : ℕ) (flags : List Bool) (offset index : ℕ) →
     (is_flagged start flags index && nat_lt index (start + (offset + 1))) ≡ ((is_flagged start flags index && nat_lt index (start + offset)) || (get_or flags offset false && (index == (start + offset))))
-flag_next start flags offset index = elim (eqb_tells index (start + offset)) [
-  | inl same ↦ let at : index - start ≡ offset = omega (arith, same.1) in rw at (grind (arith, nat_tests))
-  | inr other ↦ let apart = other.1 in rw (other.0) (grind (arith, nat_tests))
-]
+flag_next start flags offset index = grind (arith, eqb_tells, nat_tests)
 
 -- there is no flag past the last
 pub all_flags : (start : ℕ) (flags : List Bool) (index : ℕ) → is_flagged start flags index ≡ (is_flagged start flags index && nat_lt index (start + length flags))
@@ -275,13 +239,7 @@ pub block_flags :
     (elements : List Element) (tags : List (Option (List ℕ))) (start count : ℕ) (flags : List Bool) (index : ℕ) → ((k : ℕ) → get_or flags k false ≡ (nat_lt k 64 && is_unrefused_at elements tags (start + k))) →
     count ≡ min 64 (length tags - start) → index < length tags →
     (is_unrefused_at elements tags index && nat_lt index (start + count)) ≡ ((is_unrefused_at elements tags index && nat_lt index start) || is_flagged start flags index)
-block_flags elements tags start count flags index are few inside = elim (cases_lt index start) [
-  | inl before ↦ grind (arith, nat_tests)
-  | inr after ↦
-      let at : start + (index - start) ≡ index = omega (arith, after) in
-      let flag = are (index - start) ∙ ap (λ i. nat_lt (index - start) 64 && is_unrefused_at elements tags i) at in
-      rw flag (grind (arith, nat_tests))
-]
+block_flags elements tags start count flags index are few inside = grind (arith, cases_lt, nat_tests)
 
 -- ---- what a walk has left
 

@@ -3,8 +3,5 @@ pub mod ChoiceLaws
 pub mod FarTags
 pub mod FoundLaws
 pub mod MatchingTables
-pub mod NearLanguages
 pub mod PreparedForms
-pub mod ReadRanges
-pub mod SiteTags
 pub mod SuitableTags

@@ -1,18 +1,20 @@
 -- The tables of language matching have the rows of the lists, by computation, and a rule is found by its number.
-use Rattle.std.proofs.Common.{◌≡◌, ℕ, ◌<◌, true, false, ◌==◌, Bool, ltb, List, [], ◌∷◌, length, max, get_or, map, refl, arith, rules, ◌&&◌, is_some, ◌+◌, ◌*◌, ap, ◌∙◌, cond, Option, sym}
+-- The languages that are near another, by the keys of the rules.
+use Rattle.std.proofs.Common.{◌≡◌, ℕ, ◌<◌, true, false, ◌==◌, Bool, ltb, List, [], ◌∷◌, length, max, get_or, map, refl, arith, rules, ◌&&◌, is_some, ◌+◌, ◌*◌, ap, ◌∙◌, cond, Option, sym, ◌≢◌, zero, suc, ◌-◌, ◌≤◌, drop, inl, inr, length-drop, length-take, None, subst}
 use Rattle.std.proofs.lemmas.Bool.Decides.{nat_tests, eqb_tells}
-use Rattle.std.proofs.lemmas.Bool.{and_parts, ltb-true, eq-eqb, ne_eqb}
+use Rattle.std.proofs.lemmas.Bool.{and_parts, ltb-true, eq-eqb, ne_eqb, both_ways, cases_lt, or_parts}
 use Rattle.std.proofs.lemmas.Grind.{common_steps}
-use Rattle.std.specs.List.{list_all}
+use Rattle.std.specs.List.{list_all, slice_range}
 use Rattle.std.specs.Option.{option_map_or}
 use Rattle.langtag_scan.specs.Case.{folded_number, fold_byte, are_alike}
 use Rattle.langtag_scan.specs.Class.{are_alphanumeric, are_letters, is_letter, is_digit}
 use Rattle.langtag_scan.proofs.FoldedNumbers.{folded_number-tells}
-use Rattle.langtag_tables.specs.Numbers.{letter_number}
+use Rattle.langtag_tables.specs.Numbers.{letter_number, climbs_from}
 use Rattle.langtag_likely.specs.Likely.{are_alike_fields, Likely, language_alone, without_region}
 use Rattle.langtag.specs.Fields.{Fields}
 use Rattle.langtag_likely.specs.Numbers.{first_index, key_number}
-use Rattle.langtag_likely.proofs.KeyNumbers.{test_at, are_plain, is_numbered, key_number-tells}
+use Rattle.langtag_tables.proofs.Elements.{list_all_get}
+use Rattle.langtag_likely.proofs.TableRows.{are_plain, is_numbered, key_number-tells}
 use Rattle.langtag_likely.proofs.RowLaws.{is_language, language-tells}
 use Rattle.langtag.proofs.Alike.{alike_length}
 use Rattle.langtag_choice.specs.Distance.{is_among, maghreb, en_us, americas, cnsar, language_distance, script_distance}
@@ -23,6 +25,11 @@ use Rattle.langtag_choice.specs.Rules.{Rule, fits, distance_by}
 use Rattle.langtag_choice.specs.Sets.{set_of}
 use Rattle.langtag_choice.specs.declared.matching_tables.TheConstants as table
 use Rattle.langtag_choice.specs.declared.region_distance.SetName.{SetName}
+use Rattle.std.proofs.lemmas.List.{get_or-drop, get_or-take}
+use Rattle.std.proofs.lemmas.List.Folds.{list_any_at}
+use Rattle.langtag_choice.specs.NearLanguages.{AreFar, is_among_numbers, rule_keys}
+use Rattle.langtag_tables.proofs.Letters.{letter_number-tells}
+use Rattle.langtag_tables.proofs.Rising.{above_first}
 
 abbrev pub distance_of : Rule → ℕ
 distance_of rule = rule.distance
@@ -196,10 +203,46 @@ module _ (d s : Fields) where
 -- ---- the distance of a rule
 
 between_at : (distances : List ℕ) (above i : ℕ) → list_all (λ n. ltb 0 n && ltb n above) distances ≡ true → i < length distances → (0 < get_or distances i 0) × (get_or distances i 0 < above)
-between_at distances above i all inside = grind (arith, nat_tests, and_parts, test_at (λ n. ltb 0 n && ltb n above) distances i all)
+between_at distances above i all inside = grind (arith, nat_tests, and_parts, list_all_get (λ n. ltb 0 n && ltb n above) distances i 0 all)
 
 pub language_between : (i : ℕ) → i < length language_rules → (0 < get_or table.LANGUAGE_RULE_DISTANCES i 0) × (get_or table.LANGUAGE_RULE_DISTANCES i 0 < 81)
 language_between i inside = between_at table.LANGUAGE_RULE_DISTANCES 81 i language_rules_listed.between (rw (sym language_rules_listed.distance_count) inside)
 
 pub script_between : (i : ℕ) → i < length script_rules → (0 < get_or table.SCRIPT_RULE_DISTANCES i 0) × (get_or table.SCRIPT_RULE_DISTANCES i 0 < 51)
 script_between i inside = between_at table.SCRIPT_RULE_DISTANCES 51 i script_rules_listed.between (rw (sym script_rules_listed.distance_count) inside)
+
+absent_index : (keys : List ℕ) (key : ℕ) → is_among_numbers keys key ≡ false → first_index keys key ≡ None
+absent_index [] key none = refl
+absent_index (k ∷ keys) key none = grind (arith, nat_tests, or_parts (k == key) (is_among_numbers keys key), absent_index keys key)
+
+-- two languages that differ, for which there is no rule
+pub far_without_rule :
+    (desired supported : ℕ) → supported < 32768 → (supported ≡ desired → ⊥) → is_among_numbers rule_keys (desired * 32768 + supported) ≡ false → AreFar desired supported
+far_without_rule desired supported small other none = λ d s has its.
+    let apart : are_alike d.language s.language ≡ false =
+    sym (letter_number-tells d.language s.language has.0 its.0) ∙ ne_eqb (letter_number s.language) (letter_number d.language) (λ same. other (sym its.1 ∙ same ∙ has.1)) in
+    let pair : desired * 32768 + supported ≡ language_pair d s = ap (λ n. n * 32768 + supported) (sym has.1) ∙ ap (λ n. letter_number d.language * 32768 + n) (sym its.1) in
+    sym (language_found d s None 80 rule_keys (language_pair d s) apart has.0 its.0 (subst (λ n. n < 32768) (sym its.1) small) refl refl
+    (sym (absent_index rule_keys (language_pair d s) (ap (is_among_numbers rule_keys) (sym pair) ∙ none))) refl)
+
+-- a list that climbs does so strictly
+pub climbs_at : (low : ℕ) (numbers : List ℕ) (i j : ℕ) → climbs_from low numbers ≡ true → i < j → j < length numbers → get_or numbers i 0 < get_or numbers j 0
+climbs_at low [] i j climbs order inside = absurd (omega (arith, inside))
+climbs_at low (n ∷ numbers) i zero climbs order inside = absurd (omega (arith, order))
+climbs_at low (n ∷ numbers) zero (suc j) climbs order inside = above_first n numbers j (and_parts (ltb low n) (climbs_from n numbers) climbs).1 (omega (arith, inside))
+climbs_at low (n ∷ numbers) (suc i) (suc j) climbs order inside = climbs_at n numbers i j (and_parts (ltb low n) (climbs_from n numbers) climbs).1 (omega (arith, order)) (omega (arith, inside))
+
+absent_at : (numbers : List ℕ) (number : ℕ) → ((k : ℕ) → k < length numbers → get_or numbers k 0 ≢ number) → is_among_numbers numbers number ≡ false
+absent_at [] number none = refl
+absent_at (n ∷ numbers) number none =
+    rw (ne_eqb n number (none 0 (omega arith)), absent_at numbers number (λ k inside. none (suc k) (omega (arith, inside)))) refl
+
+part_at : (numbers : List ℕ) (start end k : ℕ) → start ≤ k → k < end → get_or (slice_range numbers start end) (k - start) 0 ≡ get_or numbers k 0
+part_at numbers start end k from below = grind (arith, get_or-take, get_or-drop)
+
+-- a number that is not in a part of a list is not in the list, if the part has all numbers from one limit to another
+module _ (numbers : List ℕ) (low high start end : ℕ)
+    (before_start : (k : ℕ) → k < start → get_or numbers k 0 < low) (from_end : (k : ℕ) → end ≤ k → k < length numbers → high ≤ get_or numbers k 0)
+    (within : end ≤ length numbers) where
+  pub absent_in_part : (number : ℕ) → low ≤ number → number < high → is_among_numbers (slice_range numbers start end) number ≡ false → is_among_numbers numbers number ≡ false
+  absent_in_part number least most none = grind (arith, absent_at, cases_lt, both_ways, list_any_at, eq-eqb, part_at, length-take, length-drop)

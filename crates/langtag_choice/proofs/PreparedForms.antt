@@ -29,18 +29,7 @@ letters_are f letters p is = grind (arith, nat_tests, and_parts, eqb-true)
 
 kept_of : (tag : List ℕ) (p : PreparedForm) → is_prepared_for tag p ≡ true → (p.number ≡ 0 → ⊥) → Kept tag p
 unfolding is_prepared_for
-kept_of tag p is some = by_parts (matching_form tag) (first_two tag) refl refl is
-  where
-    by_parts : (o : Option Fields) (l : Option (ℕ × ℕ)) → matching_form tag ≡ o → first_two tag ≡ l → keeps o l p ≡ true → Kept tag p
-    by_parts None l form_is letters_are is = absurd (some (eqb-true p.number 0 is))
-    by_parts (Some f) None form_is letters_are is = absurd (some (eqb-true p.number 0 is))
-    by_parts (Some f) (Some letters) form_is letters_are is =
-        let both : (has_head f letters p && has_fields f p) ≡ true = elim (or_cases (p.number == 0) (has_head f letters p && has_fields f p) is) [
-          | inl none ↦ absurd (some (eqb-true p.number 0 none))
-          | inr both ↦ both
-        ] in
-        let parts = and_parts (has_head f letters p) (has_fields f p) both in
-        record { form = f; letters = letters; form_is = form_is; letters_are = letters_are; head = parts.0; fields = parts.1 }
+kept_of tag p is some = grind (arith, letters_are, eqb-true, or_cases, and_parts)
 
 abbrev fields_of : List ℕ → List ℕ → List ℕ → Fields
 fields_of l s r = record { language = l; script = s; region = r }
@@ -76,18 +65,13 @@ letters_kept tag p is some =
 
 -- ---- how near it is
 
-between_forms : (range tag : List ℕ) (d s : Fields) → matching_form range ≡ Some d → matching_form tag ≡ Some s → fields_distance d s ≡ distance_of_texts range tag
-unfolding distance_of_texts
-between_forms range tag d s range_is tag_is = rw (range_is, tag_is) refl
-
 -- the nearness of forms is the nearness of their texts
 pub near_forms :
     (result : Option Nearness) (limit : ℕ) (range tag : List ℕ) (d s : Fields) → matching_form range ≡ Some d → matching_form tag ≡ Some s →
     MatchOption result (limit ≤ fields_distance d s) (IsNearer limit (fields_distance d s) (Some s)) →
     MatchOption result (limit ≤ distance_of_texts range tag) (IsNearer limit (distance_of_texts range tag) (matching_form tag))
-near_forms result limit range tag d s range_is tag_is near =
-    subst (λ n. MatchOption result (limit ≤ n) (IsNearer limit n (matching_form tag))) (between_forms range tag d s range_is tag_is)
-    (subst (λ o. MatchOption result (limit ≤ fields_distance d s) (IsNearer limit (fields_distance d s) o)) (sym tag_is) near)
+unfolding distance_of_texts
+near_forms result limit range tag d s range_is tag_is near = grind arith
 
 -- ---- equal strings
 

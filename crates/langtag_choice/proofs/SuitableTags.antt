@@ -1,7 +1,12 @@
+-- The tags of a site by their indices.
 -- The tags that are chosen in turn.
-use Rattle.std.proofs.Common.{option_map, zero, suc, ◌≡◌, ◌≢◌, ◌⊎◌, inl, inr, ℕ, ◌<◌, ◌≤◌, ◌+◌, ◌-◌, ◌==◌, List, [], ◌∷◌, ◌++◌, Option, Some, None, is_some, cond, count_by, length, get_or, slice_get, set, drop, refl, sym, subst, ap, ◌∙◌, arith, All, Contains}
+use Rattle.std.proofs.Common.{◌≡◌, ℕ, ◌<◌, List, length, get_or, None, Some, sym, ap, ◌∙◌, option_map, zero, suc, ◌≢◌, ◌⊎◌, inl, inr, ◌≤◌, ◌+◌, ◌-◌, ◌==◌, [], ◌∷◌, ◌++◌, Option, is_some, cond, count_by, slice_get, set, drop, refl, subst, arith, All, Contains}
+use Rattle.std.proofs.lemmas.List.{get_or-map, length-map, append_assoc, append-nil, drop-drop, drop-set-lt, length-append, length-set}
+use Rattle.langtag.specs.Text.{lang_tag_text}
+use Rattle.langtag_choice.specs.ListTexts.{tag_texts}
+use Rattle.langtag_choice.specs.Sites.{prepared_tags}
+use Rattle.langtag_choice.specs.declared.prepared_tag.PreparedTag.{PreparedTag}
 use Rattle.std.proofs.lemmas.Bool.Decides.{eqb_tells}
-use Rattle.std.proofs.lemmas.List.{append_assoc, append-nil, drop-drop, drop-set-lt, length-append, length-set}
 use Rattle.std.proofs.lemmas.List.Elements.{All-cons, All-nil, Contains-append_right}
 use Rattle.std.proofs.lemmas.List.Kept.{AllPairs-cons}
 use Rattle.std.proofs.lemmas.List.Sums.{count_by-le-length, sum_by-cons}
@@ -11,6 +16,16 @@ use Rattle.langtag_range.specs.Element.{Element}
 use Rattle.langtag_choice.specs.Best.{IsChoice}
 use Rattle.langtag_choice.specs.Remaining.{without_all}
 use Rattle.langtag_choice.specs.Suitable.{AreDistinct, AreSuitable, BeginsWithChoice, IsServing, LeavesNoneOut, without}
+
+pub tag_at :
+    (prepared : List PreparedTag) (index : ℕ) (found : PreparedTag) → index < length prepared → found ≡ get_or prepared index found →
+    get_or (tag_texts (prepared_tags prepared)) index None ≡ Some (lang_tag_text found.tag)
+tag_at prepared index found inside is =
+    get_or-map (λ tag. Some (lang_tag_text tag)) (prepared_tags prepared) index found.tag None (rw length-map inside)
+    ∙ ap (λ tag. Some (lang_tag_text tag)) (get_or-map (λ p. p.tag) prepared index found found.tag inside ∙ ap (λ p. p.tag) (sym is))
+
+pub tag_count : (prepared : List PreparedTag) → length (tag_texts (prepared_tags prepared)) ≡ length prepared
+tag_count prepared = simp length-map
 
 -- ---- the tags that remain
 
@@ -46,9 +61,7 @@ module _ (elements : List Element) (tags : List (Option (List ℕ))) (room : ℕ
   GoesOn chosen = (more : List ℕ) → AreSuitable elements (without_all tags chosen) (room - length chosen) more → AreSuitable elements tags room (chosen ++ more)
 
   pub goes_on_from_none : GoesOn []
-  goes_on_from_none more suitable =
-      let all : room - 0 ≡ room = omega arith in
-      subst (λ n. AreSuitable elements tags n more) all suitable
+  goes_on_from_none more suitable = grind (arith)
 
   pub one_more : (chosen : List ℕ) (index : ℕ) → length chosen < room → IsChoice elements (without_all tags chosen) (Some index) → GoesOn chosen → GoesOn (chosen ++ index ∷ [])
   one_more chosen index below choice goes more suitable =

@@ -60,7 +60,7 @@ fn nearer_than<'t>(limit: u8, wish: &Wish<'_>, tag: KnownTag<'t>) -> Option<Near
 }
 
 /// Returns how near a string is to a range, if it is nearer than a limit.
-#[tactic(auto, unfolding(crate::specs::Distance::distance_of_texts), using(langtag_likely::proofs::CompletedForms::form_completed))]
+#[tactic(auto, unfolding(crate::specs::Distance::distance_of_texts), using(langtag_likely::proofs::AlikeFields::form_completed))]
 fn nearer_text<'t>(limit: u8, wish: &Wish<'_>, tag: &'t [u8]) -> Option<Nearness<'t>>
     ensures { MatchOption result (limit ≤ distance_of_texts (basic_text wish.now.range.now) tag.now)
         (IsNearer limit (distance_of_texts (basic_text wish.now.range.now) tag.now) (matching_form tag.now)) }
@@ -144,7 +144,7 @@ fn nearer_places<'t>(
 }
 
 /// Returns the fields; if they have no language, likely subtags are added first.
-#[tactic(auto, unfolding(crate::specs::Distance::language_distance), using(langtag_likely::proofs::CompletedForms::completed_language))]
+#[tactic(auto, unfolding(crate::specs::Distance::language_distance), using(langtag_likely::proofs::AlikeFields::completed_language))]
 fn with_language<'t>(fields: TagFields<'t>) -> TagFields<'t>
     ensures { (desired : Fields) → language_distance desired (field_texts result) ≡ language_distance desired (completed (field_texts fields.entry)) }
 {
@@ -183,7 +183,7 @@ pub(crate) fn kept(range: &[u8], tag: &[u8]) -> usize
 
 /// Returns whether a tag equals a range, or equals the string before one of the range's hyphens and does not end in a
 /// subtag of a single character.
-#[tactic(auto, using(crate::proofs::ReadRanges::tag_begins))]
+#[tactic(auto, using(crate::proofs::FarTags::tag_begins))]
 fn is_fallback(range: &[u8], tag: &[u8]) -> bool
     ensures { result ≡ spec.is_fallback (basic_text range.now) tag.now }
 {

@@ -34,7 +34,7 @@ pub trait RangeList<'a>: Copy {
 }
 
 /// An Accept-Language header, read as `langtag_match::wanted_ranges` reads it.
-#[tactic(auto, using(crate::proofs::ReadRanges::basic_read, crate::proofs::ReadRanges::range_read))]
+#[tactic(auto, using(crate::proofs::FarTags::basic_read, crate::proofs::FarTags::range_read))]
 impl<'a> RangeList<'a> for &'a [u8] {
     ghost elements = { λ header. wanted_elements header.now };
 

@@ -8,7 +8,7 @@ ghost use Rattle.langtag_range.specs.Listed.{basic_text};
 use langtag_likely::{after_common, are_alike};
 
 /// Returns whether a range is `*`.
-#[tactic(auto, using(crate::proofs::ReadRanges::star_read))]
+#[tactic(auto, using(crate::proofs::FarTags::star_read))]
 pub(crate) fn is_star(range: &[u8]) -> bool
     ensures { result ≡ is_star (basic_text range.now) }
 {

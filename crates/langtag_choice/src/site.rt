@@ -85,7 +85,7 @@ impl<'s, 't> Site<'s, 't> {
     }
 }
 
-#[tactic(auto, using(crate::proofs::SiteTags::tag_at, crate::proofs::SiteTags::tag_count))]
+#[tactic(auto, using(crate::proofs::SuitableTags::tag_at, crate::proofs::SuitableTags::tag_count))]
 impl TagList for Site<'_, '_> {
     ghost texts = { λ site. tag_texts (prepared_tags site.tags.now) };
 

@@ -69,7 +69,7 @@ fn texts_distance(desired: &[u8], supported: &[u8]) -> u8
 }
 
 /// Returns the distance from a range to a tag. In the range, `_` means `-`, and each `-*` is ignored.
-#[tactic(auto, unfolding(crate::specs::Distance::distance_of_texts), using(crate::proofs::ReadRanges::form_read))]
+#[tactic(auto, unfolding(crate::specs::Distance::distance_of_texts), using(crate::proofs::FarTags::form_read))]
 pub(crate) fn range_distance(range: &[u8], tag: &[u8]) -> u8
     requires { IsTrue (is_language_range (hyphened range.now)) }
     ensures { result ≡ spec.distance_of_texts (basic_text range.now) tag.now }

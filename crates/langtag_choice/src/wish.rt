@@ -40,7 +40,7 @@ impl<'a> Wish<'a> {
     ghost use Rattle.langtag_choice.specs.Nearness.{kept};
 
     /// Reads the range with `place` ranges before it, or returns `None` if it is `*` or has the weight 0.
-    #[tactic(auto, unfolding(crate::specs::Best::serves), using(crate::proofs::ReadRanges::form_read))]
+    #[tactic(auto, unfolding(crate::specs::Best::serves), using(crate::proofs::FarTags::form_read))]
     pub(crate) fn new(wanted: WantedRange<'a>, place: usize) -> Option<Wish<'a>>
         requires in_class { IsTrue (is_language_range (hyphened wanted.bytes.now)) }
         ensures { MatchOption result ((tag : List ℕ) → serves (listed_element wanted.entry) tag ≡ false)

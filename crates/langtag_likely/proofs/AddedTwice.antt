@@ -46,8 +46,9 @@ clash b t f = grind arith
 pub either_way : {P : Type 0} (b : Bool) → (b ≡ true → P) → (b ≡ false → P) → P
 either_way b one other = grind arith
 
-by_or : {P : Type 0} (a b : Bool) → (a ≡ true → P) → (b ≡ true → P) → (a || b) ≡ true → P
-by_or a b f g h = grind arith
+-- what holds of none and of some value
+pub some_value : {A P : Type 0} (o : Option A) → (o ≡ None → P) → ((v : A) → o ≡ Some v → P) → P
+some_value o none some = grind arith
 
 pub absent : (a : List ℕ) → is_there a ≡ false → a ≡ []
 absent a h = grind arith
@@ -132,9 +133,6 @@ record IsOfLanguage (row : Likely) : Type 0 where
   script : row.from.script ≡ []
   region : row.from.region ≡ []
 
-language_of : (row : Likely) → is_language_row row ≡ true → IsOfLanguage row
-language_of row h = grind arith
-
 record StaysUnknown (row : Likely) : Type 0 where
   from_language : is_there row.from.language ≡ false
   script_there : is_there row.from.script ≡ true
@@ -158,9 +156,6 @@ not_first a b h = grind arith
 and_false-turned : (a b : Bool) → (a && b) ≡ false → b ≡ true → a ≡ false
 and_false-turned a b h it = grind arith
 
-absent_key : (field from key : List ℕ) → (key ≡ field) ⊎ (key ≡ []) → Alike from key → is_there field ≡ false → is_there from ≡ false
-absent_key field from key h3 same none = grind (arith, there_alike)
-
 -- what is true of a right side that was found for fields
 pub record RowFacts (f to : Fields) : Type 0 where
   -- the language has a row of its own
@@ -180,10 +175,6 @@ module _ (f : Fields) (row : Likely) (key : Fields) (is_key : IsKey f key) (from
   abbrev most : Fields
   most = filled f row.to
 
-  -- a text that is there on the left side is there in the key
-  language_same : Alike row.from.language f.language
-  language_same = from_is.language ∙ ap fold_text is_key.language
-
   -- the row of the language alone is found for each language that is alike
   alone_by : (language : List ℕ) → Alike row.from.language language → IsOfLanguage row → likely_for likely_subtags (record { language = language; script = []; region = [] }) ≡ Some row.to
   alone_by language same is = grind (arith, likely_for-alike)
@@ -197,8 +188,7 @@ module _ (f : Fields) (row : Likely) (key : Fields) (is_key : IsKey f key) (from
   kept_language there = alike_is _ _ (sym (ap (λ b. not b || are_alike row.from.language row.to.language) there) ∙ whole.kept)
 
   alone_found : is_there most.language ≡ true → is_some (likely_for likely_subtags (language_alone most)) ≡ true
-  alone_found there =
-      grind (arith, language_same, kept_language, alone_by most.language, alone_other, or_other_there, or_other_absent, there_alike, language_of row, kind)
+  alone_found there = grind (arith, nat_tests, kept_language, alone_by most.language, alone_other, or_other_there, or_other_absent, there_alike, kind)
 
   script_not : are_alike (codes "Zzzz") most.script ≡ false
   script_not = other_test (codes "Zzzz") f.script row.to.script script_known whole.script_known
@@ -213,7 +203,7 @@ module _ (f : Fields) (row : Likely) (key : Fields) (is_key : IsKey f key) (from
 
   -- the script is written
   script_written : is_there most.language ≡ false → is_there f.script ≡ true
-  script_written none = grind (arith, unknown_most, unknown_row, absent_key)
+  script_written none = grind (arith, nat_tests, unknown_most, unknown_row, there_alike)
 
   unknown_again : is_there most.language ≡ false → add_likely likely_subtags most ≡ Some most
   unknown_again none = either_way (is_there f.script && is_there f.region) written unwritten
@@ -257,14 +247,7 @@ module _ (f : Fields) (row : Likely) (key : Fields) (is_key : IsKey f key) (from
       ∙ either_way (is_there most.language) (λ there. whole_again most there (there_other f.script row.to.script whole.script) (there_other f.region row.to.region whole.region) (alone_found there)) unknown_again
 
   row_facts : RowFacts f row.to
-  row_facts = record {
-    alone = alone_found;
-    unknown = λ none. let (f_none, to_none) = unknown_most none in (script_written none, (unknown_row f_none to_none).current);
-    script = whole.script;
-    script_known = whole.script_known;
-    region = whole.region;
-    region_known = whole.region_known;
-  }
+  row_facts = grind (arith, nat_tests, alone_found, unknown_most, script_written, unknown_row)
 
 -- ---- whatever is added to fields that are known
 
@@ -282,22 +265,19 @@ pub record IsAdded (f m : Fields) : Type 0 where
   pub facts : RowFacts f to
 
 pub added : (f m : Fields) → AreKnown f → add_likely likely_subtags f ≡ Some m → IsAdded f m
-added f m known is = by_row (looked_up likely_subtags f) refl is
-  where
-    by_row : (o : Option Fields) → looked_up likely_subtags f ≡ o → option_map (filled f) o ≡ Some m → IsAdded f m
-    by_row None looked is = absurd cc
-    by_row (Some to) looked is =
-        let found = found_of f to looked in
-        let r = found_row likely_subtags is_settled found.key to rows_listed.settled found.found in
-        let parts = and_parts (is_whole r.row) (is_language_row r.row || is_other_row r.row) r.holds_of_it in
-        let whole = whole_of r.row parts.0 in
-        let same : filled f to ≡ m = cc in
-        let again = added_again f r.row found.key found.is_key r.from_is whole parts.1 (found.found ∙ ap Some (sym r.to_is)) (looked ∙ ap Some (sym r.to_is)) known.script known.region in
-        let made : filled f r.row.to ≡ m = ap (filled f) r.to_is ∙ same in
-        record {
-          to = to;
-          filled_is = same;
-          language = sym (ap (λ v. are_alike (codes "und") v.language) r.to_is) ∙ whole.language_known;
-          again = ap (λ n. add_likely likely_subtags (known_fields n)) (sym made) ∙ again ∙ ap Some made;
-          facts = subst (RowFacts f) r.to_is (row_facts f r.row found.key found.is_key r.from_is whole parts.1 (found.found ∙ ap Some (sym r.to_is)) (looked ∙ ap Some (sym r.to_is)) known.script known.region);
-        }
+added f m known is = some_value (looked_up likely_subtags f) (λ none. absurd (let no : None ≡ Some m = sym (ap (option_map (filled f)) none) ∙ is in cc)) (λ to looked.
+    let found = found_of f to looked in
+    let r = found_row likely_subtags is_settled found.key to rows_listed.settled found.found in
+    let parts = and_parts (is_whole r.row) (is_language_row r.row || is_other_row r.row) r.holds_of_it in
+    let whole = whole_of r.row parts.0 in
+    let some : Some (filled f to) ≡ Some m = sym (ap (option_map (filled f)) looked) ∙ is in
+    let same : filled f to ≡ m = cc in
+    let again = added_again f r.row found.key found.is_key r.from_is whole parts.1 (found.found ∙ ap Some (sym r.to_is)) (looked ∙ ap Some (sym r.to_is)) known.script known.region in
+    let made : filled f r.row.to ≡ m = ap (filled f) r.to_is ∙ same in
+    record {
+      to = to;
+      filled_is = same;
+      language = sym (ap (λ v. are_alike (codes "und") v.language) r.to_is) ∙ whole.language_known;
+      again = ap (λ n. add_likely likely_subtags (known_fields n)) (sym made) ∙ again ∙ ap Some made;
+      facts = subst (RowFacts f) r.to_is (row_facts f r.row found.key found.is_key r.from_is whole parts.1 (found.found ∙ ap Some (sym r.to_is)) (looked ∙ ap Some (sym r.to_is)) known.script known.region);
+    })

@@ -1,15 +1,25 @@
--- Fields that are equal but for case have likely subtags that are.
-use Rattle.std.proofs.Common.{◌≡◌, ℕ, true, false, Bool, cond, List, [], ◌∷◌, Option, None, Some, option_map, refl, ap, ◌∙◌, subst, arith}
+-- Fields that are equal but for case have likely subtags that are. A language that is there stays in the matching form.
+use Rattle.std.proofs.Common.{◌≡◌, ℕ, ◌<◌, List, length, option_map, arith, true, false, Bool, cond, [], ◌∷◌, Option, None, Some, refl, ap, ◌∙◌, subst}
+use Rattle.langtag.specs.Fields.{Fields}
+use Rattle.langtag_likely.specs.Matching.{completed, letters_replaced, matching_form, most_likely, region_replaced, replaced_form, language_replaced}
 use Rattle.std.proofs.lemmas.Grind.{common_steps}
 use Rattle.std.specs.Option.{option_map_or}
 use Rattle.langtag_scan.specs.Case.{Alike}
 use Rattle.langtag_scan.proofs.CaseLaw.{length-fold}
 use Rattle.langtag_likely.specs.Likely.{Likely, are_alike_fields, likely_for, looked_up, filled, or_other, known, known_fields, add_likely, language_alone, without_script, without_region}
-use Rattle.langtag.specs.Fields.{Fields}
 use Rattle.langtag_likely.specs.LikelySubtags.{likely_subtags}
-use Rattle.langtag_likely.specs.Matching.{language_replaced, letters_replaced, region_replaced}
 use Rattle.langtag_likely.specs.Maximal.{add_likely_subtags, canonical_fields, least, remove_likely_subtags, suffices}
 use Rattle.langtag.proofs.Alike.{AlikeFields, alike_is, are_alike-left, are_alike-right}
+
+pub form_completed : (text : List ℕ) → matching_form text ≡ option_map completed (replaced_form text)
+unfolding matching_form replaced_form
+form_completed text = grind arith
+
+-- ---- a language that is there stays
+
+pub completed_language : (f : Fields) → 0 < length f.language → (completed f).language ≡ f.language
+unfolding most_likely letters_replaced region_replaced
+completed_language f some = grind (arith, common_steps)
 
 pub alike_fields : (a b : Fields) → are_alike_fields a b ≡ true → AlikeFields a b
 alike_fields a b is = grind (arith, alike_is)
@@ -57,11 +67,8 @@ by_same P each x y same = subst (P x) same (each x)
 pub added-alike : (a b : Fields) → AlikeFields a b → AlikeOptions (add_likely likely_subtags a) (add_likely likely_subtags b)
 added-alike a b h = grind (arith, looked_up-alike a b h)
 
-both-alike : (a b v w : List ℕ) → Alike a b → Alike v w → Alike (or_other a v) (or_other b w)
-both-alike a b v w h k = grind arith
-
 filled-alike : (a b v w : Fields) → AlikeFields a b → AlikeFields v w → AlikeFields (filled a v) (filled b w)
-filled-alike a b v w h k = record { language = both-alike _ _ _ _ h.language k.language; script = both-alike _ _ _ _ h.script k.script; region = both-alike _ _ _ _ h.region k.region }
+filled-alike a b v w h k = grind (arith, common_steps)
 
 -- ---- deprecated subtags replaced
 

@@ -18,8 +18,8 @@ use Rattle.langtag_likely.specs.Likely.{Likely, add_likely, filled, known, known
 use Rattle.langtag_likely.specs.LikelySubtags.{likely_subtags}
 use Rattle.langtag_likely.specs.Matching.{language_replaced, region_alone, region_replaced, with_language_from, with_region_from}
 use Rattle.langtag_likely.specs.Maximal.{add_likely_subtags, canonical_fields}
-use Rattle.langtag_likely.proofs.AddedTwice.{AreKnown, IsAdded, absent, added, either_way, found_of, found_row, known_stays, not_first, or_other_absent, or_other_there, other_test, there_alike, there_other}
-use Rattle.langtag_likely.proofs.AliasTables.{aliases_listed}
+use Rattle.langtag_likely.proofs.AddedTwice.{AreKnown, some_value, IsAdded, absent, added, either_way, found_of, found_row, known_stays, not_first, or_other_absent, or_other_there, other_test, there_alike, there_other}
+use Rattle.langtag_likely.proofs.RowLaws.{aliases_listed}
 use Rattle.langtag_likely.proofs.TableRows.{has_bit, from_bit, is_there, rows_listed}
 
 -- ---- the bit of a language does not change with the case of letters
@@ -50,8 +50,7 @@ listed_bit key to is there =
     bit-alike left.row.from.language key.language left.from_is.language (sym (ap (λ b. not b || has_bit left.row.from.language) from) ∙ left.holds_of_it)
 
 no_value : {A : Type 0} (o : Option A) → ((v : A) → o ≡ Some v → ⊥) → o ≡ None
-no_value None never = refl
-no_value (Some v) never = absurd (never v refl)
+no_value o never = grind (arith, nat_tests)
 
 listed_current : (f to : Fields) → likely_for likely_subtags f ≡ Some to → is_there f.language ≡ true → likely_for language_aliases (language_alone f) ≡ None
 listed_current f to is there = no_value (likely_for language_aliases (language_alone f)) (λ v found.
@@ -89,28 +88,20 @@ region_stays f none = ap (λ o. option_map_or (with_region_from f) o f) none
 canonical_stays : (f : Fields) → likely_for language_aliases (language_alone f) ≡ None → likely_for region_aliases (region_alone f) ≡ None → canonical_fields f ≡ f
 canonical_stays f language region = ap region_replaced (language_stays f language) ∙ region_stays f region
 
--- the language of fields to which likely subtags are added is not deprecated
-looked_up-current : (f to : Fields) → looked_up likely_subtags f ≡ Some to → likely_for language_aliases (language_alone f) ≡ None
-looked_up-current f to is = grind (arith, found_of, listed_current, no_language, absent)
-
 -- ---- likely subtags that are added are those of the canonical fields
 
-or_other-twice : (a b : List ℕ) → or_other a (or_other a b) ≡ or_other a b
-or_other-twice a b = grind arith
-
 filled-twice : (f v : Fields) → filled f (filled f v) ≡ filled f v
-filled-twice f v = rw (or_other-twice f.language v.language, or_other-twice f.script v.script, or_other-twice f.region v.region) refl
+filled-twice f v = grind (arith, nat_tests)
 
 canonical_added : (f m : Fields) → canonical_fields f ≡ f → add_likely likely_subtags f ≡ Some m → add_likely_subtags f ≡ Some m
 unfolding add_likely_subtags
 canonical_added f m stays is = rw stays (grind (arith, filled-twice))
 
 none_is : {A : Type 0} (o : Option A) → is_none o ≡ true → o ≡ None
-none_is None h = refl
-none_is (Some x) h = absurd cc
+none_is o h = grind (arith, nat_tests)
 
 pub current_added : (f m : Fields) → is_none (likely_for region_aliases (region_alone f)) ≡ true → add_likely likely_subtags f ≡ Some m → add_likely_subtags f ≡ Some m
-current_added f m region is = grind (arith, canonical_added, canonical_stays, looked_up-current, none_is)
+current_added f m region is = grind (arith, nat_tests, canonical_added, canonical_stays, found_of, listed_current, no_language, absent, none_is)
 
 -- ---- what replaces a language, or a region
 
@@ -126,21 +117,13 @@ leads to = ltb 0 (length to.language)
 language_of : List ℕ → Option Fields → List ℕ
 language_of language o = option_map_or (λ to. to.language) o language
 
-language_by : (f : Fields) (o : Option Fields) → (option_map_or (with_language_from f) o f).language ≡ language_of f.language o
-unfolding language_of
-language_by f o = grind arith
-
 region_keeps : (f : Fields) → ((region_replaced f).language ≡ f.language) × ((region_replaced f).script ≡ f.script)
 unfolding region_replaced
 region_keeps f = grind arith
 
 canonical_language : (f : Fields) → (canonical_fields f).language ≡ language_of f.language (likely_for language_aliases (language_alone f))
-unfolding language_replaced
-canonical_language f = (region_keeps (language_replaced f)).0 ∙ language_by f (likely_for language_aliases (language_alone f))
-
-same_language : (f g : Fields) → f.language ≡ g.language → (canonical_fields f).language ≡ (canonical_fields g).language
-same_language f g same =
-    canonical_language f ∙ ap (λ l. language_of l (likely_for language_aliases (record { language = l; script = []; region = [] }))) same ∙ sym (canonical_language g)
+unfolding language_replaced language_of
+canonical_language f = grind (arith, nat_tests, region_keeps)
 
 there_by_length : (l : List ℕ) → ltb 0 (length l) ≡ true → is_there l ≡ true
 there_by_length l some = grind (arith, nat_tests)
@@ -158,26 +141,18 @@ canonical_none f none = ap region_replaced (language_stays f (no_language f none
 
 -- ---- no field becomes unknown
 
-known_not : (unknown a : List ℕ) → are_alike unknown [] ≡ false → are_alike unknown (known unknown a) ≡ false
-known_not unknown a none = grind arith
-
 language-known : (f : Fields) → AreKnown f → AreKnown (language_replaced f)
 unfolding language_replaced is_alias_target
 language-known f are = grind (arith, right_side language_aliases is_alias_target (language_alone f), aliases_listed.known, other_test, and_parts)
 
 region-known : (f : Fields) → AreKnown f → AreKnown (region_replaced f)
 unfolding region_replaced
-region-known f are = grind (arith, known_not)
+region-known f are = grind (arith, nat_tests)
 
 canonical-known : (f : Fields) → AreKnown f → AreKnown (canonical_fields f)
 canonical-known f are = region-known (language_replaced f) (language-known f are)
 
 -- ---- what is added
-
--- fields that are all there stay, if something is looked up
-whole_again : (m : Fields) → is_there m.language ≡ true → is_there m.script ≡ true → is_there m.region ≡ true → is_some (likely_for likely_subtags (language_alone (canonical_fields m))) ≡ true → add_likely_subtags m ≡ Some m
-unfolding add_likely_subtags
-whole_again m l s r alone = grind (arith, or_other_there)
 
 module _ (f w : Fields) (are : AreKnown f) (is : add_likely likely_subtags (canonical_fields f) ≡ Some w) where
   abbrev c : Fields
@@ -218,16 +193,14 @@ module _ (f w : Fields) (are : AreKnown f) (is : add_likely likely_subtags (cano
   alone : is_there w.language ≡ true → is_some (likely_for likely_subtags (language_alone w)) ≡ true
   alone = subst (λ x. is_there x.language ≡ true → is_some (likely_for likely_subtags (language_alone x)) ≡ true) plain.filled_is plain.facts.alone
 
-  current : is_there w.language ≡ true → likely_for language_aliases (language_alone w) ≡ None
-  current there = grind (arith, listed_current (language_alone w), alone there)
-
   -- the canonical fields of what is made have the language of those that were looked up
   language_again : is_there m.language ≡ true → (canonical_fields m).language ≡ w.language
   unfolding language_of
-  language_again there = grind (arith, same_language, or_other_there, canonical_there, or_other_absent, current, canonical_language, language_of)
+  language_again there = grind (arith, nat_tests, or_other_there, canonical_there, or_other_absent, listed_current, alone, canonical_language, language_of)
 
   known_again : is_there m.language ≡ true → add_likely_subtags m ≡ Some m
-  known_again there = grind (arith, language_again, alone, canonical_there, whole_again, script_there, region_there)
+  unfolding add_likely_subtags
+  known_again there = grind (arith, nat_tests, language_again, alone, canonical_there, or_other_there, script_there, region_there)
 
   -- ---- no language is known
 
@@ -264,13 +237,7 @@ module _ (f w : Fields) (are : AreKnown f) (is : add_likely likely_subtags (cano
 
   -- what is added, with the language of the row
   filled_is : filled f (record { language = v.language; script = w.script; region = w.region }) ≡ m
-  filled_is = ap (λ l. record { language = l; script = m.script; region = m.region }) (either_way (is_there f.language) written unwritten)
-    where
-      written : is_there f.language ≡ true → or_other f.language v.language ≡ or_other f.language w.language
-      written there = or_other_there f.language v.language there ∙ sym (or_other_there f.language w.language there)
-
-      unwritten : is_there f.language ≡ false → or_other f.language v.language ≡ or_other f.language w.language
-      unwritten none = grind (arith, canonical_none, absent, region_keeps, or_other_absent)
+  filled_is = grind (arith, nat_tests, either_way, or_other_there, canonical_none, absent, region_keeps, or_other_absent)
 
 -- what was added: fields whose language is not `und`
 pub record IsAddedTo (f m : Fields) : Type 0 where
@@ -281,16 +248,13 @@ pub record IsAddedTo (f m : Fields) : Type 0 where
 
 pub likely_added : (f m : Fields) → AreKnown f → add_likely_subtags f ≡ Some m → IsAddedTo f m
 unfolding add_likely_subtags
-likely_added f m are made = by_canonical (add_likely likely_subtags (canonical_fields f)) refl made
-  where
-    by_canonical : (o : Option Fields) → add_likely likely_subtags (canonical_fields f) ≡ o → option_map (filled f) o ≡ Some m → IsAddedTo f m
-    by_canonical None is none = absurd cc
-    by_canonical (Some w) is some =
-        let same : filled f w ≡ m = cc in
-        let it : IsAddedTo f (filled f w) = record {
-          to = record { language = (plain f w are is).to.language; script = w.script; region = w.region };
-          filled_is = filled_is f w are is;
-          language = language_not_und f w are is;
-          again = made_again f w are is (made ∙ ap Some (sym same));
-        } in
-        subst (IsAddedTo f) same it
+likely_added f m are made = some_value (add_likely likely_subtags (canonical_fields f)) (λ none. absurd (let no : None ≡ Some m = sym (ap (option_map (filled f)) none) ∙ made in cc)) (λ w is.
+    let some : Some (filled f w) ≡ Some m = sym (ap (option_map (filled f)) is) ∙ made in
+    let same : filled f w ≡ m = cc in
+    let it : IsAddedTo f (filled f w) = record {
+      to = record { language = (plain f w are is).to.language; script = w.script; region = w.region };
+      filled_is = filled_is f w are is;
+      language = language_not_und f w are is;
+      again = made_again f w are is (made ∙ ap Some (sym same));
+    } in
+    subst (IsAddedTo f) same it)

@@ -1,15 +1,21 @@
--- What the class of a field says of its letters and its length.
-use Rattle.std.proofs.Common.{◌≡◌, ℕ, ◌<◌, ◌≤◌, true, Bool, List, [], ◌∷◌, length, refl, arith}
-use Rattle.langtag_scan.specs.Class.{are_letters, are_alphanumeric, is_primary, is_extended}
+-- What the class of a field says of its letters and its length, and which scripts are written from right to left.
+use Rattle.std.proofs.Common.{◌≡◌, ℕ, ◌<◌, ◌≤◌, true, Bool, List, [], ◌∷◌, length, refl, arith, map, is_some}
+use Rattle.langtag_scan.specs.Class.{are_letters, are_alphanumeric, is_primary, is_extended, is_digit, is_letter}
 use Rattle.langtag_tables.specs.Numbers.{letter_number}
 use Rattle.langtag_tables.proofs.Letters.{primary_letters, extended_primary}
 use Rattle.langtag.specs.FieldClasses.{is_language_field, is_script_field, is_region_field}
 use Rattle.langtag_likely.specs.Likely.{known}
 use Rattle.langtag.specs.Fields.{Fields}
-use Rattle.langtag_likely.proofs.KeyNumbers.{are_plain}
+use Rattle.langtag_likely.proofs.TableRows.{are_plain}
 use Rattle.langtag_scan.proofs.Disjoint.{script_four, region_two_three}
 use Rattle.langtag_scan.proofs.SubtagFacts.{of_primary, of_script, of_region}
 use Rattle.langtag.proofs.FieldClasses.{from_primary}
+use Rattle.std.specs.List.{list_all, list_any}
+use Rattle.langtag_scan.specs.Case.{are_alike, fold_byte, folded_number}
+use Rattle.langtag_scan.proofs.FoldedNumbers.{folded_number-tells}
+use Rattle.langtag_likely.specs.Numbers.{first_index}
+use Rattle.langtag_likely.specs.RightToLeft.{right_to_left_scripts}
+use Rattle.langtag_likely.specs.declared.tables.TheConstants.{RIGHT_TO_LEFT_KEYS}
 
 -- a language that is there is a primary subtag
 pub language_primary : (text : List ℕ) → is_language_field text ≡ true → 0 < length text → is_primary text ≡ true
@@ -64,3 +70,22 @@ known_script unknown text good = known_good is_script_field unknown text refl go
 
 pub known_region : (unknown text : List ℕ) → is_region_field text ≡ true → is_region_field (known unknown text) ≡ true
 known_region unknown text good = known_good is_region_field unknown text refl good
+
+-- ---- the table has the keys of the list: by computation
+
+pub keys_listed : RIGHT_TO_LEFT_KEYS ≡ map folded_number right_to_left_scripts
+unfolding right_to_left_scripts folded_number fold_byte
+keys_listed = refl
+
+plain : list_all are_alphanumeric right_to_left_scripts ≡ true
+unfolding right_to_left_scripts is_letter is_digit
+plain = refl
+
+-- ---- a text is in a list if its key is among the keys
+
+found_in : (texts : List (List ℕ)) (text : List ℕ) → list_all are_alphanumeric texts ≡ true → are_alphanumeric text ≡ true → is_some (first_index (map folded_number texts) (folded_number text)) ≡ list_any (λ it. are_alike it text) texts
+found_in [] text all is = refl
+found_in (it ∷ texts) text all is = grind (arith, found_in texts text, folded_number-tells it text)
+
+pub found_by_key : (script : List ℕ) → is_script_field script ≡ true → is_some (first_index (map folded_number right_to_left_scripts) (folded_number script)) ≡ list_any (λ it. are_alike it script) right_to_left_scripts
+found_by_key script good = found_in right_to_left_scripts script plain (script_alphanumeric script good)

@@ -11,7 +11,7 @@ use Rattle.langtag_likely.specs.Likely.{or_other, filled, known, known_fields, a
 use Rattle.langtag.specs.Fields.{Fields}
 use Rattle.langtag_likely.specs.LikelySubtags.{likely_subtags}
 use Rattle.langtag_likely.specs.Maximal.{add_likely_subtags, canonical_fields, fields_of, language_field, least, put_fields, put_language, maximal_record, minimal_record, suffices}
-use Rattle.langtag_likely.proofs.AddedTwice.{either_way, AreKnown, or_other_there}
+use Rattle.langtag_likely.proofs.AddedTwice.{either_way, some_value, AreKnown, or_other_there}
 use Rattle.langtag_likely.proofs.CanonicalFields.{likely_added}
 use Rattle.langtag_likely.proofs.TableRows.{is_there}
 use Rattle.langtag_likely.proofs.AlikeFields.{alike_fields, known-alike, known_fields-alike, suffices-alike, AlikeOptions, likely_added-alike, removed-alike, by_options}
@@ -44,9 +44,6 @@ record Suffices (m few : Fields) : Type 0 where
   is : add_likely_subtags few ≡ Some form
   made : filled few v ≡ form
   same : AlikeFields m form
-
-some_value : {A P : Type 0} (o : Option A) → (o ≡ None → P) → ((v : A) → o ≡ Some v → P) → P
-some_value o none some = grind arith
 
 sufficed : (m few : Fields) → suffices m few ≡ true → Suffices m few
 unfolding add_likely_subtags
@@ -161,19 +158,15 @@ record HasMost (r : Record) : Type 0 where
   fields : (n : Fields) → n.language ≡ most.language → fields_of (put_fields r n) ≡ known_fields n
 
 forms_of : (r : Record) → IsWellFormed r → HasNone r ⊎ HasMost r
-forms_of r fits = by_option (add_likely_subtags (fields_of r)) refl
-  where
-    by_option : (o : Option Fields) → add_likely_subtags (fields_of r) ≡ o → HasNone r ⊎ HasMost r
-    by_option None is = inl (none_is r is)
-    by_option (Some m) is =
-        let h = likely_added (fields_of r) m (fields_known r) is in
-        inr (record {
-          most = m;
-          max_is = max_of r m is;
-          min_is = min_of r m is;
-          again = h.again;
-          fields = λ n same. fields_put r n h.to.language fits (same ∙ ap (λ x. x.language) (sym h.filled_is)) h.language;
-        })
+forms_of r fits = some_value (add_likely_subtags (fields_of r)) (λ is. inl (none_is r is)) (λ m is.
+    let h = likely_added (fields_of r) m (fields_known r) is in
+    inr (record {
+      most = m;
+      max_is = max_of r m is;
+      min_is = min_of r m is;
+      again = h.again;
+      fields = λ n same. fields_put r n h.to.language fits (same ∙ ap (λ x. x.language) (sym h.filled_is)) h.language;
+    }))
 
 -- ---- the laws
 

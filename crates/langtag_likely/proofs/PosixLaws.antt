@@ -1,13 +1,21 @@
--- The tag of a POSIX locale's name: its parts, and its length.
-use Rattle.std.proofs.Common.{◌≡◌, ℕ, ◌+◌, ◌≤◌, true, Bool, cond, List, [], ◌∷◌, length, Option, None, Some, IsTrue, refl, arith, codes, IfSome, MatchOption, Bor, IsUtf8, length-append, sym, ap, ◌∙◌, subst, take, take_at}
+-- The tag of a POSIX locale's name: its parts, its length, and the keyword va-posix for an only variant POSIX.
+use Rattle.std.proofs.Common.{◌≡◌, ℕ, ◌+◌, ◌-◌, ◌≤◌, true, false, List, [], ◌∷◌, ◌++◌, length, take, drop, take_at, drop_at, IsTrue, refl, sym, ap, inl, ◌∙◌, arith, codes, flat_map, append_assoc, append-nil, length-append, Bool, cond, Option, None, Some, IfSome, MatchOption, Bor, IsUtf8, subst}
+use Rattle.std.specs.List.{AllByRecursion}
+use Rattle.std.proofs.lemmas.Bool.{and_parts, false_from_ne_true}
+use Rattle.langtag_scan.specs.Case.{are_alike, fold_byte}
+use Rattle.langtag_scan.specs.Class.{is_extension_subtag, is_mark, is_singleton, is_letter, is_digit, is_variant, is_script}
+use Rattle.langtag_scan.specs.Ends.{ends_of, to_region}
+use Rattle.langtag_scan.specs.Record.{Extension, Record, IsWellFormed, IsWellFormedExtension, extension_flat, private_part_flat, spell, EachRecord, Spells}
+use Rattle.langtag_scan.specs.Subtags.{join}
+use Rattle.langtag_scan.specs.Tag.{IsNormal, IsTag}
+use Rattle.langtag_scan.proofs.PartOffsets.{ends_in_order, length-spell}
+use Rattle.langtag_scan.proofs.Joins.{hyphenated, hyphenated-append, join-hyphenated, length-join}
+use Rattle.langtag_scan.proofs.Disjoint.{variant_long, script_four}
+use Rattle.langtag.proofs.Alike.{alike_length}
+use Rattle.langtag_likely.specs.Posix.{IsAroundPosix, are_no_extensions, is_posix_alone, posix_extension, posix_replaced, modifier_of, said_script, script_behind, with_said, with_said_script, with_said_variant}
 use Rattle.std.specs.Option.{option_map, option_or}
 use Rattle.std.proofs.lemmas.Str.{IsUtf8-from_ascii}
-use Rattle.std.proofs.lemmas.Bool.{and_parts}
 use Rattle.std.proofs.lemmas.Grind.{common_steps}
-use Rattle.langtag_scan.specs.Case.{fold_byte}
-use Rattle.langtag_scan.specs.Class.{is_letter, is_digit, is_script, is_variant}
-use Rattle.langtag_scan.specs.Record.{EachRecord, Record, IsWellFormed, Spells, spell}
-use Rattle.langtag_scan.specs.Tag.{IsNormal, IsTag}
 use Rattle.langtag_scan.proofs.Ascii.{IsAscii-spelled}
 use Rattle.langtag_scan.proofs.SubtagFacts.{of_script}
 use Rattle.langtag.specs.Edit.{with_script}
@@ -21,10 +29,109 @@ use Rattle.langtag_likely.specs.Scripts.{script_codes}
 use Rattle.langtag_likely.specs.Likely.{or_else}
 use Rattle.langtag.specs.Form.{IsForm}
 use Rattle.langtag_likely.specs.Modifiers.{is_script_code, modifier_script, modifier_variant}
-use Rattle.langtag_likely.specs.Posix.{modifier_of, posix_replaced, said_script, script_behind, with_said, with_said_script, with_said_variant}
-use Rattle.langtag_likely.proofs.PosixVariantLaws.{posix_well_formed}
-use Rattle.langtag_scan.proofs.Disjoint.{script_four}
-use Rattle.langtag_scan.proofs.PartOffsets.{length-spell}
+
+-- ---- the only variant
+
+variant_four : (s : List ℕ) → is_variant s ≡ true → 4 ≤ length s
+variant_four s is = grind (arith, variant_long)
+
+-- the text of the variants tells whether POSIX is the only one, since two variants have nine bytes or more
+pub alone : (vs : List (List ℕ)) → AllByRecursion (λ s. IsTrue (is_variant s)) vs → are_alike (join vs) (codes "POSIX") ≡ is_posix_alone vs
+alone [] all = refl
+alone (v ∷ []) all = refl
+alone (a ∷ b ∷ vs) all =
+    false_from_ne_true _ (λ same.
+    omega (arith, alike_length (join (a ∷ b ∷ vs)) (codes "POSIX") same, length-append a (45 ∷ join (b ∷ vs)), length-join b vs, variant_four a all.0, variant_four b all.1.0))
+
+posix_six : (vs : List (List ℕ)) → is_posix_alone vs ≡ true → length (hyphenated vs) ≡ 6
+posix_six vs is = grind (arith, common_steps, length-append, alike_length)
+
+-- ---- the record is well-formed
+
+pub posix_well_formed : (r : Record) → IsWellFormed r → IsWellFormed (posix_replaced r)
+unfolding posix_replaced is_singleton is_mark is_extension_subtag is_letter is_digit
+posix_well_formed r fits = grind arith
+
+-- ---- the text
+
+-- the extensions and the private use part, with a hyphen before each subtag
+abbrev rest : Record → List ℕ
+rest r = hyphenated (flat_map extension_flat r.extensions ++ private_part_flat r.private_use)
+
+whole_text : (r : Record) → spell r ≡ join (to_region r) ++ (hyphenated r.variants ++ rest r)
+whole_text r = simp (join-hyphenated, hyphenated-append, append_assoc)
+
+variants_end : (r : Record) → (ends_of r).variants ≡ length (join (to_region r)) + length (hyphenated r.variants)
+variants_end r = simp (length-join, hyphenated-append, length-append) (omega arith)
+
+extensions_end : (r : Record) → (ends_of r).extensions ≡ (ends_of r).variants + length (hyphenated (flat_map extension_flat r.extensions))
+extensions_end r = simp (length-join, hyphenated-append, length-append) (omega arith)
+
+pub variants_inside : (r : Record) → (ends_of r).variants ≤ length (spell r)
+variants_inside r = omega (arith, (ends_in_order r).extensions, (ends_in_order r).private_use)
+
+-- ---- a record that stays
+
+none_by_size : (es : List Extension) → length (hyphenated (flat_map extension_flat es)) ≡ 0 → es ≡ []
+none_by_size [] none = refl
+none_by_size (e ∷ es) none = absurd cc
+
+pub extensions_stay : (r : Record) → ((ends_of r).variants ≡ (ends_of r).extensions → ⊥) → posix_replaced r ≡ r
+unfolding posix_replaced
+extensions_stay r other = grind (arith, common_steps, and_parts, extensions_end r)
+
+pub others_stay : (r : Record) → is_posix_alone r.variants ≡ false → posix_replaced r ≡ r
+unfolding posix_replaced
+others_stay r never = rw never refl
+
+-- ---- a record that changes
+
+module _ (r : Record) (same : (ends_of r).variants ≡ (ends_of r).extensions) (posix : is_posix_alone r.variants ≡ true) where
+  abbrev start : List ℕ
+  start = join (to_region r)
+
+  abbrev tail : List ℕ
+  tail = hyphenated (private_part_flat r.private_use)
+
+  none : r.extensions ≡ []
+  none = none_by_size r.extensions (omega (arith, same, extensions_end r))
+
+  text : spell r ≡ start ++ (hyphenated r.variants ++ tail)
+  text = whole_text r ∙ ap (λ es. start ++ (hyphenated r.variants ++ hyphenated (flat_map extension_flat es ++ private_part_flat r.private_use))) none
+
+  end : (ends_of r).variants ≡ length start + 6
+  end = variants_end r ∙ ap (λ n. length start + n) (posix_six r.variants posix)
+
+  first : take ((ends_of r).variants - 6) (spell r) ≡ start
+  first = ap (take ((ends_of r).variants - 6)) text ∙ take_at start (hyphenated r.variants ++ tail) _ (omega (arith, end))
+
+  later : drop (ends_of r).variants (spell r) ≡ tail
+  later =
+      ap (drop (ends_of r).variants) (text ∙ sym (append_assoc start (hyphenated r.variants) tail))
+      ∙ drop_at (start ++ hyphenated r.variants) tail _ (omega (arith, variants_end r, length-append start (hyphenated r.variants)))
+
+  changed : posix_replaced r ≡ record r { variants = []; extensions = posix_extension ∷ [] }
+  unfolding posix_replaced
+  changed = rw (posix, none) refl
+
+  pub posix_after : 6 ≤ (ends_of r).variants
+  posix_after = omega (arith, end)
+
+  pub posix_around : IsAroundPosix r (take ((ends_of r).variants - 6) (spell r)) (drop (ends_of r).variants (spell r))
+  posix_around = grind (arith, first, later, text, length-append, hyphenated, posix_six, changed, whole_text)
+
+-- ---- what is written
+
+pub written_posix :
+    (r : Record) (a b new : List ℕ) → IsAroundPosix r a b → new ≡ a ++ (codes "-u-va-posix" ++ (b ++ [])) →
+    (new ≡ spell (posix_replaced r)) × (length new ≡ length (spell r) + 5)
+written_posix r a b new around is =
+    let text : new ≡ a ++ (codes "-u-va-posix" ++ b) = is ∙ ap (λ t. a ++ (codes "-u-va-posix" ++ t)) (append-nil b) in
+    (text ∙ around.replaced, omega (arith, ap length text, length-append a (codes "-u-va-posix" ++ b), around.shorter))
+
+pub posix_tag : (r : Record) (new : List ℕ) → IsWellFormed r → new ≡ spell (posix_replaced r) → IsTag new
+unfolding IsTag IsNormal
+posix_tag r new fits same = inl (posix_replaced r, (posix_well_formed r fits, sym same))
 
 -- ---- the table of scripts has the codes of the list: by computation
 
@@ -44,24 +151,18 @@ module _ (r : Record) (fits : IsWellFormed r) where
   script_fits : (script : Option (List ℕ)) → IfSome script (λ s. IsTrue (is_script s)) → IsWellFormed (with_said_script script r)
   script_fits script is = grind (arith, script-replaces)
 
-scripts_are : IsTrue (is_script (codes "Latn")) × IsTrue (is_script (codes "Cyrl")) × IsTrue (is_script (codes "Deva"))
-unfolding is_script is_letter
-scripts_are = (refl, refl, refl)
-
 script_by :
     (a b c d : Bool) (m : List ℕ) → (d ≡ true → IsTrue (is_script m)) →
     IfSome (cond a (Some (codes "Latn")) (cond b (Some (codes "Cyrl")) (cond c (Some (codes "Deva")) (cond d (Some m) None)))) (λ s. IsTrue (is_script s))
-script_by a b c d m is = grind (arith, scripts_are)
+unfolding is_script is_letter
+script_by a b c d m is = grind (arith, common_steps)
 
 pub modifier_script-fits : (modifier : List ℕ) → IfSome (modifier_script modifier) (λ s. IsTrue (is_script s))
 modifier_script-fits modifier = script_by _ _ _ (is_script_code modifier) modifier (λ yes. (and_parts (is_script modifier) _ yes).0)
 
-variants_are : IsTrue (is_variant (codes "ijekavsk")) × IsTrue (is_variant (codes "tarask")) × IsTrue (is_variant (codes "valencia"))
-unfolding is_variant is_letter is_digit
-variants_are = (refl, refl, refl)
-
 variant_by : (a b c : Bool) → IfSome (cond a (Some (codes "ijekavsk")) (cond b (Some (codes "tarask")) (cond c (Some (codes "valencia")) None))) (λ v. IsTrue (is_variant v))
-variant_by a b c = grind (arith, variants_are)
+unfolding is_variant is_letter is_digit
+variant_by a b c = grind (arith, common_steps)
 
 pub modifier_variant-fits : (modifier : List ℕ) → IfSome (modifier_variant modifier) (λ v. IsTrue (is_variant v))
 modifier_variant-fits modifier = variant_by _ _ _

@@ -35,10 +35,9 @@ use Rattle.langtag_likely.specs.Modifiers.{is_empty, modifier_for, modifier_scri
 use Rattle.langtag_likely.specs.Posix.{IsLocalePlace, IsTagOfName, is_at, is_underscore, modifier_of, posix_extension, posix_replaced, said_script, script_behind, with_said, with_said_script, with_said_variant}
 use Rattle.langtag_likely.specs.ToPosix.{IsPosixName, IsReadBack, NameParts, ReadsBack, after_variants, is_likely, is_named, marked, name_modifier, name_parts, name_text, name_variant}
 use Rattle.langtag_likely.specs.PlatformNames.{read_place}
-use Rattle.langtag_likely.proofs.PlatformNameLaws.{no_mark, place_kept, primary_two}
-use Rattle.langtag_likely.proofs.PosixLaws.{said_well_formed}
-use Rattle.langtag_likely.proofs.PosixNameLaws.{IsPlain, after_others, after_rest, alike_text, before_rest, marked_cut, others, place_free, place_hyphened, place_text, spelled_text, tag_text}
-use Rattle.langtag_likely.proofs.PosixVariantLaws.{others_stay}
+use Rattle.langtag_likely.proofs.PosixNameLaws.{no_mark, place_kept, primary_two, IsPlain, after_others, after_rest, alike_text, before_rest, marked_cut, others, place_free, place_hyphened, place_text, spelled_text, tag_text}
+use Rattle.langtag_likely.proofs.AddedTwice.{some_value}
+use Rattle.langtag_likely.proofs.PosixLaws.{said_well_formed, others_stay}
 
 -- ---- the parts of the name of a record
 
@@ -79,9 +78,6 @@ named_short r fits named = grind (arith, nat_tests, and_parts, extended_three, l
 abbrev listed : List ℕ → List (List ℕ)
 listed [] = []
 listed (b ∷ text) = (b ∷ text) ∷ []
-
-join-listed : (text : List ℕ) → join (listed text) ≡ text
-join-listed text = grind arith
 
 -- the record of a language, a territory and a variant
 abbrev place_record : Record → List ℕ → Record
@@ -166,8 +162,7 @@ capital-fold [] = refl
 capital-fold (b ∷ text) = rw (lowercase-uppercase b, capital-fold text) refl
 
 unwrap-capital : (o : Option (List ℕ)) → unwrap_or (option_map capital_text o) [] ≡ capital_text (unwrap_or o [])
-unwrap-capital None = refl
-unwrap-capital (Some region) = refl
+unwrap-capital o = grind (arith, common_steps, nat_tests)
 
 region_fits : (o : Option (List ℕ)) → IfSome o (λ s. IsTrue (is_region s)) → IfSome (option_map capital_text o) (λ s. IsTrue (is_region s))
 region_fits None fits = tt
@@ -176,15 +171,9 @@ region_fits (Some region) fits = alike_region region (capital_text region) ((are
 place_fits : (r : Record) (variant : List ℕ) → IsWellFormed r → AllByRecursion (λ s. IsTrue (is_variant s)) (listed variant) → IsWellFormed (place_record r variant)
 place_fits r variant fits variants = grind (arith, common_steps, fold_text-twice, alike_primary r.primary, are_alike-decides r.primary, region_fits)
 
-region_named : (o : Option (List ℕ)) → IfSome o (λ s. IsTrue (is_region s)) → (unwrap_or o [] ≡ []) ⊎ (is_region (unwrap_or o []) ≡ true)
-region_named o fits = grind (arith, common_steps)
-
 region_alphanumeric : (o : Option (List ℕ)) → IfSome o (λ s. IsTrue (is_region s)) → are_alphanumeric (unwrap_or o []) ≡ true
 region_alphanumeric None fits = refl
 region_alphanumeric (Some region) fits = (of_region region fits).alphanumeric
-
-region_few : (o : Option (List ℕ)) → IfSome o (λ s. IsTrue (is_region s)) → length (unwrap_or o []) ≤ 3
-region_few o fits = grind (arith, common_steps, region_short)
 
 variants_some : (vs : List (List ℕ)) → AllByRecursion (λ s. IsTrue (is_variant s)) vs → AllByRecursion (λ s. 1 ≤ length s) vs
 variants_some [] fits = tt
@@ -318,10 +307,10 @@ module _ (r : Record) (fits : IsWellFormed r) (short : IsShort r) (v m s : List 
   plain_place = plain_of (place_record r v) fits_place refl
 
   spelled_place : spell (place_record r v) ≡ hyphened place
-  spelled_place = grind (arith, common_steps, nat_tests, spelled_text, plain_place, tag_text, unwrap-capital, join-listed, place_hyphened, letters_first, letters_second)
+  spelled_place = grind (arith, common_steps, nat_tests, spelled_text, plain_place, tag_text, unwrap-capital, place_hyphened, letters_first, letters_second)
 
   read_kept : read_place place ≡ hyphened place
-  read_kept = grind (arith, common_steps, nat_tests, place_kept, letters_first, letters_second, primary_two, fits_place, unwrap-capital, region_named)
+  read_kept = grind (arith, common_steps, nat_tests, place_kept, letters_first, letters_second, primary_two, fits_place, unwrap-capital)
 
   spelled_read : spell (place_record r v) ≡ read_place place
   spelled_read = spelled_place ∙ sym read_kept
@@ -329,7 +318,7 @@ module _ (r : Record) (fits : IsWellFormed r) (short : IsShort r) (v m s : List 
   names_tag : IsLocalePlace place
   unfolding IsTag IsNormal
   names_tag =
-      grind (arith, common_steps, fits_place, spelled_read, read_kept, place_hyphened, letters_first, letters_second, not_posix, length-fold, region_few, unwrap-capital, length-append, marked_few)
+      grind (arith, nat_tests, common_steps, fits_place, spelled_read, read_kept, place_hyphened, letters_first, letters_second, not_posix, length-fold, region_short, unwrap-capital, length-append, marked_few)
 
   said_is : with_said name (place_record r v) ≡ read_record r m extensions
   said_is = grind (arith, common_steps, nat_tests, cut, said_of_place)
@@ -392,11 +381,10 @@ name_good r n fits named =
     ]
 
 found_good : (r : Record) (name : List ℕ) → IsWellFormed r → Some name ≡ option_map name_text (name_parts r) → IsGood r name
-found_good r name fits is = by_parts (name_parts r) refl is
-  where
-    by_parts : (o : Option NameParts) → name_parts r ≡ o → Some name ≡ option_map name_text o → IsGood r name
-    by_parts None same is = absurd cc
-    by_parts (Some n) same is = let text : name_text n ≡ name = cc in subst (IsGood r) text (name_good r n fits (parts_named r n same))
+found_good r name fits is = some_value (name_parts r) (λ none. absurd (let no : Some name ≡ None = is ∙ ap (option_map name_text) none in cc)) (λ n same.
+    let some : Some name ≡ Some (name_text n) = is ∙ ap (option_map name_text) same in
+    let text : name_text n ≡ name = cc in
+    subst (IsGood r) text (name_good r n fits (parts_named r n same)))
 
 pub reads_back : (tag name : List ℕ) → IsPosixName tag (Some name) → ReadsBack tag name
 reads_back tag name is = λ r spells. (found_good r name spells.0 (is.part r spells)).0

@@ -95,7 +95,7 @@ fn region_alias(fields: TagFields<'_>) -> Option<TagFields<'static>>
     })
 }
 
-#[tactic(auto, using(crate::proofs::AliasTables::aliases_listed))]
+#[tactic(auto, using(crate::proofs::RowLaws::aliases_listed))]
 fn alias_keys() -> &'static [u16]
     ensures numbers { result.now ≡ map (λ row. letter_number row.from.language) language_aliases }
     ensures climbs { IsTrue (climbs_from 0 result.now) }
@@ -104,7 +104,7 @@ fn alias_keys() -> &'static [u16]
     &tables::ALIAS_KEYS
 }
 
-#[tactic(auto, using(crate::proofs::AliasTables::region_aliases_listed))]
+#[tactic(auto, using(crate::proofs::RowLaws::region_aliases_listed))]
 fn region_alias_keys() -> &'static [u32]
     ensures numbers { result.now ≡ map (λ row. folded_number row.from.region) region_aliases }
     ensures climbs { IsTrue (climbs_from 0 result.now) }

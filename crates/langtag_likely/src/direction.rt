@@ -36,7 +36,7 @@ pub fn is_right_to_left(tag: LangTag<'_>) -> bool
 }
 
 /// Returns whether a script is written from right to left.
-#[tactic(auto, using(crate::proofs::FieldClasses::script_length, crate::proofs::RightToLeftKeys::found_by_key))]
+#[tactic(auto, using(crate::proofs::FieldClasses::script_length, crate::proofs::FieldClasses::found_by_key))]
 fn is_right_to_left_script(script: &[u8]) -> bool
     requires { IsTrue (is_script_field script.now) }
     ensures { result ≡ spec.is_right_to_left_script script.now }
@@ -44,7 +44,7 @@ fn is_right_to_left_script(script: &[u8]) -> bool
     index_of(right_to_left_keys(), script).is_some()
 }
 
-#[tactic(auto, using(crate::proofs::RightToLeftKeys::keys_listed))]
+#[tactic(auto, using(crate::proofs::FieldClasses::keys_listed))]
 fn right_to_left_keys() -> &'static [u32]
     ensures numbers { result.now ≡ map folded_number right_to_left_scripts }
     ensures climbs { IsTrue (climbs_from 0 result.now) }

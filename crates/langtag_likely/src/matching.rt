@@ -10,7 +10,7 @@ use crate::tag_fields::TagFields;
 
 /// Returns the matching form of a string: its fields, with deprecated subtags replaced and likely subtags added.
 /// Returns `None` for `und`, and for a string that does not begin with a language.
-#[tactic(auto, using(crate::proofs::CompletedForms::form_completed))]
+#[tactic(auto, using(crate::proofs::AlikeFields::form_completed))]
 pub fn matching_form(text: &[u8]) -> Option<TagFields<'_>>
     ensures { option_map field_texts result ≡ spec.matching_form text.now }
 {

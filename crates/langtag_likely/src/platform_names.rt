@@ -99,7 +99,7 @@ fn is_short_language(language: &[u8]) -> bool
 
 /// Returns the one or two subtags that are read for the string after a language, if the string has a form of Android
 /// or .NET. If there is one, the second is empty.
-#[tactic(auto, using(crate::proofs::PlatformNameLaws::script_code_four, crate::proofs::PlatformNameLaws::region_now_few, crate::proofs::PlatformNameLaws::region_now_marked))]
+#[tactic(auto, using(crate::proofs::PosixNameLaws::script_code_four, crate::proofs::PosixNameLaws::region_now_few, crate::proofs::PosixNameLaws::region_now_marked))]
 fn platform_behind<'a>(language: &[u8], behind: &'a [u8]) -> Option<(&'a [u8], &'a [u8])>
     ensures read { option_map (λ pair. pair.0.now ++ marked 45 pair.1.now) result ≡ spec.platform_behind language.now behind.now }
     ensures few { IfSome result (λ pair. (length pair.0.now ≤ 4) × (length pair.1.now ≤ 3)) }

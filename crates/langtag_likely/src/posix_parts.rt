@@ -52,7 +52,7 @@ pub(crate) fn variant_of_tag(tag: NormalLangTag<'_>) -> Option<&'static [u8]>
 }
 
 /// Returns the extensions and the private use part of a tag, with the hyphen before them.
-#[tactic(auto, unfolding(langtag_scan::specs::Tag::IsNormal), using(crate::proofs::PosixVariantLaws::variants_inside))]
+#[tactic(auto, unfolding(langtag_scan::specs::Tag::IsNormal), using(crate::proofs::PosixLaws::variants_inside))]
 fn after_variants<'a>(tag: NormalLangTag<'a>) -> &'a [u8]
     ensures { EachRecord (normal_lang_tag_text tag.entry) (λ r. result.now ≡ after_variants r) }
 {

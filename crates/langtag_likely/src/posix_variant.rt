@@ -36,7 +36,7 @@ pub(crate) fn tag_with_keyword<'a>(
 }
 
 /// Returns the string before `-POSIX` and after it if this is the only variant, and there are no extensions.
-#[tactic(auto, unfolding(langtag_scan::specs::Tag::IsNormal), using(crate::proofs::PosixVariantLaws::variants_inside))]
+#[tactic(auto, unfolding(langtag_scan::specs::Tag::IsNormal), using(crate::proofs::PosixLaws::variants_inside))]
 fn around_posix<'a>(tag: NormalLangTag<'a>) -> Option<(&'a [u8], &'a [u8])>
     ensures { EachRecord (normal_lang_tag_text tag.entry)
         (λ r. MatchOption result (posix_replaced r ≡ r) (λ around. IsAroundPosix r around.0.now around.1.now)) }

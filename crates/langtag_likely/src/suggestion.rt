@@ -87,7 +87,7 @@ pub fn region_replacement(fields: TagFields<'_>) -> Option<&'static [u8]>
 }
 
 /// Returns a name of the tables as a string.
-#[tactic(auto, using(crate::proofs::AliasTables::utf8_name))]
+#[tactic(auto, using(crate::proofs::RowLaws::utf8_name))]
 fn text_of(name: &'static [u8]) -> &'static str
     requires { IsTrue (are_alphanumeric name.now) }
     ensures { result.now ≡ name.now }

@@ -13,7 +13,7 @@ use langtag_scan::{is_extended, is_primary, is_region, is_script, split_at_eithe
 
 impl<'a> TagFields<'a> {
     /// Returns the fields of a string in which `_` is read as `-`, or `None` if it does not begin with a language.
-    #[tactic(auto, using(crate::proofs::FieldClasses::known_language, crate::proofs::FieldClasses::known_script, crate::proofs::FieldClasses::known_region, langtag::proofs::FieldClasses::from_primary, crate::proofs::TextParts::no_fields, crate::proofs::TextParts::all_fields))]
+    #[tactic(auto, using(crate::proofs::FieldClasses::known_language, crate::proofs::FieldClasses::known_script, crate::proofs::FieldClasses::known_region, langtag::proofs::FieldClasses::from_primary, crate::proofs::CommonTexts::no_fields, crate::proofs::CommonTexts::all_fields))]
     pub(crate) fn of_text(text: &'a [u8]) -> Option<TagFields<'a>>
         ensures { option_map field_texts result ≡ spec.text_fields (hyphened text.now) }
     {
@@ -79,7 +79,7 @@ fn region_before(text: &[u8]) -> &[u8]
 }
 
 /// Returns the first subtag that is neither empty nor `*`, and the string after it.
-#[tactic(auto, using(crate::proofs::TextParts::next_part, langtag_range::proofs::WantedTexts::shorter))]
+#[tactic(auto, using(crate::proofs::CommonTexts::next_part, langtag_range::proofs::WantedTexts::shorter))]
 fn next_subtag(text: &[u8]) -> Option<(&[u8], &[u8])>
     ensures { counted_parts text.now ≡ option_map_or (λ found. found.0.now ∷ counted_parts found.1.now) result [] }
 {

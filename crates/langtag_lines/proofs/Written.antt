@@ -1,28 +1,140 @@
--- How the answers that a writer holds grow as bytes are taken.
-use Rattle.std.proofs.Common.{◌≡◌, ◌∙◌, ℕ, ◌+◌, ◌-◌, false, Option, None, Some, ◌<◌, ◌≤◌, arith, List, [], ◌∷◌, ◌++◌, length, length-append, length-drop, take, drop, take-append-drop, refl, sym, ap, append_assoc, append-nil, subst, Result, Ok, Err, ◌≢◌}
+-- Lines of bytes, and how the answers that a writer holds grow as bytes are taken.
+use Rattle.std.proofs.Common.{◌≡◌, ◌∙◌, ℕ, ◌+◌, Bool, true, false, eqb-true, None, Some, List, [], ◌∷◌, ◌++◌, take, drop, get_or, refl, sym, ap, append_assoc, length-append, take-append-drop, get_or-take, arith, Result, Ok, Err, ◌-◌, Option, ◌<◌, ◌≤◌, length, length-drop, append-nil, subst, ◌≢◌}
+use Rattle.std.specs.List.{flat_map, AllByRecursion, position}
+use Rattle.std.proofs.lemmas.Grind.{common_steps}
+use Rattle.std.proofs.lemmas.List.{take_at, get_or_at, take_more, take-append-le}
+use Rattle.std.proofs.lemmas.List.Elements.{All-nil, All-cons, All-append}
+use Rattle.std.proofs.lemmas.List.Quantifiers.{position-Some}
+use Rattle.std.proofs.lemmas.List.Sums.{fails_before_first}
+use Rattle.std.proofs.lemmas.List.Splits.{slice_split-cons_yes, slice_split-cons_no, slice_split_none, slice_split_at}
+use Rattle.std.proofs.lemmas.Bool.Decides.{nat_tests}
+use Rattle.langtag_lines.specs.Lines.{IsCutInto, is_line_feed, ended, pieces, complete_lines, rest_of, NoLineFeed, last_line, lines_of}
+use Rattle.langtag_lines.specs.Report.{AreAnswersBy, none, one_more, AnswersBy, FirstAnswersBy, HasRun, HavingRead, read_len}
 use Rattle.std.specs.Prelude.{OnOk, IfSome, IfErr, IsErrOf}
-use Rattle.std.proofs.lemmas.List.{take-append-le}
+use Rattle.std.specs.Result.{is_ok}
 use Rattle.std.specs.Io.KnownBytes.{Appends, IsAtEnd, Keeps, append_known}
 use Rattle.std.proofs.KnownBytes.{Appends-nil, Appends-trans, Appends-kept}
 use Rattle.std.proofs.Math.Seq.{take-add, take-append_seam, take-append-add, take-length}
-use Rattle.std.proofs.lemmas.Bool.Decides.{nat_tests}
-use Rattle.langtag_lines.specs.Lines.{is_line_feed, complete_lines, rest_of, last_line, lines_of, ended, NoLineFeed}
-use Rattle.langtag_lines.specs.Report.{AreAnswersBy, none, one_more, AnswersBy, FirstAnswersBy, HasRun, HavingRead, read_len}
 use Rattle.langtag_lines.specs.declared.run_error.RunError.{RunError}
 use Rattle.langtag_lines.specs.declared.run_error.RunError.TheVariants.{Memory, Read}
-use Rattle.std.proofs.lemmas.List.Elements.{All-append}
-use Rattle.langtag_lines.proofs.Lines.{complete_lines-append, rest_of-append, lines_cut, complete_lines-ended, rest_of-ended, complete_lines-free, rest_of-free_text}
+
+-- ---- lines and a rest, from the pieces
+
+complete_lines-pieces : (input : List ℕ) (lines : List (List ℕ)) (rest : List ℕ) → pieces input ≡ lines ++ rest ∷ [] → complete_lines input ≡ lines
+unfolding complete_lines
+complete_lines-pieces input lines rest are = rw are (take_at lines (rest ∷ []) _ (omega (arith, length-append lines (rest ∷ []))))
+
+rest_of-pieces : (input : List ℕ) (lines : List (List ℕ)) (rest : List ℕ) → pieces input ≡ lines ++ rest ∷ [] → rest_of input ≡ rest
+unfolding rest_of
+rest_of-pieces input lines rest are = rw are (get_or_at lines rest [] [] _ (omega (arith, length-append lines (rest ∷ []))))
+
+-- an input as its complete lines and its rest, and what more bytes make of it
+record IsCutAs (input : List ℕ) (lines : List (List ℕ)) (rest : List ℕ) : Type 0 where
+  split : pieces input ≡ lines ++ rest ∷ []
+  cut : IsCutInto input lines rest
+  grows : (more : List ℕ) → pieces (input ++ more) ≡ lines ++ pieces (rest ++ more)
+
+cut_of_cons : (b : ℕ) (bs : List ℕ) (t : Bool) → is_line_feed b ≡ t → ((lines : List (List ℕ)) × (rest : List ℕ) × IsCutAs bs lines rest)
+    → (lines : List (List ℕ)) × (rest : List ℕ) × IsCutAs (b ∷ bs) lines rest
+cut_of_cons b bs true feed (lines, rest, cut) =
+    ([] ∷ lines, rest, grind (arith, nat_tests, eqb-true b 10 feed, All-nil, slice_split-cons_yes is_line_feed b))
+cut_of_cons b bs false plain ([], rest, cut) = ([], b ∷ rest, grind (arith, nat_tests, slice_split-cons_no is_line_feed b, All-cons))
+cut_of_cons b bs false plain (l ∷ ls, rest, cut) = ((b ∷ l) ∷ ls, rest, grind (arith, nat_tests, slice_split-cons_no is_line_feed b, All-cons))
+
+cut_of : (input : List ℕ) → (lines : List (List ℕ)) × (rest : List ℕ) × IsCutAs input lines rest
+cut_of [] = ([], [], record { split = refl; cut = record { joined = refl; lines_free = tt; rest_free = All-nil (λ x. is_line_feed x ≡ false) }; grows = λ more. refl })
+cut_of (b ∷ bs) = cut_of_cons b bs (is_line_feed b) refl (cut_of bs)
+
+-- ---- the laws
+
+-- the complete lines and the rest are a cut of the input
+pub lines_cut : (input : List ℕ) → IsCutInto input (complete_lines input) (rest_of input)
+lines_cut input =
+    let (lines, rest, cut) = cut_of input in
+    rw (complete_lines-pieces input lines rest cut.split, rest_of-pieces input lines rest cut.split) cut.cut
+
+-- the pieces of a cut input are its lines and its rest
+pieces-joined :
+    (lines : List (List ℕ)) (rest : List ℕ) → AllByRecursion NoLineFeed lines → NoLineFeed rest →
+    pieces (flat_map ended lines ++ rest) ≡ lines ++ rest ∷ []
+pieces-joined [] rest lines_free rest_free = slice_split_none is_line_feed rest rest_free
+pieces-joined (l ∷ ls) rest (free, lines_free) rest_free =
+    grind (arith, nat_tests, append_assoc, slice_split_at is_line_feed l 10, pieces-joined ls rest lines_free rest_free)
+
+-- so a cut is the complete lines and the rest
+cut_lines :
+    (input : List ℕ) (lines : List (List ℕ)) (rest : List ℕ) → IsCutInto input lines rest →
+    (lines ≡ complete_lines input) × (rest ≡ rest_of input)
+cut_lines input lines rest cut =
+    let are : pieces input ≡ lines ++ rest ∷ [] = ap pieces (sym cut.joined) ∙ pieces-joined lines rest cut.lines_free cut.rest_free in
+    (sym (complete_lines-pieces input lines rest are), sym (rest_of-pieces input lines rest are))
+
+-- two cuts of an input are equal
+pub one_cut :
+    (input : List ℕ) (lines others : List (List ℕ)) (rest other : List ℕ) → IsCutInto input lines rest →
+    IsCutInto input others other → (lines ≡ others) × (rest ≡ other)
+one_cut input lines others rest other cut also = grind (arith, nat_tests, cut_lines input lines rest cut, cut_lines input others other also)
+
+-- bytes after an input complete the lines that they complete after its rest
+pub complete_lines-append : (input more : List ℕ) → complete_lines (input ++ more) ≡ complete_lines input ++ complete_lines (rest_of input ++ more)
+complete_lines-append input more =
+    let (lines, rest, cut) = cut_of input in
+    let (lines', rest', cut') = cut_of (rest ++ more) in
+    grind (arith, nat_tests, append_assoc, complete_lines-pieces, rest_of-pieces input lines rest, cut.grows more)
+
+pub rest_of-append : (input more : List ℕ) → rest_of (input ++ more) ≡ rest_of (rest_of input ++ more)
+rest_of-append input more =
+    let (lines, rest, cut) = cut_of input in
+    let (lines', rest', cut') = cut_of (rest ++ more) in
+    grind (arith, nat_tests, append_assoc, rest_of-pieces input, rest_of-pieces (rest ++ more) lines', rest_of-pieces (input ++ more) (lines ++ lines'), cut.grows more)
+
+-- a text without LF is a rest
+pub complete_lines-free : (text : List ℕ) → NoLineFeed text → complete_lines text ≡ []
+complete_lines-free text free = complete_lines-pieces text [] text (slice_split_none is_line_feed text free)
+
+pub rest_of-free_text : (text : List ℕ) → NoLineFeed text → rest_of text ≡ text
+rest_of-free_text text free = rest_of-pieces text [] text (slice_split_none is_line_feed text free)
+
+-- such a text and LF is a line
+pub complete_lines-ended : (text : List ℕ) (b : ℕ) → NoLineFeed text → is_line_feed b ≡ true → complete_lines (text ++ b ∷ []) ≡ text ∷ []
+complete_lines-ended text b free feed = complete_lines-pieces (text ++ b ∷ []) (text ∷ []) [] (slice_split_at is_line_feed text b [] free feed)
+
+pub rest_of-ended : (text : List ℕ) (b : ℕ) → NoLineFeed text → is_line_feed b ≡ true → rest_of (text ++ b ∷ []) ≡ []
+rest_of-ended text b free feed = rest_of-pieces (text ++ b ∷ []) (text ∷ []) [] (slice_split_at is_line_feed text b [] free feed)
+
+-- what stands before the first LF has none, and is a line with it
+pub record IsFirstLine (bytes : List ℕ) (len : ℕ) : Type 0 where
+  pub free : NoLineFeed (take len bytes)
+  pub joined : ended (take len bytes) ++ drop (len + 1) bytes ≡ bytes
+
+pub first_line : (bytes : List ℕ) (len : ℕ) → position is_line_feed bytes ≡ Some len → IsFirstLine bytes len
+first_line bytes len at =
+    let (within, feed, others) = position-Some is_line_feed bytes len 0 at in
+    record {
+      free = λ k d lt. grind (arith, common_steps, position-Some is_line_feed bytes len d at, get_or-take len bytes k d);
+      joined = grind (arith, nat_tests, eqb-true (get_or bytes len 0) 10 feed, take_more bytes len 0 within, take-append-drop (len + 1) bytes, append_assoc);
+    }
+
+-- bytes without one are no line
+pub no_line : (bytes : List ℕ) → position is_line_feed bytes ≡ None → NoLineFeed bytes
+no_line bytes absent = grind (arith, nat_tests, fails_before_first is_line_feed bytes)
+
+pub one_report : (IsAnswer : List ℕ → List ℕ → Type 0) →
+    ((line text other : List ℕ) → IsAnswer line text → IsAnswer line other → text ≡ other) →
+    (lines : List (List ℕ)) (texts others : List ℕ) → AreAnswersBy IsAnswer lines texts → AreAnswersBy IsAnswer lines others → texts ≡ others
+one_report _ _ _ _ _ none none = refl
+one_report IsAnswer one_answer _ _ _ (one_more line text lines texts is are) (one_more _ other _ others also all) =
+    let same : text ≡ other = one_answer line text other is also in
+    ap (λ t. ended t ++ texts) same ∙ ap (λ t. ended other ++ t) (one_report IsAnswer one_answer lines texts others are all)
+
+pub OnOk-by : {T E : Type 0} (P : Type 0) (r : Result T E) → (is_ok r ≡ true → P) → OnOk r P
+OnOk-by P r holds = grind (arith, common_steps, nat_tests)
 
 -- ---- bytes that wait on a page
 
 -- the bytes before an empty page
 append_known-empty : (a : Option (List ℕ)) (page : List ℕ) → page ≡ [] → append_known a page ≡ a
-append_known-empty None page empty = refl
-append_known-empty (Some x) page empty = ap Some (ap (λ l. x ++ l) empty ∙ append-nil x)
-
-Appends-written :
-    (a b c : Option (List ℕ)) (page taken : List ℕ) → Appends a (append_known b page) taken → Appends b c page → Appends a c taken
-Appends-written a b c page taken took gained = grind (arith, nat_tests)
+append_known-empty a page empty = grind (arith, common_steps, nat_tests, append-nil)
 
 -- ---- the line in hand, as bytes come
 
@@ -42,12 +154,10 @@ pub free_rest : (input rest : List ℕ) → rest ≡ rest_of input → NoLineFee
 free_rest input rest is = subst NoLineFeed (sym is) (lines_cut input).rest_free
 
 pub last_line-none : (rest : List ℕ) → length rest ≡ 0 → last_line rest ≡ []
-last_line-none [] empty = refl
-last_line-none (b ∷ bs) empty = absurd (omega arith)
+last_line-none rest empty = grind (arith, common_steps, nat_tests)
 
 pub last_line-some : (rest : List ℕ) → 0 < length rest → last_line rest ≡ rest ∷ []
-last_line-some [] full = absurd (omega arith)
-last_line-some (b ∷ bs) full = refl
+last_line-some rest full = grind (arith, common_steps, nat_tests)
 
 -- a text that ends the line in hand, and its LF
 pub record EndsLine (line end : List ℕ) : Type 0 where
@@ -94,7 +204,7 @@ module _ {IsAnswer : List ℕ → List ℕ → Type 0} where
   pub Answers-written :
       (a b c : Option (List ℕ)) (page : List ℕ) (xs : List (List ℕ)) → AnswersBy IsAnswer a (append_known b page) xs → Appends b c page →
       AnswersBy IsAnswer a c xs
-  Answers-written a b c page xs (s, p, q) gained = (s, p, Appends-written a b c page s q gained)
+  Answers-written a b c page xs (s, p, q) gained = grind (arith, common_steps, nat_tests)
 
   pub Answers-trans : (a b c : Option (List ℕ)) (xs ys : List (List ℕ)) → AnswersBy IsAnswer a b xs → AnswersBy IsAnswer b c ys → AnswersBy IsAnswer a c (xs ++ ys)
   Answers-trans a b c xs ys (s, p, q) (t, p', q') = (s ++ t, AreAnswers-append xs ys s t p p', Appends-trans a b c s t q q')
@@ -152,8 +262,7 @@ module _ {IsAnswer : List ℕ → List ℕ → Type 0} where
         (result : Result (Unit {0}) RunError) → IsAtEnd left → OnOk result (IfSome unread (λ input. AnswersBy IsAnswer old new (lines_of input))) →
         IfErr result (λ e. e ≢ Read) → (IsErrOf result Memory → HavingRead unread left (FirstAnswersBy IsAnswer old new)) →
         HasRun IsAnswer result unread left old new
-    run_ended (Ok done) end report other memory = record { whole = end; report = report; after_read = λ is. absurd cc; after_memory = memory }
-    run_ended (Err e) end report other memory = record { whole = tt; report = tt; after_read = λ is. absurd (other cc); after_memory = memory }
+    run_ended result end report other memory = grind (arith, common_steps, nat_tests)
 
     -- an error before it, but for a failed read
     pub run_stopped :
@@ -167,9 +276,7 @@ module _ {IsAnswer : List ℕ → List ℕ → Type 0} where
 pub Appends-more :
     (a b c : Option (List ℕ)) (text : List ℕ) (n m : ℕ) → Appends a b (take n text) → Appends b c (take m (take (length text - n) (drop n text))) →
     Appends a c (take (n + m) text)
-Appends-more a b c text n m first second =
-    let rest : take (length text - n) (drop n text) ≡ drop n text = ap (λ k. take k (drop n text)) (sym (length-drop n text)) ∙ take-length (drop n text) in
-    rw (take-add n m text) (Appends-trans a b c _ _ first (rw rest at second))
+Appends-more a b c text n m first second = grind (arith, common_steps, nat_tests, length-drop, take-length, take-add, Appends-trans)
 
 -- some bytes of a line, without its LF
 pub front_of_line : (a b : Option (List ℕ)) (text : List ℕ) (k : ℕ) → k ≤ length text → Appends a b (take k text) → Appends a b (take k (ended text))

@@ -89,7 +89,7 @@ pub struct Filtered<'a, 't> {
 
 impl<'a, 't> Filtered<'a, 't> {
     /// Returns an iterator that starts at the first tag that the ranges find.
-    #[tactic(auto, using(crate::proofs::FoundOnce::found_laws))]
+    #[tactic(auto, using(crate::proofs::Found::found_laws))]
     fn new(
         rule: FilterRule,
         ranges: &'a [LanguageRange<'a>],

@@ -33,11 +33,8 @@ region-last p es script region =
 pub cut-region : (r : Record) (region : List ℕ) → IsPlain r → r.region ≡ Some region → spell r ≡ spell (with_region r None) ++ 45 ∷ region
 cut-region r region plain is = rw (plain.variants, plain.extensions, plain.private_use, is) (region-last r.primary r.extended r.script region)
 
-script-last : (p : List ℕ) (es : List (List ℕ)) (script : List ℕ) → join (p ∷ (es ++ script ∷ [])) ≡ join (p ∷ (es ++ [])) ++ 45 ∷ script
-script-last p es script = cut-last p es script ∙ ap (λ l. join (p ∷ l) ++ 45 ∷ script) (sym (append-nil es))
-
 pub cut-script : (r : Record) (script : List ℕ) → IsPlain r → r.script ≡ Some script → r.region ≡ None → spell r ≡ spell (with_script r None) ++ 45 ∷ script
-cut-script r script plain is none = rw (plain.variants, plain.extensions, plain.private_use, is, none) (script-last r.primary r.extended script)
+cut-script r script plain is none = grind (arith, cut-last, append-nil)
 
 split_last : (vs : List (List ℕ)) (last : List ℕ) → slice_get vs (length vs - 1) ≡ Some last → vs ≡ take (length vs - 1) vs ++ last ∷ []
 split_last [] last is = absurd cc
@@ -140,11 +137,6 @@ without_script text script language shorter test r spells plain is none language
 
 -- ---- extensions and private use
 
-count-told :
-    (es : List Extension) (pu : Option PrivateUse) →
-    (length (hyphenated (flat_map extension_flat es ++ private_part_flat pu)) == 0) ≡ (is_empty es && is_none pu)
-count-told es pu = grind (arith, nat_tests)
-
 plus-told : (n k : ℕ) → (n == n + k) ≡ (k == 0)
 plus-told n k = grind (arith, nat_tests)
 
@@ -153,16 +145,13 @@ whole-length :
 whole-length r = grind (arith, common_steps, nat_tests, length-join-append, append_assoc)
 
 pub base_told : (r : Record) → ((ends_of r).variants == (ends_of r).whole) ≡ is_base r
-base_told r = ap (λ w. length (join (to_variants r)) == w) (whole-length r) ∙ plus-told _ _ ∙ count-told r.extensions r.private_use
+base_told r = grind (arith, whole-length, plus-told, nat_tests)
 
 pub empty-nil : {A : Type 0} (list : List A) → is_empty list ≡ true → list ≡ []
 empty-nil list is = grind arith
 
-pub none-is : {A : Type 0} (o : Option A) → is_none o ≡ true → o ≡ None
-none-is o is = grind arith
-
 pub base_parts : (r : Record) → is_base r ≡ true → (r.extensions ≡ []) × (r.private_use ≡ None)
-base_parts r is = let k = and_parts (is_empty r.extensions) (is_none r.private_use) is in (empty-nil r.extensions k.0, none-is r.private_use k.1)
+base_parts r is = grind (arith, and_parts, empty-nil)
 
 -- ---- variants
 

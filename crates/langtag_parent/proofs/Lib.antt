@@ -1,6 +1,4 @@
 pub mod Cuts
+pub mod ListedParents
 pub mod OtherScript
-pub mod ListedTags
-mod ListedParents
 mod ParentSteps
-mod ChainEnds

@@ -10,6 +10,7 @@ use Rattle.langtag_scan.specs.Case.{Alike, are_alike, fold_byte, fold_text}
 use Rattle.langtag_scan.specs.CaseLaws.{are_alike-decides}
 use Rattle.langtag_scan.specs.Class.{is_letter, is_digit, is_primary, is_script, is_region}
 use Rattle.langtag_scan.specs.Record.{Record, Spells}
+use Rattle.langtag_scan.specs.Tag.{IsTag}
 use Rattle.langtag_scan.proofs.CaseLaw.{alike_parts, length-fold}
 use Rattle.langtag_scan.proofs.NormalTexts.{spelled_once}
 use Rattle.langtag.specs.Fields.{Fields}
@@ -24,8 +25,8 @@ use Rattle.langtag_parent.specs.ParentLaws.{IsListed, IsWrittenAs, script_of}
 use Rattle.langtag_parent.specs.ParentLocales.{parent_locales}
 use Rattle.langtag_parent.specs.Rows.{Row, row_for}
 use Rattle.langtag_parent.proofs.Cuts.{empty-nil}
-use Rattle.langtag_parent.proofs.ListedTags.{is_simple, record_of, simple_spelled}
-use Rattle.langtag_parent.proofs.OtherScript.{in_region, is_there, there-long}
+use Rattle.langtag_parent.proofs.OtherScript.{is_simple, record_of, simple_spelled, simple_tag, in_region, there-long}
+use Rattle.langtag_likely.proofs.TableRows.{is_there}
 
 -- ---- the languages of the rows, which are written in the same script in each region
 
@@ -93,14 +94,11 @@ latin_alone : (p : List ℕ) → is_one p ≡ true → is_latin_row (likely_for 
 latin_alone p one =
     ap is_latin_row (either (alone p)) ∙ or_latin (likely_for language_rows (alone p)) (likely_for other_rows (alone p)) (latin_at p latin_languages all_latin one)
 
-or_same : (o : Option Fields) → or_else o (or_else o (or_else o o)) ≡ o
-or_same o = grind arith
-
 or_alone : (none o : Option Fields) → none ≡ None → or_else none (or_else o (or_else none o)) ≡ o
 or_alone none o h = grind arith
 
 pub likely_alone : (p region : List ℕ) → is_one p ≡ true → likely_of p [] region ≡ likely_for likely_subtags (alone p)
-likely_alone p [] one = or_same (likely_for likely_subtags (alone p))
+likely_alone p [] one = grind arith
 likely_alone p (b ∷ region) one =
     let there : 0 < length (b ∷ region) = omega arith in
     let none = sym (all_other (in_region p (b ∷ region)) (λ _ none. omega (arith, none))) ∙ region_none p (b ∷ region) one there in
@@ -177,6 +175,12 @@ row_of holds (row ∷ rows) text parent all is =
     record { row = row; is = cc; alike = alike_is row.tag text same; holds_of_it = k.0 })
     (λ other. row_of holds rows text parent k.1 (sym (rw other refl) ∙ is))
 
+-- a stated parent is a tag
+pub stated_tag : (text parent : List ℕ) → row_for parent_locales text ≡ Some parent → 0 < length parent → IsTag parent
+stated_tag text parent is some =
+    let it = row_of is_lawful parent_locales text parent all_lawful is in
+    grind (arith, and_parts, there-long, simple_tag, it.is, it.holds_of_it)
+
 some_listed : (rows : List Row) (text parent : List ℕ) → row_for rows text ≡ Some parent → list_any (λ row. bytes_eq row.parent parent) rows ≡ true
 unfolding row_for
 some_listed [] text parent is = absurd cc
@@ -187,12 +191,9 @@ some_listed (row ∷ rows) text parent is = grind (arith, some_listed rows text 
 latin_folded : Record → Bool
 latin_folded f = option_map_or (λ script. bytes_eq script (fold_text latin)) f.script (is_empty f.extended && list_any (λ one. bytes_eq (fold_text one) f.primary) latin_languages)
 
-empty-map : (es : List (List ℕ)) → is_empty (map fold_text es) ≡ is_empty es
-empty-map es = grind arith
-
 unfolding_latin : (r : Record) → latin_folded (fold_record r) ≡ is_latin r
 unfolding latin_folded
-unfolding_latin r = grind (arith, empty-map)
+unfolding_latin r = grind arith
 
 latin-alike : (r q : Record) → AlikeRecords r q → is_latin r ≡ is_latin q
 latin-alike r q same = sym (unfolding_latin r) ∙ ap latin_folded same ∙ unfolding_latin q

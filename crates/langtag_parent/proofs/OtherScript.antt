@@ -1,36 +1,84 @@
--- A language that is written in another script in a region stands in the table with this script.
-use Rattle.std.proofs.Common.{◌≡◌, ℕ, ◌<◌, ◌≤◌, length-append, append-nil, true, false, Bool, List, [], ◌∷◌, ◌++◌, length, map, find, Option, None, Some, refl, sym, ap, ◌∙◌, arith, ◌&&◌, ◌||◌, not}
+-- The tables have the rows of the lists, and a language that is written in another script in a region stands in the table with it.
+use Rattle.std.proofs.Common.{◌≡◌, ℕ, ◌<◌, true, false, Bool, cond, List, [], ◌∷◌, length, map, Option, None, Some, IsTrue, inl, refl, arith, ◌&&◌, ◌||◌, not, ap, sym, ◌∙◌, ◌≤◌, length-append, append-nil, ◌++◌, find}
+use Rattle.std.specs.Prelude.{IfSome}
 use Rattle.std.specs.List.{list_all}
-use Rattle.std.specs.Option.{option_map, option_map_or}
+use Rattle.std.specs.Option.{option_map_or, option_map}
 use Rattle.std.specs.Str.{bytes_eq}
 use Rattle.std.specs.Cmp.Lexicographic.{bytes_decides}
 use Rattle.std.proofs.lemmas.Bool.{and_parts}
+use Rattle.std.proofs.lemmas.Grind.{common_steps}
+use Rattle.langtag_scan.specs.Case.{are_alike, fold_byte, Alike, fold_text}
+use Rattle.langtag_scan.specs.Class.{is_letter, is_digit, is_primary, is_script, is_region}
+use Rattle.langtag_scan.specs.Record.{Record, IsWellFormed, Spells, spell}
+use Rattle.langtag_scan.specs.Subtags.{subtags}
+use Rattle.langtag_scan.specs.Tag.{IsTag, IsNormal}
+use Rattle.langtag_likely.proofs.AddedTwice.{either_way, found_row}
+use Rattle.langtag_parent.specs.ParentLocales.{parent_locales}
+use Rattle.langtag_parent.specs.Rows.{Row, row_for}
+use Rattle.langtag_parent.specs.declared.tables.TheConstants.{PARENT_LOCALES, SCRIPTED_LANGUAGES}
 use Rattle.std.proofs.lemmas.Bool.Decides.{nat_tests}
 use Rattle.std.proofs.lemmas.List.{map-append}
-use Rattle.langtag_scan.specs.Case.{Alike, are_alike, fold_byte, fold_text}
 use Rattle.langtag_scan.specs.CaseLaws.{are_alike-decides}
-use Rattle.langtag_scan.specs.Class.{is_letter, is_digit, is_primary, is_script, is_region}
-use Rattle.langtag_scan.specs.Tag.{IsTag}
 use Rattle.langtag_scan.proofs.CaseLaw.{length-fold}
 use Rattle.langtag_scan.proofs.Disjoint.{script_four}
-use Rattle.langtag_language.specs.Language.{SpellsLanguage}
+use Rattle.langtag_language.specs.Language.{EachLanguageSpelling, IsLanguage, SpellsLanguage}
 use Rattle.langtag_tables.proofs.Letters.{primary_length}
 use Rattle.langtag.specs.Fields.{Fields}
 use Rattle.langtag.proofs.Alike.{alike_is}
 use Rattle.langtag_likely.specs.Likely.{Likely, likely_for, or_else}
 use Rattle.langtag_likely.specs.LikelySubtags.{likely_subtags, other_rows}
-use Rattle.langtag_likely.proofs.AddedTwice.{found_row}
 use Rattle.langtag_likely.proofs.RowLaws.{all_other}
+use Rattle.langtag_likely.proofs.TableRows.{is_there}
 use Rattle.langtag_parent.specs.Parent.{fields_text, likely_of, unless_alike}
-use Rattle.langtag_parent.specs.declared.tables.TheConstants.{SCRIPTED_LANGUAGES}
-use Rattle.langtag_parent.proofs.ListedTags.{is_simple, simple_tag}
+
+pub parents_listed : map (λ row. record { tag = row.0.now; parent = row.1.now }) PARENT_LOCALES ≡ parent_locales
+unfolding parent_locales fold_byte
+parents_listed = refl
+
+-- ---- a language with a script and a region is a tag
+
+abbrev simple : List ℕ → Option (List ℕ) → Option (List ℕ) → Record
+simple primary script region =
+    record { primary = primary; extended = []; script = script; region = region; variants = []; extensions = []; private_use = None }
+
+abbrev of_subtags : List (List ℕ) → Record
+of_subtags (primary ∷ []) = simple primary None None
+of_subtags (primary ∷ place ∷ []) = cond (is_script place) (simple primary (Some place) None) (simple primary None (Some place))
+of_subtags (primary ∷ script ∷ region ∷ []) = simple primary (Some script) (Some region)
+of_subtags _ = simple [] None None
+
+abbrev pub record_of : List ℕ → Record
+record_of text = of_subtags (subtags text)
+
+abbrev pub is_simple : List ℕ → Bool
+is_simple text =
+    (is_primary (record_of text).primary && (option_map_or is_script (record_of text).script true && option_map_or is_region (record_of text).region true))
+    && bytes_eq (spell (record_of text)) text
+
+-- a record of a language, a script and a region
+pub record IsSimple (r : Record) : Type 0 where
+  pub extended : r.extended ≡ []
+  pub variants : r.variants ≡ []
+  pub extensions : r.extensions ≡ []
+  pub private_use : r.private_use ≡ None
+
+pub simple_record : (text : List ℕ) → IsSimple (record_of text)
+simple_record text = grind (arith, common_steps)
+
+well_formed :
+    (r : Record) → IsSimple r → IsTrue (is_primary r.primary) → IsTrue (option_map_or is_script r.script true) →
+    IsTrue (option_map_or is_region r.region true) → IsWellFormed r
+well_formed r plain p s g = grind (arith, common_steps)
+
+pub simple_spelled : (text : List ℕ) → is_simple text ≡ true → Spells (record_of text) text
+simple_spelled text h = grind (arith, common_steps, and_parts, well_formed, simple_record text, bytes_decides (spell (record_of text)) text)
+
+pub simple_tag : (text : List ℕ) → is_simple text ≡ true → IsTag text
+unfolding IsTag IsNormal
+simple_tag text h = inl (record_of text, simple_spelled text h)
 
 abbrev pub scripted : List (List ℕ)
 scripted = map (λ tag. tag.now) SCRIPTED_LANGUAGES
-
-abbrev pub is_there : List ℕ → Bool
-is_there [] = false
-is_there (b ∷ text) = true
 
 -- ---- the rows of a language in a region
 
@@ -61,12 +109,10 @@ pub record Stands (p : List ℕ) (here : Fields) : Type 0 where
   pub stands : stands here ≡ true
 
 pub there-long : (text : List ℕ) → 0 < length text → is_there text ≡ true
-there-long [] some = absurd (omega (arith, some))
-there-long (b ∷ text) some = refl
+there-long text some = grind arith
 
 pub there-none : (text : List ℕ) → length text ≡ 0 → is_there text ≡ false
-there-none [] none = refl
-there-none (b ∷ text) none = absurd (omega (arith, none))
+there-none text none = grind arith
 
 row_stands : (p region : List ℕ) (here : Fields) → 0 < length p → 0 < length region → likely_for other_rows (in_region p region) ≡ Some here → Stands p here
 row_stands p region here some there is =
@@ -134,6 +180,7 @@ pub record IsOther (language region script p : List ℕ) (es : List (List ℕ)) 
   pub is : unless_alike (likely_of p es region) (likely_of p es []) ≡ Some here
   pub script_is : script ≡ here.script
   pub language_is : language ≡ p
+  pub short : length language ≤ 8
   pub listed : IsListed p here script
 
 some_here : (o : Option Fields) (script : List ℕ) → option_map (λ f. f.script) o ≡ Some script → (here : Fields) × (o ≡ Some here) × (script ≡ here.script)
@@ -147,6 +194,10 @@ pub region_two : (s : List ℕ) → is_region s ≡ true → 2 ≤ length s
 unfolding is_region
 region_two s h = grind (arith, nat_tests)
 
+primary_short : (language p : List ℕ) → is_primary p ≡ true → language ≡ p → length language ≤ 8
+unfolding is_primary
+primary_short language p h same = grind (arith, nat_tests)
+
 pub other_read :
     (language region script p : List ℕ) (es : List (List ℕ)) → SpellsLanguage p es language → is_region region ≡ true →
     option_map (λ f. f.script) (unless_alike (likely_of p es region) (likely_of p es [])) ≡ Some script → IsOther language region script p es
@@ -155,27 +206,13 @@ other_read language region script p es spells in_region script_is =
     let some = primary_length p spells.first in
     let there = region_two region in_region in
     let (none, stands) = other_stands p es region here (omega (arith, some)) (omega (arith, there)) is in
-    record { here = here; is = is; script_is = same; language_is = lone p es language spells none; listed = listed p here script stands same }
+    record { here = here; is = is; script_is = same; language_is = lone p es language spells none; short = primary_short language p spells.first (lone p es language spells none); listed = listed p here script stands same }
 
--- ---- the texts that it writes
-
-pub whole_text : (p script region : List ℕ) → 0 < length script → 0 < length region → p ++ 45 ∷ (script ++ 45 ∷ (region ++ [])) ≡ fields_text p script region
-whole_text p script region some there = grind (arith, append-nil)
-
-pub short_text : (p script : List ℕ) → 0 < length script → p ++ 45 ∷ (script ++ []) ≡ fields_text p script []
-short_text p script some = grind (arith, append-nil)
-
-pub whole_fits :
-    (language script region : List ℕ) → length language ≤ 8 → length script ≡ 4 → length region ≤ 3 →
-    length (language ++ 45 ∷ (script ++ 45 ∷ (region ++ []))) ≤ 17
-whole_fits language script region l s g = simp length-append (omega arith)
-
-pub short_fits : (language script : List ℕ) → length language ≤ 8 → length script ≡ 4 → length (language ++ 45 ∷ (script ++ [])) ≤ 17
-short_fits language script l s = simp length-append (omega arith)
-
-pub primary_short : (p : List ℕ) → is_primary p ≡ true → length p ≤ 8
-unfolding is_primary
-primary_short p h = grind (arith, nat_tests)
+pub read_of :
+    (language region script : List ℕ) → IsLanguage language → is_region region ≡ true →
+    EachLanguageSpelling language (λ p es. Some script ≡ option_map (λ f. f.script) (unless_alike (likely_of p es region) (likely_of p es []))) →
+    (p : List ℕ) × (es : List (List ℕ)) × IsOther language region script p es
+read_of language region script (p, es, spells) in_region read = (p, es, other_read language region script p es spells in_region (sym (read p es spells)))
 
 -- ---- values of the code
 
@@ -192,11 +229,11 @@ pub whole_is :
     (whole before after language region script p : List ℕ) (es : List (List ℕ)) (it : IsOther language region script p es) → is_region region ≡ true →
     whole ≡ before ++ 45 ∷ (script ++ 45 ∷ (after ++ [])) → before ≡ language → after ≡ region → whole ≡ fields_text p it.here.script region
 whole_is whole before after language region script p es it in_region made before_is after_is =
-    grind (arith, region_two region in_region, it.listed.four, it.language_is, it.script_is, whole_text p script region)
+    grind (arith, region_two region in_region, it.listed.four, it.language_is, it.script_is, append-nil)
 
 -- the table has the language with the script
 pub found_is :
     (whole before language region script p : List ℕ) (es : List (List ℕ)) (it : IsOther language region script p es) (list : List (List ℕ)) (result : Option (List ℕ)) →
     whole ≡ before ++ 45 ∷ (script ++ []) → before ≡ language → list ≡ scripted → result ≡ find (λ tag. are_alike tag whole) list →
     result ≡ Some (fields_text it.here.language it.here.script [])
-found_is whole before language region script p es it list result made before_is list_is is = grind (arith, nat_tests, listed, short_text)
+found_is whole before language region script p es it list result made before_is list_is is = grind (arith, nat_tests, listed, append-nil)

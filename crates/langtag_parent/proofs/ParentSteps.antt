@@ -1,14 +1,15 @@
--- From a tag to its parent: the record of the parent, its script, and what it keeps.
-use Rattle.std.proofs.Common.{◌≡◌, ℕ, ◌+◌, ◌-◌, ◌<◌, ◌⊎◌, inl, inr, true, false, List, [], ◌∷◌, ◌++◌, length, take, drop, find, is_none, Option, None, Some, IsTrue, refl, sym, ap, ◌∙◌, subst, arith, ◌&&◌, option_map, length-append, append-nil}
+-- From a tag to its parent: the record of the parent, its script, and what it keeps. A chain ends: a parent has fewer subtags than
+-- the tag, or is one of a few texts whose chains are short.
+use Rattle.std.proofs.Common.{◌≡◌, ℕ, ◌+◌, ◌-◌, ◌<◌, ◌⊎◌, inl, inr, true, false, List, [], ◌∷◌, ◌++◌, length, take, drop, find, is_none, Option, None, Some, IsTrue, refl, sym, ap, ◌∙◌, subst, arith, ◌&&◌, option_map, length-append, append-nil, zero, suc, ◌≤◌, Bool, ◌||◌, not}
 use Rattle.std.specs.Prelude.{IfSome, MatchOption}
-use Rattle.std.specs.List.{flat_map, list_any}
+use Rattle.std.specs.List.{flat_map, list_any, list_all}
 use Rattle.std.specs.Str.{bytes_eq}
 use Rattle.std.proofs.lemmas.Bool.{and_parts}
 use Rattle.std.proofs.lemmas.Grind.{common_steps}
 use Rattle.std.proofs.lemmas.List.{length-take, take-append-drop}
-use Rattle.langtag_scan.specs.Case.{Alike, are_alike}
+use Rattle.langtag_scan.specs.Case.{Alike, are_alike, fold_byte}
 use Rattle.langtag_scan.specs.CaseLaws.{are_alike-decides}
-use Rattle.langtag_scan.specs.Class.{is_region, is_script}
+use Rattle.langtag_scan.specs.Class.{is_region, is_script, is_letter, is_digit, is_primary}
 use Rattle.langtag_scan.specs.Record.{EachRecord, Extension, IsWellFormed, PrivateUse, Record, Spells, extension_flat, flat, one_flat, private_part_flat, spell}
 use Rattle.langtag_scan.specs.Tag.{IsNormal}
 use Rattle.langtag_scan.proofs.AlikeClasses.{alike_primary}
@@ -20,15 +21,18 @@ use Rattle.langtag.specs.Fields.{Fields}
 use Rattle.langtag.proofs.Alike.{alike_is}
 use Rattle.langtag_likely.specs.Likely.{likely_for, or_else}
 use Rattle.langtag_likely.specs.LikelySubtags.{likely_subtags}
-use Rattle.langtag_parent.specs.Parent.{IsParent, fields_text, is_base, is_empty, is_likely_script, likely_of, other_script, parent_in_script, parent_of, parent_of_region, parent_of_script, plain_parent, stated_or, unless_alike, usual_parent, without_last_variant}
-use Rattle.langtag_parent.specs.ParentLaws.{AddsNothing, IsInOneScript, IsKeptOrListed, IsListed, IsWrittenAs, script_of}
+use Rattle.langtag_parent.specs.Parent.{IsParent, fields_text, is_base, is_empty, is_likely_script, likely_of, other_script, parent_in_script, parent_of, parent_of_region, parent_of_script, plain_parent, stated_or, unless_alike, usual_parent, without_last_variant, stated}
+use Rattle.langtag_parent.specs.ParentLaws.{AddsNothing, IsInOneScript, IsKeptOrListed, IsListed, IsWrittenAs, script_of, EndsWithin}
 use Rattle.langtag_parent.specs.ParentLocales.{parent_locales}
 use Rattle.langtag_parent.specs.Plain.{IsPlain}
 use Rattle.langtag_parent.specs.Rows.{row_for}
-use Rattle.langtag_parent.proofs.Cuts.{base_parts, empty-nil, region_well, script_well, variant_well}
-use Rattle.langtag_parent.proofs.ListedTags.{record_of, simple_spelled}
-use Rattle.langtag_parent.proofs.ListedParents.{listed_parent, parents}
-use Rattle.langtag_parent.proofs.OtherScript.{Stands, in_region, listed, other_stands, region_two, scripted}
+use Rattle.langtag_parent.proofs.Cuts.{base_parts, empty-nil, region_well, script_well, variant_well, plain_is}
+use Rattle.langtag_parent.proofs.OtherScript.{record_of, simple_spelled, Stands, in_region, listed, other_stands, region_two, scripted, is_simple, simple_record}
+use Rattle.langtag_parent.proofs.ListedParents.{listed_parent, parents, is_one, no_other_script}
+use Rattle.std.specs.Option.{option_map_or}
+use Rattle.std.specs.Cmp.Lexicographic.{bytes_decides}
+use Rattle.langtag_scan.specs.Subtags.{subtags}
+use Rattle.langtag_scan.proofs.SpelledTexts.{subtags-spelled}
 
 -- ---- how a parent comes about
 
@@ -71,11 +75,8 @@ variants-fewer vs some = grind (arith, length-take)
 same_script : (r q : Record) → script_of r ≡ script_of q → IsWrittenAs r q
 same_script r q same = grind arith
 
-none_alone : (o alone : Option Fields) → or_else o (or_else alone (or_else o alone)) ≡ None → or_else alone (or_else alone (or_else alone alone)) ≡ None
-none_alone o alone none = grind arith
-
 likely_none : (p : List ℕ) (es : List (List ℕ)) (region : List ℕ) → likely_of p es region ≡ None → likely_of p es [] ≡ None
-likely_none p [] region none = none_alone (likely_for likely_subtags (in_region p region)) (likely_for likely_subtags (in_region p [])) none
+likely_none p [] region none = grind arith
 likely_none p (e ∷ es) region none = refl
 
 abbrev script_in : Option Fields → Option (List ℕ)
@@ -88,60 +89,40 @@ unless_written here alone none is = grind (arith, are_alike-decides)
 
 -- ---- a tag with extensions, private use or variants
 
+-- a parent that has fewer subtags
+shorter : (r q : Record) (parent : List ℕ) → IsWellFormed q → spell q ≡ parent → IsWrittenAs r q → AddsNothing r q → length (flat q) < length (flat r) → Step r parent
+shorter r q parent well is written kept fewer = record { q = q; spells = (well, is); written = written; way = inr (inr (record { kept = kept; fewer = fewer })) }
+
 base_step : (r : Record) (parent : List ℕ) → IsWellFormed r → is_base r ≡ false → spell (base_record r) ≡ parent → Step r parent
-base_step r parent well other is = record {
-  q = base_record r;
-  spells = (grind (arith, common_steps), is);
-  written = same_script r (base_record r) refl;
-  way = inr (inr (record {
-    kept = record { language = refl; extended = refl; region = inr refl; variants = ([], append-nil r.variants); extensions = refl; private_use = refl };
-    fewer = omega (arith, flat-length r, flat-length (base_record r), others-some r.extensions r.private_use other);
-  }));
-}
+base_step r parent well other is =
+    shorter r (base_record r) parent (grind (arith, common_steps)) is (same_script r (base_record r) refl)
+    (record { language = refl; extended = refl; region = inr refl; variants = ([], append-nil r.variants); extensions = refl; private_use = refl })
+    (omega (arith, flat-length r, flat-length (base_record r), others-some r.extensions r.private_use other))
 
 variant_step :
     (r : Record) (parent : List ℕ) → IsWellFormed r → (r.extensions ≡ []) × (r.private_use ≡ None) → is_empty r.variants ≡ false →
     spell (without_last_variant r) ≡ parent → Step r parent
-variant_step r parent well base some is = record {
-  q = without_last_variant r;
-  spells = (variant_well r well, is);
-  written = same_script r (without_last_variant r) refl;
-  way = inr (inr (record {
-    kept = record {
-      language = refl;
-      extended = refl;
-      region = inr refl;
-      variants = (drop (length r.variants - 1) r.variants, take-append-drop (length r.variants - 1) r.variants);
-      extensions = base.0;
-      private_use = base.1;
-    };
-    fewer = omega (arith, flat-length r, flat-length (without_last_variant r), variants-fewer r.variants some);
-  }));
-}
+variant_step r parent well base some is =
+    let cut = take-append-drop (length r.variants - 1) r.variants in
+    shorter r (without_last_variant r) parent (variant_well r well) is (same_script r (without_last_variant r) refl)
+    (record { language = refl; extended = refl; region = inr refl; variants = (drop (length r.variants - 1) r.variants, cut); extensions = base.0; private_use = base.1 })
+    (omega (arith, flat-length r, flat-length (without_last_variant r), variants-fewer r.variants some))
 
 -- ---- a language with its script and its region
 
 kept_plain : (r q : Record) → IsPlain r → Alike q.primary r.primary → q.extended ≡ r.extended → q.region ≡ None → q.variants ≡ [] → q.extensions ≡ [] → q.private_use ≡ None → AddsNothing r q
 kept_plain r q plain language extended region variants extensions private_use = grind (arith, common_steps, append-nil)
 
+region_written : (r : Record) (region : List ℕ) → r.region ≡ Some region → other_script r region ≡ None → IsWrittenAs r (with_region r None)
+region_written r region there none = grind (arith, common_steps, unless_written, likely_none)
+
 region_step :
     (r : Record) (region parent : List ℕ) → IsWellFormed r → IsPlain r → r.region ≡ Some region → other_script r region ≡ None →
     spell (with_region r None) ≡ parent → Step r parent
-region_step r region parent well plain there none is = record {
-  q = with_region r None;
-  spells = (region_well r well, is);
-  written = by_option r.script refl;
-  way = inr (inr (record {
-    kept = kept_plain r (with_region r None) plain refl refl refl plain.variants plain.extensions plain.private_use;
-    fewer = omega (arith, flat-length r, flat-length (with_region r None), ap (λ o. length (one_flat o)) there);
-  }));
-}
-  where
-    by_option : (o : Option (List ℕ)) → r.script ≡ o → IsWrittenAs r (with_region r None)
-    by_option (Some own) same = rw same refl
-    by_option None same =
-        let unless : unless_alike (likely_of r.primary r.extended region) (likely_of r.primary r.extended []) ≡ None = sym (rw same refl) ∙ none in
-        rw (same, there) (unless_written (likely_of r.primary r.extended region) (likely_of r.primary r.extended []) (likely_none r.primary r.extended region) unless)
+region_step r region parent well plain there none is =
+    shorter r (with_region r None) parent (region_well r well) is (region_written r region there none)
+    (kept_plain r (with_region r None) plain refl refl refl plain.variants plain.extensions plain.private_use)
+    (omega (arith, flat-length r, flat-length (with_region r None), ap (λ o. length (one_flat o)) there))
 
 likely_written : (own : List ℕ) (o : Option Fields) → is_likely_script own o ≡ true → IfSome (option_map (λ f. f.script) o) (λ script. Alike own script)
 likely_written own o is = grind (arith, alike_is)
@@ -149,15 +130,10 @@ likely_written own o is = grind (arith, alike_is)
 script_step :
     (r : Record) (own parent : List ℕ) → IsWellFormed r → IsPlain r → r.region ≡ None → r.script ≡ Some own →
     is_likely_script own (likely_of r.primary r.extended []) ≡ true → spell (with_script r None) ≡ parent → Step r parent
-script_step r own parent well plain none there likely is = record {
-  q = with_script r None;
-  spells = (script_well r well, is);
-  written = rw (none, there) (likely_written own (likely_of r.primary r.extended []) likely);
-  way = inr (inr (record {
-    kept = kept_plain r (with_script r None) plain refl refl none plain.variants plain.extensions plain.private_use;
-    fewer = omega (arith, flat-length r, flat-length (with_script r None), ap (λ o. length (one_flat o)) there);
-  }));
-}
+script_step r own parent well plain none there likely is =
+    shorter r (with_script r None) parent (script_well r well) is (rw (none, there) (likely_written own (likely_of r.primary r.extended []) likely))
+    (kept_plain r (with_script r None) plain refl refl none plain.variants plain.extensions plain.private_use)
+    (omega (arith, flat-length r, flat-length (with_script r None), ap (λ o. length (one_flat o)) there))
 
 listed_step : (r s : Record) (text parent : List ℕ) → Spells s text → script_of s ≡ script_of r → 0 < length parent → row_for parent_locales text ≡ Some parent → Step r parent
 listed_step r s text parent spells same some row =
@@ -222,18 +198,11 @@ table_step r region parent here well plain none there is made =
 
 -- ---- any tag
 
-pub some_or : {A : Type 0} (o : Option A) → (o ≡ None) ⊎ ((a : A) × (o ≡ Some a))
-some_or None = inl refl
-some_or (Some a) = inr (a, refl)
-
-in_region_step : (r : Record) (region parent : List ℕ) → IsWellFormed r → IsPlain r → r.region ≡ Some region → parent_of_region r region ≡ Some parent → Step r parent
-in_region_step r region parent well plain there is = grind (arith, region_step r region parent, table_step r region parent)
-
 of_script_step : (r : Record) (own parent : List ℕ) → IsWellFormed r → IsPlain r → r.region ≡ None → r.script ≡ Some own → parent_of_script r own ≡ Some parent → Step r parent
 of_script_step r own parent well plain none there is = grind (arith, script_step r own parent)
 
 usual_step : (r : Record) (parent : List ℕ) → IsWellFormed r → IsPlain r → usual_parent r ≡ Some parent → Step r parent
-usual_step r parent well plain is = grind (arith, in_region_step r, of_script_step r)
+usual_step r parent well plain is = grind (arith, region_step, table_step, of_script_step r)
 
 plain_step : (r : Record) (parent : List ℕ) → IsWellFormed r → IsPlain r → plain_parent r ≡ Some parent → Step r parent
 unfolding plain_parent
@@ -280,3 +249,97 @@ kept_or_listed tag parent is =
       | inr (inl table) ↦ inr (each AddsNothing tag parent it.r it.step.q it.spells it.step.spells table.kept)
       | inr (inr cut) ↦ inr (each AddsNothing tag parent it.r it.step.q it.spells it.step.spells cut.kept)
     ]
+
+-- ---- the chain of a text that is known, without a look at the likely subtags
+
+-- the parent if the script goes, too
+abbrev cut : Record → Option (List ℕ)
+cut r = option_map_or (λ region. Some (spell (with_region r None))) r.region (option_map_or (λ script. Some (spell (with_script r None))) r.script None)
+
+abbrev next_text : List ℕ → Option (List ℕ)
+next_text text = option_map_or stated (row_for parent_locales text) (cut (record_of text))
+
+-- it is known that the language is written in the same script in its region
+abbrev is_safe : Record → Bool
+is_safe r = is_none r.region || (not (is_none r.script) || is_one r.primary)
+
+abbrev ends_in : ℕ → List ℕ → Bool
+ends_in zero text = false
+ends_in (suc most) text = (is_simple text && is_safe (record_of text)) && option_map_or (ends_in most) (next_text text) true
+
+parents_end : list_all (ends_in 3) parents ≡ true
+unfolding parent_locales row_for fold_byte is_primary is_script is_region is_letter is_digit
+parents_end = refl
+
+scripted_end : list_all (ends_in 2) scripted ≡ true
+unfolding parent_locales row_for fold_byte is_primary is_script is_region is_letter is_digit
+scripted_end = refl
+
+region_safe : (r : Record) (region : List ℕ) → r.extended ≡ [] → r.region ≡ Some region → is_safe r ≡ true → other_script r region ≡ None
+region_safe r region alone there safe = grind (arith, no_other_script)
+
+script_cut : (r : Record) (own parent : List ℕ) → r.region ≡ None → r.script ≡ Some own → parent_of_script r own ≡ Some parent → cut r ≡ Some parent
+script_cut r own parent none there is = grind arith
+
+region_cut : (r : Record) (region parent : List ℕ) → r.extended ≡ [] → is_safe r ≡ true → r.region ≡ Some region → parent_of_region r region ≡ Some parent → cut r ≡ Some parent
+region_cut r region parent alone safe there is = grind (arith, region_safe)
+
+next_parent : (text parent : List ℕ) → is_simple text ≡ true → is_safe (record_of text) ≡ true → plain_parent (record_of text) ≡ Some parent → next_text text ≡ Some parent
+unfolding plain_parent
+next_parent text parent simple safe is = grind (arith, region_safe, simple_record text, simple_spelled text)
+
+next_ends : (most : ℕ) (o : Option (List ℕ)) (parent : List ℕ) → o ≡ Some parent → option_map_or (ends_in most) o true ≡ true → ends_in most parent ≡ true
+next_ends most o parent is h = grind arith
+
+ends_computed : (most : ℕ) (text : List ℕ) → ends_in most text ≡ true → EndsWithin most text
+ends_computed zero text h = absurd cc
+ends_computed (suc most) text h = λ parent is.
+    let k = and_parts (is_simple text && is_safe (record_of text)) (option_map_or (ends_in most) (next_text text) true) h in
+    let m = and_parts (is_simple text) (is_safe (record_of text)) k.0 in
+    let it = simple_record text in
+    let plain : IsPlain (record_of text) = record { variants = it.variants; extensions = it.extensions; private_use = it.private_use } in
+    let of_record : plain_parent (record_of text) ≡ Some parent = plain_is (record_of text) (plain_parent (record_of text)) plain refl ∙ sym (is.part (record_of text) (simple_spelled text m.0)) in
+    ends_computed most parent (next_ends most (next_text text) parent (next_parent text parent m.0 m.1 of_record) k.1)
+
+-- ---- any chain
+
+-- a greater bound holds, too
+longer : (most : ℕ) (text : List ℕ) → EndsWithin most text → EndsWithin (suc most) text
+longer zero text ends = absurd ends
+longer (suc most) text ends = λ parent is. longer most parent (ends parent is)
+
+known_at : (p : List ℕ → Bool) (text : List ℕ) (list : List (List ℕ)) → list_all p list ≡ true → list_any (bytes_eq text) list ≡ true → p text ≡ true
+known_at p text [] all any = absurd cc
+known_at p text (other ∷ list) all any = grind (arith, and_parts, known_at p text list, bytes_decides text other)
+
+found_at : (p test : List ℕ → Bool) (text : List ℕ) (list : List (List ℕ)) → list_all p list ≡ true → find test list ≡ Some text → p text ≡ true
+found_at p test text [] all is = absurd cc
+found_at p test text (other ∷ list) all is = grind (arith, and_parts, found_at p test text list)
+
+at_least : (most more : ℕ) (text : List ℕ) → EndsWithin most text → EndsWithin (more + most) text
+at_least most zero text ends = let same : most ≡ zero + most = omega arith in subst (λ n. EndsWithin n text) same ends
+at_least most (suc more) text ends =
+    let same : suc (more + most) ≡ suc more + most = omega arith in
+    subst (λ n. EndsWithin n text) same (longer (more + most) text (at_least most more text ends))
+
+-- a tag of at most `count` subtags
+ends_within : (count : ℕ) (r : Record) (tag : List ℕ) → Spells r tag → length (flat r) ≤ count → EndsWithin (count + 3) tag
+ends_within zero r tag spells few = absurd (omega (arith, few))
+ends_within (suc count) r tag spells few =
+    let next : (parent : List ℕ) → IsParent tag (Some parent) → EndsWithin (count + 3) parent = λ parent is.
+    let it = step r parent spells.0 (sym (is.part r spells)) in
+    elim it.way [
+      | inl listed ↦ at_least 3 count parent (ends_computed 3 parent (known_at (ends_in 3) parent parents parents_end listed.known))
+      | inr (inl table) ↦ at_least 3 count parent (longer 2 parent (ends_computed 2 parent (found_at (ends_in 2) (λ tag. are_alike tag table.key) parent scripted scripted_end table.found)))
+      | inr (inr cut) ↦ ends_within count it.q parent it.spells (omega (arith, few, cut.fewer))
+    ] in
+    let whole : EndsWithin (suc (count + 3)) tag = next in
+    let same : suc (count + 3) ≡ suc count + 3 = omega arith in
+    subst (λ n. EndsWithin n tag) same whole
+
+pub chain_ends : (tag : List ℕ) → EndsWithin (length (subtags tag) + 3) tag
+unfolding IsNormal
+chain_ends tag = elim (normal_or_not tag) [
+  | inl normal ↦ subst (λ n. EndsWithin (n + 3) tag) (sym (ap length (subtags-spelled tag normal.0 normal.1))) (ends_within (length (flat normal.0)) normal.0 tag normal.1 (omega arith))
+  | inr never ↦ at_least 3 (length (subtags tag)) tag (λ parent is. let no : Some parent ≡ None = is.absent never in absurd cc)
+]

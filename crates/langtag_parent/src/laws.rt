@@ -7,7 +7,7 @@ ghost use Rattle.langtag_parent.specs.Parent.{IsParent};
 ghost use Rattle.langtag_parent.specs.ParentLaws.{EndsWithin, IsInOneScript, IsKeptOrListed};
 
 /// The chain of a tag ends: it has at most three members more than the tag has subtags.
-#[tactic(auto, using(crate::proofs::ChainEnds::chain_ends))]
+#[tactic(auto, using(crate::proofs::ParentSteps::chain_ends))]
 fn chain_ends()
     // law: a chain has at most three members more than the tag has subtags, so it ends
     ensures ends { (tag : List ℕ) → EndsWithin (length (subtags tag) + 3) tag }

@@ -10,7 +10,7 @@ use langtag::{LangTag, case_insensitive_eq};
 
 /// Returns the parent that CLDR states for a string, which is `Some(None)` if CLDR states that there is none. Returns
 /// `None` if CLDR states nothing.
-#[tactic(auto, using(crate::proofs::ListedTags::stated_tag))]
+#[tactic(auto, using(crate::proofs::ListedParents::stated_tag))]
 pub(crate) fn stated_parent(text: &[u8]) -> Option<Option<LangTag<'static>>>
     ensures { option_map (option_map lang_tag_text) result ≡ option_map stated (row_for parent_locales text.now) }
 {
@@ -37,7 +37,7 @@ fn row_for(rows: &'static [(&'static str, &'static str)], text: &[u8]) -> Option
     None
 }
 
-#[tactic(auto, using(crate::proofs::ListedTags::parents_listed))]
+#[tactic(auto, using(crate::proofs::OtherScript::parents_listed))]
 fn parent_locales() -> &'static [(&'static str, &'static str)]
     ensures { map (λ row. record { tag = row.0.now; parent = row.1.now }) result.now ≡ parent_locales }
 {

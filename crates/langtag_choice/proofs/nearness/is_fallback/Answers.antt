@@ -1,5 +1,5 @@
 use Rattle.std.proofs.Common.{sym, ◌∙◌}
-use Rattle.langtag_choice.proofs.ReadRanges.{tag_begins}
+use Rattle.langtag_choice.proofs.FarTags.{tag_begins}
 use Rattle.langtag_choice.proofs.nearness.is_fallback.Goals as goal
 
 pub returns-else-is_empty : goal.returns-else-is_empty

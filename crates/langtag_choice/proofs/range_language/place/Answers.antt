@@ -1,7 +1,7 @@
 use Rattle.std.proofs.Common.{Err, Ok, arith}
 use Rattle.std.proofs.lemmas.List.Sorted.{searched}
 use Rattle.langtag_tables.proofs.Rising.{climb_searched}
-use Rattle.langtag_choice.proofs.NearLanguages.{climbs_at}
+use Rattle.langtag_choice.proofs.MatchingTables.{climbs_at}
 use Rattle.langtag_choice.proofs.range_language.place.Goals as goal
 
 pub returns-in-Ok-clause-before : goal.returns-in-Ok-clause-before

@@ -1,6 +1,6 @@
 use Rattle.std.proofs.Common.{◌≡◌, ◌+◌, false, subst, arith}
 use Rattle.langtag_choice.specs.NearLanguages.{is_among_numbers}
-use Rattle.langtag_choice.proofs.NearLanguages.{absent_in_part}
+use Rattle.langtag_choice.proofs.MatchingTables.{absent_in_part}
 use Rattle.langtag_choice.proofs.range_language.rule_keys.Goals as goal
 
 pub returns : goal.returns

@@ -1,5 +1,5 @@
 use Rattle.std.proofs.Common.{sym, ◌∙◌}
-use Rattle.langtag_choice.proofs.ReadRanges.{range_begins}
+use Rattle.langtag_choice.proofs.FarTags.{range_begins}
 use Rattle.langtag_choice.proofs.read_range.begins.Goals as goal
 
 pub returns-then-is_empty : goal.returns-then-is_empty

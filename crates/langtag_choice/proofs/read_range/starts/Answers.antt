@@ -1,6 +1,6 @@
 use Rattle.std.proofs.Common.{◌∙◌}
 use Rattle.langtag_range.specs.Listed.{basic_text}
-use Rattle.langtag_choice.proofs.ReadRanges.{range_starts}
+use Rattle.langtag_choice.proofs.FarTags.{range_starts}
 use Rattle.langtag_choice.proofs.read_range.starts.Goals as goal
 
 pub returns : goal.returns

@@ -3,7 +3,7 @@ use Rattle.std.specs.Result.{result_ok}
 use Rattle.langtag_likely.specs.Texts.{field_texts}
 use Rattle.langtag_choice.proofs.MatchingTables.{language_found, language_long}
 use Rattle.langtag_likely.proofs.FieldClasses.{language_letters}
-use Rattle.langtag_likely.proofs.KeyNumbers.{index_searched}
+use Rattle.langtag_likely.proofs.TableRows.{index_searched}
 use Rattle.langtag_choice.proofs.rule_distance.language_distance.Goals as goal
 
 pub returns-then-max-gt3-clause-distance : goal.returns-then-max-gt3-clause-distance

@@ -4,7 +4,7 @@ use Rattle.langtag_likely.specs.Likely.{without_region}
 use Rattle.langtag_likely.specs.Texts.{field_texts}
 use Rattle.langtag_choice.proofs.MatchingTables.{script_found, script_long}
 use Rattle.langtag_likely.proofs.FieldClasses.{fields_plain}
-use Rattle.langtag_likely.proofs.KeyNumbers.{index_searched}
+use Rattle.langtag_likely.proofs.TableRows.{index_searched}
 use Rattle.langtag_choice.proofs.rule_distance.script_distance.Goals as goal
 
 pub returns-then-max-gt3-clause-distance : goal.returns-then-max-gt3-clause-distance

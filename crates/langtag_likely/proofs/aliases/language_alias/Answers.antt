@@ -4,10 +4,9 @@ use Rattle.langtag.specs.FieldClasses.{is_language_field, is_script_field, is_re
 use Rattle.langtag_likely.specs.Likely.{language_alone}
 use Rattle.langtag_likely.specs.Aliases.{language_aliases}
 use Rattle.langtag_likely.specs.Texts.{field_texts}
-use Rattle.langtag_likely.proofs.AliasTables.{alias_at, alias_found, aliases_listed}
-use Rattle.langtag_likely.proofs.KeyNumbers.{column_good, name_good, first_index-is, index_searched}
+use Rattle.langtag_likely.proofs.RowLaws.{alias_at, alias_found, aliases_listed}
+use Rattle.langtag_likely.proofs.TableRows.{column_good, name_good, first_index-is, index_searched, long_nowhere}
 use Rattle.langtag_likely.proofs.FieldClasses.{language_letters}
-use Rattle.langtag_likely.proofs.RowsFound.{long_nowhere}
 use Rattle.langtag_likely.proofs.aliases.language_alias.Goals as goal
 
 pub returns-then-fields-gt3 : goal.returns-then-fields-gt3

@@ -3,8 +3,8 @@ use Rattle.langtag_likely.specs.declared.alias_tables.TheConstants.{REGION_ALIAS
 use Rattle.langtag.specs.FieldClasses.{is_region_field}
 use Rattle.langtag_likely.specs.Aliases.{region_aliases}
 use Rattle.langtag_likely.specs.Texts.{field_texts}
-use Rattle.langtag_likely.proofs.AliasTables.{region_at, region_found, region_aliases_listed}
-use Rattle.langtag_likely.proofs.KeyNumbers.{name_good}
+use Rattle.langtag_likely.proofs.RowLaws.{region_at, region_found, region_aliases_listed}
+use Rattle.langtag_likely.proofs.TableRows.{name_good}
 use Rattle.langtag_likely.proofs.FieldClasses.{region_alphanumeric}
 use Rattle.langtag_likely.proofs.aliases.region_alias.Goals as goal
 

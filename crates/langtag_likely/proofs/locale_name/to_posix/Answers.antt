@@ -11,12 +11,6 @@ unreachable-requires c =
     c.in-Err.ensures.cases.0 (utf8_name (lang_tag_text c.args.tag) _
     (written_cut (λ name. IsPosixName (lang_tag_text c.args.tag) (Some name)) _ _ _ c.in-Some.ensures.written (omega (arith, few))))
 
-pub returns-clause-name : goal.returns-clause-name
-returns-clause-name c =
-    let few = c.in-Some.ensures.few in
-    subst (λ name. IsPosixName (lang_tag_text c.args.tag) (Some name)) (sym (c.in_ok-name-in-Ok.ensures.ok ∙ c.in-Ok.ensures.cases.0))
-    (written_cut (λ name. IsPosixName (lang_tag_text c.args.tag) (Some name)) _ _ _ c.in-Some.ensures.written (omega (arith, few)))
-
 pub returns-clause-read_back : goal.returns-clause-read_back
 returns-clause-read_back c =
     let few = c.in-Some.ensures.few in

@@ -7,8 +7,7 @@ use Rattle.langtag.specs.Form.{IsForm}
 use Rattle.langtag_likely.specs.Modifiers.{modifier_script, modifier_variant}
 use Rattle.langtag_likely.specs.Posix.{IsLocalePlace, modifier_of, posix_replaced, said_script, script_behind, with_said_script, with_said_variant}
 use Rattle.langtag.proofs.FormLaws.{rewritten}
-use Rattle.langtag_likely.proofs.PosixLaws.{form_composed, modifier_variant-fits, said_script-fits, script_or, script_well_formed, variant_of}
-use Rattle.langtag_likely.proofs.PosixVariantLaws.{posix_well_formed}
+use Rattle.langtag_likely.proofs.PosixLaws.{form_composed, modifier_variant-fits, said_script-fits, script_or, script_well_formed, variant_of, posix_well_formed}
 use Rattle.langtag_likely.proofs.posix.write_from_posix.Goals as goal
 use Rattle.langtag_likely.specs.PlatformNames.{read_place}
 

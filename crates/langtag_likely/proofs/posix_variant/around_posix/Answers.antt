@@ -7,7 +7,7 @@ use Rattle.langtag.specs.Text.{normal_lang_tag_text}
 use Rattle.langtag_scan.specs.Record.{Spells}
 use Rattle.langtag_scan.specs.Tag.{IsNormal}
 use Rattle.langtag_likely.specs.Posix.{IsAroundPosix, is_posix_alone}
-use Rattle.langtag_likely.proofs.PosixVariantLaws.{alone, extensions_stay, others_stay, posix_after, posix_around, variants_inside}
+use Rattle.langtag_likely.proofs.PosixLaws.{alone, extensions_stay, others_stay, posix_after, posix_around, variants_inside}
 use Rattle.langtag_likely.proofs.posix_variant.around_posix.Goals as goal
 
 pub returns-then-ends : goal.returns-then-ends

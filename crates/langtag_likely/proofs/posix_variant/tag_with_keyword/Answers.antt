@@ -2,7 +2,7 @@ use Rattle.std.proofs.Common.{◌≤◌, ◌∙◌, drop, length, refl, sym, ap,
 use Rattle.langtag.proofs.FormLaws.{kept_form, record_form}
 use Rattle.langtag_scan.specs.Tag.{IsNormal, IsTag}
 use Rattle.langtag_likely.specs.Posix.{posix_replaced}
-use Rattle.langtag_likely.proofs.PosixVariantLaws.{posix_tag, written_posix}
+use Rattle.langtag_likely.proofs.PosixLaws.{posix_tag, written_posix}
 use Rattle.langtag_likely.proofs.posix_variant.tag_with_keyword.Goals as goal
 
 pub returns-in_default-clause-form : goal.returns-in_default-clause-form

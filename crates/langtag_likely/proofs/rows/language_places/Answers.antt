@@ -1,16 +1,9 @@
 use Rattle.std.proofs.Common.{[], get_or, refl, ap, ◌∙◌, arith}
 use Rattle.langtag_likely.specs.declared.tables.TheConstants.{SCRIPT_NAMES, LANGUAGE_SCRIPTS, REGION_NAMES, LANGUAGE_REGIONS}
 use Rattle.langtag.specs.FieldClasses.{is_script_field, is_region_field}
-use Rattle.langtag_likely.proofs.KeyNumbers.{column_good}
+use Rattle.langtag_likely.proofs.TableRows.{column_good, language_count, rows_listed, scripts_good, regions_good}
 use Rattle.langtag_likely.proofs.RowLaws.{language_at}
-use Rattle.langtag_likely.proofs.TableRows.{language_count, rows_listed, scripts_good, regions_good}
 use Rattle.langtag_likely.proofs.rows.language_places.Goals as goal
-
-pub name_in-requires : goal.name_in-requires
-name_in-requires c = record { inside = omega (arith, c.requires, language_count); named = refl }
-
-pub name_in-requires-2 : goal.name_in-requires-2
-name_in-requires-2 c = record { inside = omega (arith, c.requires, language_count); named = refl }
 
 pub invariant_of-result : goal.invariant_of-result
 invariant_of-result c = record {

@@ -5,7 +5,7 @@ use Rattle.langtag_tables.specs.Numbers.{letter_number}
 use Rattle.langtag_likely.specs.LikelySubtags.{language_rows}
 use Rattle.langtag_likely.specs.Rows.{places_of}
 use Rattle.langtag_likely.specs.Texts.{field_texts}
-use Rattle.langtag_likely.proofs.KeyNumbers.{first_index-is}
+use Rattle.langtag_likely.proofs.TableRows.{first_index-is}
 use Rattle.langtag_likely.proofs.RowLaws.{language_found}
 use Rattle.langtag_likely.proofs.rows.language_row.Goals as goal
 

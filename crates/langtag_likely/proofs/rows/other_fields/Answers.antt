@@ -1,19 +1,9 @@
 use Rattle.std.proofs.Common.{[], get_or, refl, ap, ◌∙◌, arith}
 use Rattle.langtag_likely.specs.declared.tables.TheConstants.{LANGUAGE_NAMES, OTHER_LANGUAGES, SCRIPT_NAMES, OTHER_SCRIPTS, REGION_NAMES, OTHER_REGIONS}
 use Rattle.langtag.specs.FieldClasses.{is_language_field, is_script_field, is_region_field}
-use Rattle.langtag_likely.proofs.KeyNumbers.{column_good}
+use Rattle.langtag_likely.proofs.TableRows.{column_good, other_count, rows_listed, languages_good, scripts_good, regions_good}
 use Rattle.langtag_likely.proofs.RowLaws.{other_at}
-use Rattle.langtag_likely.proofs.TableRows.{other_count, rows_listed, languages_good, scripts_good, regions_good}
 use Rattle.langtag_likely.proofs.rows.other_fields.Goals as goal
-
-pub name_in-requires : goal.name_in-requires
-name_in-requires c = record { inside = omega (arith, c.requires, other_count); named = refl }
-
-pub name_in-requires-2 : goal.name_in-requires-2
-name_in-requires-2 c = record { inside = omega (arith, c.requires, other_count); named = refl }
-
-pub name_in-requires-3 : goal.name_in-requires-3
-name_in-requires-3 c = record { inside = omega (arith, c.requires, other_count); named = refl }
 
 pub invariant_of-result : goal.invariant_of-result
 invariant_of-result c = record {

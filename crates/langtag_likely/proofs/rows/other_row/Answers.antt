@@ -1,7 +1,7 @@
 use Rattle.std.proofs.Common.{Some, ap, ◌∙◌, option_map}
 use Rattle.langtag_likely.specs.Texts.{field_texts}
 use Rattle.langtag_likely.proofs.FieldClasses.{fields_plain}
-use Rattle.langtag_likely.proofs.KeyNumbers.{index_searched}
+use Rattle.langtag_likely.proofs.TableRows.{index_searched}
 use Rattle.langtag_likely.proofs.RowLaws.{other_found}
 use Rattle.langtag_likely.proofs.rows.other_row.Goals as goal
 

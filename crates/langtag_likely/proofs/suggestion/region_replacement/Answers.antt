@@ -3,8 +3,8 @@ use Rattle.langtag_likely.specs.declared.alias_tables.TheConstants.{REPLACEMENT_
 use Rattle.langtag_likely.specs.Aliases.{region_replacements}
 use Rattle.langtag.specs.FieldClasses.{is_region_field}
 use Rattle.langtag_likely.specs.Texts.{field_texts}
-use Rattle.langtag_likely.proofs.AliasTables.{at_index, replacements_listed, replaced_region}
-use Rattle.langtag_likely.proofs.KeyNumbers.{name_good}
+use Rattle.langtag_likely.proofs.RowLaws.{at_index, replacements_listed, replaced_region}
+use Rattle.langtag_likely.proofs.TableRows.{name_good}
 use Rattle.langtag_likely.proofs.FieldClasses.{region_alphanumeric}
 use Rattle.langtag_likely.proofs.suggestion.region_replacement.Goals as goal
 

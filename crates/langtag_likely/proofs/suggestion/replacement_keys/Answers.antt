@@ -1,5 +1,5 @@
 use Rattle.std.proofs.Common.{refl}
-use Rattle.langtag_likely.proofs.AliasTables.{replacements_listed}
+use Rattle.langtag_likely.proofs.RowLaws.{replacements_listed}
 use Rattle.langtag_likely.proofs.suggestion.replacement_keys.Goals as goal
 
 pub returns : goal.returns

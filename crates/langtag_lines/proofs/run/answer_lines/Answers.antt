@@ -1,5 +1,4 @@
-use Rattle.langtag_lines.proofs.Lines.{lines_cut, one_cut}
-use Rattle.langtag_lines.proofs.OneReport.{one_report}
+use Rattle.langtag_lines.proofs.Written.{lines_cut, one_cut, one_report}
 use Rattle.langtag_lines.proofs.run.answer_lines.Goals as goal
 
 pub returns-clause-cut : goal.returns-clause-cut

@@ -1,6 +1,5 @@
 use Rattle.std.proofs.Common.{◌≡◌, ◌<◌, length, sym, arith}
-use Rattle.langtag_lines.proofs.Outcomes.{OnOk-by}
-use Rattle.langtag_lines.proofs.Written.{Answers-nil, Answers-same, Answers-kept, Answers-written, Answers-from_empty, last_line-some, last_line-none}
+use Rattle.langtag_lines.proofs.Written.{OnOk-by, Answers-nil, Answers-same, Answers-kept, Answers-written, Answers-from_empty, last_line-some, last_line-none}
 use Rattle.langtag_lines.proofs.run.finish.Goals as goal
 use Rattle.langtag_lines.proofs.run.finish.Goals.{then-not-is_empty+in_ok-answer+in_ok-write_out, else-not-is_empty}
 

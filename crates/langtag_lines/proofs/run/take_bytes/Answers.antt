@@ -2,10 +2,8 @@ use Rattle.std.proofs.Common.{arith, ◌≡◌, ◌∙◌, ◌+◌, None, [], �
 use Rattle.std.proofs.lemmas.Result.{err_from_is_err_and, on_ok_weaker}
 use Rattle.std.specs.List.{position}
 use Rattle.std.proofs.lemmas.Grind.{common_steps}
-use Rattle.langtag_lines.proofs.Outcomes.{OnOk-by}
+use Rattle.langtag_lines.proofs.Written.{OnOk-by, complete_lines-free, rest_of-free_text, first_line, no_line, free_rest, rest_more, written_more, written_before, Answers-nil, Answers-same, Answers-held, Answers-empty, Answers-written, ends_line, leaves_line}
 use Rattle.langtag_lines.specs.Lines.{is_line_feed, complete_lines, rest_of, ended}
-use Rattle.langtag_lines.proofs.Lines.{complete_lines-free, rest_of-free_text, first_line, no_line}
-use Rattle.langtag_lines.proofs.Written.{free_rest, rest_more, written_more, written_before, Answers-nil, Answers-same, Answers-held, Answers-empty, Answers-written, ends_line, leaves_line}
 use Rattle.langtag_lines.proofs.run.take_bytes.Goals as goal
 
 pub loop-len-init : goal.loop-len-init

@@ -1,5 +1,5 @@
 use Rattle.std.proofs.Common.{length}
-use Rattle.langtag_match.proofs.Elements.{IsReadTo}
+use Rattle.langtag_match.proofs.Readings.{IsReadTo}
 use Rattle.langtag_match.proofs.accept_language.elements.Given as goal
 
 abbrev pub invariant-loop-left : goal.invariant-loop-left

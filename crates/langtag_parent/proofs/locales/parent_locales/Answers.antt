@@ -1,4 +1,4 @@
-use Rattle.langtag_parent.proofs.ListedTags.{parents_listed}
+use Rattle.langtag_parent.proofs.OtherScript.{parents_listed}
 use Rattle.langtag_parent.proofs.locales.parent_locales.Goals as goal
 
 pub returns : goal.returns

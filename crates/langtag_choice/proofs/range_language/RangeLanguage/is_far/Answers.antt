@@ -1,6 +1,6 @@
 use Rattle.std.proofs.Common.{sym, ◌∙◌}
 use Rattle.std.proofs.lemmas.Bool.{not-true}
-use Rattle.langtag_choice.proofs.NearLanguages.{far_without_rule}
+use Rattle.langtag_choice.proofs.MatchingTables.{far_without_rule}
 use Rattle.langtag_choice.proofs.range_language.RangeLanguage.is_far.Goals as goal
 
 pub returns-then-other-self : goal.returns-then-other-self
