@@ -20,7 +20,7 @@ NUMBERS = [
 ]
 
 # The file with the registry's date, and the files that get the date from the library and so must not have a copy of it.
-DATED = "crates/langtag_registry/src/tables.rt"
+DATED = "crates/langtag_fields/src/tables.rt"
 UNDATED = ["crates/langtag_c/src", "crates/langtag_span/src", "rows", "bindings/include", "bindings/python/langtag", "bindings/python/native"]
 
 

@@ -25,9 +25,9 @@ from records import TAG_TYPES, Refused, Registry
 ROOT = pathlib.Path(__file__).resolve().parent.parent
 REGISTRY = "registry/language-subtag-registry"
 CHECKSUM = "registry/language-subtag-registry.sha256"
-TABLES = "crates/langtag_registry/src/tables.rt"
-LISTS = "crates/langtag_registry/specs/Subtags.antt"
-PROOFS = "crates/langtag_registry/proofs"
+TABLES = "crates/langtag_fields/src/tables.rt"
+LISTS = "crates/langtag_fields/specs/Subtags.antt"
+PROOFS = "crates/langtag_fields/proofs"
 MODULE = "bindings/postgresql/registry_date.mk"
 
 # The lists: the Types of their records.
@@ -154,7 +154,7 @@ def entry_list(name, doc, pairs):
 def lists(registry):
     out = [f"-- The registry (RFC 5646 section 3.1). Written by registry/generate.py from the registry of {registry.date}. Do not edit.\n"
            "use Rattle.std.specs.Prelude.{ℕ, List, [], ◌∷◌, codes}\nuse Rattle.std.specs.List.{flat_map}\n"
-           "use Rattle.langtag_tables.specs.Words.{words}\nuse Rattle.langtag_registry.specs.Entry.{Entry, entries}\n"]
+           "use Rattle.langtag_tables.specs.Words.{words}\nuse Rattle.langtag_fields.specs.Entry.{Entry, entries}\n"]
     for kind in SUBTAGS:
         out.append(text_list(f"{kind}_subtags", f"the Subtag fields of the records of Type {kind}, ranges written out", subtags(registry, kind)))
     for kind in DEPRECATED:

@@ -1,5 +1,4 @@
-"""Writes the pages of langtag_registry that are proved only by computation: each table has the content of the list with the same
-name."""
+"""Writes the page of langtag_fields that is proved only by computation: each table has the content of the list with the same name."""
 from __future__ import annotations
 
 NOTE = "Written by registry/generate.py. Do not edit."
@@ -31,35 +30,23 @@ def lemma(name: str, statement: str, unfolding: str = "", proof: str = "refl", g
 
 ARE_KEYS = "record { numbers = refl; climb = refl; plain = refl }"
 
-KEY_HEAD = """-- The tables of numbers are those of the lists of subtags: by computation. {note}
-use Rattle.std.proofs.Common.{{◌≡◌, map, refl}}
-use Rattle.langtag_scan.specs.Case.{{fold_byte, folded_number}}
-use Rattle.langtag_scan.specs.Class.{{is_letter, is_digit}}
-use Rattle.langtag_registry.specs.declared.tables.TheConstants as table
-use Rattle.langtag_registry.specs.Subtags as list
-use Rattle.langtag_registry.specs.Tables.{{AreKeysOf}}"""
+HEAD = f"""-- The tables have what the lists say: by computation. {NOTE}
+use Rattle.langtag_scan.proofs.Prelude.{{◌≡◌, ℕ, true, List, Some, map, refl, list_all}}
+use Rattle.langtag_scan.proofs.Grammar.{{fold_byte, folded_number, is_letter, is_digit, is_primary, is_script, is_region, is_variant, are_alphanumeric}}
+use Rattle.langtag_fields.specs.declared.tables.TheConstants as table
+use Rattle.langtag_fields.specs.Fields as field
+use Rattle.langtag_fields.specs.Subtags as list
+use Rattle.langtag_fields.specs.Tables.{{AreKeysOf, IsTableOf, AreEndsOf, end_number}}
+use Rattle.langtag_fields.proofs.Values.{{value_good}}"""
 
 
-def key_tables() -> str:
-    return "\n\n".join([KEY_HEAD.format(note=NOTE),
-        *(lemma(name, f"AreKeysOf table.{keys} list.{items}", f"list.{items} {PLAIN}", ARE_KEYS) for name, keys, items in KEYS),
-        lemma("deprecated_tag_texts", "map (λ text. text.now) table.DEPRECATED_TAGS ≡ list.deprecated_tags", "list.deprecated_tags")]) + "\n"
+def key_tables() -> list[str]:
+    return [*(lemma(name, f"AreKeysOf table.{keys} list.{items}", f"list.{items} {PLAIN}", ARE_KEYS) for name, keys, items in KEYS),
+            lemma("deprecated_tag_texts", "map (λ text. text.now) table.DEPRECATED_TAGS ≡ list.deprecated_tags", "list.deprecated_tags")]
 
 
-FIELD_HEAD = """-- The tables of fields have what the lists say: by computation. {note}
-use Rattle.std.proofs.Common.{{◌≡◌, ℕ, true, List, Some, map, refl}}
-use Rattle.std.specs.List.{{list_all}}
-use Rattle.langtag_scan.specs.Case.{{fold_byte, folded_number}}
-use Rattle.langtag_scan.specs.Class.{{is_letter, is_digit, is_primary, is_script, is_region, is_variant}}
-use Rattle.langtag_registry.specs.declared.tables.TheConstants as table
-use Rattle.langtag_registry.specs.Fields as field
-use Rattle.langtag_registry.specs.Subtags as list
-use Rattle.langtag_registry.specs.Tables.{{IsTableOf, AreEndsOf, end_number}}
-use Rattle.langtag_registry.proofs.Values.{{value_good}}"""
-
-
-def field_tables() -> str:
-    blocks = [FIELD_HEAD.format(note=NOTE)]
+def field_tables() -> list[str]:
+    blocks = []
     for name, field, items, table, test in FIELDS:
         blocks += [lemma(f"{name}_table", f"IsTableOf table.{table}_KEYS (map (λ text. text.now) table.{table}_VALUES) list.{items}", f"list.{items} {PLAIN}", f"record {{ numbers = {ARE_KEYS}; beside = refl }}"),
                    lemma(f"{name}_values", f"list_all {test} (map (λ e. e.value) list.{items}) ≡ true", f"list.{items} {CLASS[test]}"),
@@ -67,26 +54,16 @@ def field_tables() -> str:
                          f"value_good {test} list.{items} text new {name}_values is", " text new is")]
     entries = "map (λ pair. record { subtag = pair.0.now; value = pair.1.now }) table.PREFERRED_TAGS ≡ list.tag_preferred"
     ends = lemma("tag_ends", "AreEndsOf table.PREFERRED_TAG_KEYS (map (λ pair. pair.0.now) table.PREFERRED_TAGS)", "end_number folded_number fold_byte", "record { numbers = refl; climb = refl }")
-    return "\n\n".join([*blocks, lemma("tag_entries", entries, "list.tag_preferred"), ends]) + "\n"
+    return [*blocks, lemma("tag_entries", entries, "list.tag_preferred"), ends]
 
 
-PREFIX_HEAD = """-- The table of the variants' prefixes has what the list says: by computation. {note}
-use Rattle.std.proofs.Common.{{◌≡◌, true, map, refl}}
-use Rattle.std.specs.List.{{list_all}}
-use Rattle.langtag_scan.specs.Case.{{fold_byte, folded_number}}
-use Rattle.langtag_scan.specs.Class.{{is_letter, is_digit, are_alphanumeric}}
-use Rattle.langtag_registry.specs.declared.tables.TheConstants.{{VARIANT_PREFIXES}}
-use Rattle.langtag_registry.specs.Subtags.{{variant_prefixes}}"""
-
-
-def prefix_tables() -> str:
-    items = "variant_prefixes"
-    return "\n\n".join([
-        PREFIX_HEAD.format(note=NOTE),
-        lemma("prefix_numbers", f"map (λ pair. pair.0) VARIANT_PREFIXES ≡ map (λ e. folded_number e.subtag) {items}", f"{items} folded_number fold_byte"),
-        lemma("prefix_texts", f"map (λ pair. pair.1.now) VARIANT_PREFIXES ≡ map (λ e. e.value) {items}", items),
+def prefix_tables() -> list[str]:
+    items, table = "list.variant_prefixes", "table.VARIANT_PREFIXES"
+    return [
+        lemma("prefix_numbers", f"map (λ pair. pair.0) {table} ≡ map (λ e. folded_number e.subtag) {items}", f"{items} folded_number fold_byte"),
+        lemma("prefix_texts", f"map (λ pair. pair.1.now) {table} ≡ map (λ e. e.value) {items}", items),
         lemma("prefixed_alphanumeric", f"list_all (λ e. are_alphanumeric e.subtag) {items} ≡ true", f"{items} is_letter is_digit"),
-    ]) + "\n"
+    ]
 
 
-PAGES = {"KeyTables": key_tables, "FieldTables": field_tables, "PrefixTables": prefix_tables}
+PAGES = {"FieldTables": lambda: "\n\n".join([HEAD, *key_tables(), *field_tables(), *prefix_tables()]) + "\n"}

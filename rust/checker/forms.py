@@ -16,6 +16,7 @@ CRATES = {
     "langtag": "tag",
     "langtag_range": "range",
     "langtag_match": "matching",
+    "langtag_fields": "fields",
     "langtag_registry": "registry",
     "langtag_likely": "likely",
     "langtag_parent": "parent",

@@ -21,6 +21,7 @@ MODULES = [
     Module("langtag", "src/erased/tag", "crate::erased::tag"),
     Module("langtag_range", "src/erased/range", "crate::erased::range"),
     Module("langtag_match", "src/erased/matching", "crate::erased::matching"),
+    Module("langtag_fields", "src/erased/fields", "crate::erased::fields"),
     Module("langtag_registry", "src/erased/registry", "crate::erased::registry"),
     Module("langtag_likely", "src/erased/likely", "crate::erased::likely"),
     Module("langtag_parent", "src/erased/parent", "crate::erased::parent"),
@@ -40,10 +41,10 @@ PUBLIC = {"scan", "matching", "registry", "likely", "choice", "unicode"}
 # The crates whose public items users find in the module of another crate. For SHOWN_IN, the exports are added to that module. For
 # EXPORTED_BY, the other Rattle crate has them.
 SHOWN_IN = {"langtag_locale": "langtag_unicode", "langtag_parent": "langtag_likely"}
-EXPORTED_BY = {"langtag_keyword": "langtag_unicode", "langtag_case": "langtag_scan"}
+EXPORTED_BY = {"langtag_keyword": "langtag_unicode", "langtag_case": "langtag_scan", "langtag_fields": "langtag_registry"}
 
 # The crates whose modules need the feature `data`, and those of the C library. In a module of another crate every function is inlined.
-WITH_DATA = {"langtag_registry", "langtag_likely", "langtag_parent", "langtag_choice", "langtag_keyword", "langtag_unicode", "langtag_locale"}
+WITH_DATA = {"langtag_fields", "langtag_registry", "langtag_likely", "langtag_parent", "langtag_choice", "langtag_keyword", "langtag_unicode", "langtag_locale"}
 OF_C = {"langtag_span", "langtag_c"}
 
 

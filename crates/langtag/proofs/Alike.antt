@@ -1,8 +1,7 @@
 -- Texts and fields that are equal but for case.
 use Rattle.std.proofs.Common.{◌≡◌, ℕ, true, List, length, ap, sym, ◌∙◌, bytes_eq}
 use Rattle.langtag_scan.proofs.CaseLaw.{length-fold}
-use Rattle.langtag_scan.specs.Case.{Alike, are_alike, fold_text}
-use Rattle.langtag_scan.specs.CaseLaws.{are_alike-decides}
+use Rattle.langtag_scan.proofs.Grammar.{Alike, are_alike, fold_text, are_alike-decides}
 use Rattle.langtag.specs.Fields.{Fields}
 
 pub record AlikeFields (a b : Fields) : Type 0 where

@@ -1,13 +1,9 @@
 -- What a tag becomes if its record becomes another record: one form, which is a tag, and what is written of it.
-use Rattle.std.proofs.Common.{◌≡◌, ℕ, List, inl, inr, refl, sym, ap, subst, ◌∙◌, length, append-nil, arith}
-use Rattle.langtag_scan.specs.Record.{Record, Spells, IsWellFormed, spell}
-use Rattle.langtag_scan.specs.Tag.{IsNormal, IsTag}
+use Rattle.langtag_scan.proofs.Prelude.{◌≡◌, ℕ, List, inl, inr, refl, sym, ap, subst, ◌∙◌, length, append-nil, arith, drop_all}
+use Rattle.langtag_scan.proofs.Grammar.{Record, Spells, IsWellFormed, spell, IsNormal, IsTag, AlikeRecords, Alike, fold_text}
 use Rattle.langtag_scan.proofs.CaseLaw.{alike_normal, alike_parts, spelled_alike}
 use Rattle.langtag_scan.proofs.NormalTexts.{spelled_once, normal_or_not}
-use Rattle.langtag_scan.specs.AlikeRecords.{AlikeRecords}
-use Rattle.langtag_scan.specs.Case.{Alike, fold_text}
 use Rattle.langtag.specs.Form.{IsAlikeForm, IsForm}
-use Rattle.std.proofs.lemmas.List.{drop_all}
 use Rattle.langtag_output.specs.Writes.{Writes}
 
 -- what is written is also what follows from it

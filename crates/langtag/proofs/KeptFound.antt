@@ -1,15 +1,11 @@
--- What the finding that a tag keeps says of its text.
-use Rattle.std.proofs.Common.{◌≡◌, ◌↔◌, ℕ, ◌<◌, List, Some, IsTrue, sym, subst, arith}
-use Rattle.std.proofs.lemmas.Grind.{common_steps}
-use Rattle.langtag_scan.specs.Case.{Alike}
-use Rattle.langtag_scan.specs.Found.{IsFoundOf, is_normal, is_private_use, irregular_index}
-use Rattle.langtag_scan.specs.Tag.{IsNormal, IsPrivate, IsIrregularAt, IsIrregular, IsTag}
+-- What the finding that a tag keeps says of its text, and of each text that is alike.
+use Rattle.langtag_scan.proofs.Prelude.{◌≡◌, ◌↔◌, ℕ, ◌<◌, List, Some, IsTrue, sym, subst, arith, ◌∙◌, IsAscii, IsUtf8, common_steps}
+use Rattle.langtag_scan.proofs.Grammar.{Alike, IsFoundOf, is_normal, is_private_use, IsNormal, IsPrivate, IsIrregularAt, IsIrregular, IsTag, are_alike-decides, HasEnds}
+use Rattle.langtag_scan.specs.Found.{irregular_index}
 use Rattle.langtag_scan.specs.declared.finding.Finding.{Finding}
-use Rattle.langtag_scan.specs.CaseLaws.{are_alike-decides}
 use Rattle.langtag_scan.proofs.CaseLaw.{alike_parts, alike_normal, alike_private, alike_irregular}
 use Rattle.langtag_scan.proofs.FoundLaws.{tag_found, normal_found, private_found, found_had}
-use Rattle.langtag_scan.proofs.IrregularTexts.{irregular_fold}
-use Rattle.langtag_scan.proofs.OneKind.{normal_no_private, normal_no_irregular, private_no_irregular}
+use Rattle.langtag_scan.proofs.IrregularTexts.{irregular_fold, normal_no_private, normal_no_irregular, private_no_irregular}
 use Rattle.langtag_scan.proofs.SpelledTexts.{offsets_kept}
 use Rattle.langtag_private.proofs.Rules.{IsPrivate-from_test}
 use Rattle.langtag.specs.Kinds.{IsOfKind, AreOfOneKind}
@@ -17,6 +13,9 @@ use Rattle.langtag.specs.Recognised.{finding_of}
 use Rattle.langtag.specs.Typed.{IsTypedAs, kind_of_tag}
 use Rattle.langtag.specs.declared.recognised.Recognised.{Recognised}
 use Rattle.langtag.specs.declared.typed_lang_tag.TypedLangTag.{TypedLangTag}
+use Rattle.langtag_scan.specs.declared.ends.Ends.{Ends}
+use Rattle.langtag_scan.specs.declared.finding.Finding.TheVariants.{Normal, PrivateUse, Irregular}
+use Rattle.langtag_scan.proofs.Ascii.{IsAscii-tag, IsUtf8-tag}
 
 -- the text is a tag, of the kind that was found
 pub record TellsKind (text : List ℕ) (found : Finding) : Type 0 where
@@ -57,3 +56,27 @@ alike_kinds t u alike =
 
 -- what is so of a text that an equal text has
 pub ruleset alike_laws = (are_alike-decides, alike_kinds, alike_parts)
+
+-- ---- what was found of a tag holds of each text that is alike
+
+-- the kind with its ends, or its index
+pub found_alike : (t u : List ℕ) (found : Finding) → Alike t u → ∥ IsFoundOf t found ∥₁ → ∥ IsFoundOf u found ∥₁
+unfolding HasEnds
+found_alike t u found alike merely = ∣ by found (found_had t found merely) ∣₁
+  where
+    by : (found : Finding) → IsFoundOf t found → IsFoundOf u found
+    by (Normal ends) (r, spells, at) = let other = alike_parts t u alike r spells in (other.0, other.1, at ∙ other.3)
+    by PrivateUse h = alike_private t u alike h
+    by (Irregular k) h = alike_irregular k t u alike h
+
+-- the ends of the parts of a normal tag
+pub ends_alike : (t u : List ℕ) (ends : Ends) → Alike t u → ∥ HasEnds t ends ∥₁ → ∥ HasEnds u ends ∥₁
+ends_alike t u ends alike merely = found_alike t u (Normal ends) alike merely
+
+-- the bytes of a tag are UTF-8
+pub utf8_found : (text : List ℕ) (found : Finding) → IsFoundOf text found → IsUtf8 text
+utf8_found text found is = IsUtf8-tag text (tag_found text found is)
+
+-- the text of a tag is ASCII
+pub ascii_found : (text : List ℕ) (found : Finding) → ∥ IsFoundOf text found ∥₁ → IsAscii text
+ascii_found text found merely = IsAscii-tag text (found_kept text found merely).tag

@@ -1,15 +1,8 @@
-pub mod PartsFound
-pub mod PartRules
 pub mod EditLaws
-pub mod PartLaws
-mod SetBack
-pub mod RegisteredLaws
-pub mod KeptFound
-mod PartOfLaws
-pub mod OrderLaws
+pub mod PartRules
 pub mod SingletonRepeats
-pub mod AlikeFound
-pub mod IrregularTests
+pub mod KeptFound
+pub mod RegisteredLaws
 mod RefusalLaws
 pub mod Alike
 pub mod FieldClasses

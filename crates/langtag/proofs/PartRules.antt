@@ -1,21 +1,62 @@
--- What the accessors cut out of a normal text meets the rules of the types of parts.
-use Rattle.std.proofs.Common.{◌≡◌, ℕ, List, [], ◌∷◌, ◌++◌, ap, append_assoc, append-nil, flat_map, Option, Some, IsTrue, IfSome, take, unwrap_or, sym, ◌∙◌, subst, arith, option_map}
+-- What the accessors cut out of a normal text is the part of each record that spells it, and meets the rules of the types of parts.
+use Rattle.std.proofs.Common.{◌≡◌, ℕ, List, [], take, unwrap_or, ap, ◌∙◌, arith, ◌∷◌, ◌++◌, append_assoc, append-nil, flat_map, Option, Some, IsTrue, IfSome, sym, subst, option_map}
+use Rattle.langtag_scan.proofs.Grammar.{Record, EachRecord, IsWellFormed, spell, PrivateUse, IsWellFormedPrivateUse, Spells, extension_flat, one_flat, private_part_flat, private_use_flat, IsNormal, IsPrivate, HasEnds, ends_of, to_variants, language_part, variants_part, extensions_part, private_use_part, text_between, is_variant, is_script, is_region, subtags, join}
+use Rattle.langtag.specs.Part.{PartOf}
 use Rattle.std.proofs.lemmas.Grind.{common_steps}
-use Rattle.langtag_scan.specs.Class.{is_script, is_region}
-use Rattle.langtag_scan.specs.Ends.{HasEnds, ends_of, to_variants}
-use Rattle.langtag_scan.specs.Parts.{text_between}
-use Rattle.langtag_scan.specs.Record.{EachRecord, PrivateUse, Record, IsWellFormed, IsWellFormedPrivateUse, Spells, extension_flat, one_flat, private_part_flat, private_use_flat, spell}
-use Rattle.langtag_scan.specs.Subtags.{join}
-use Rattle.langtag_scan.specs.Tag.{IsPrivate}
 use Rattle.langtag_scan.specs.declared.ends.Ends.{Ends}
-use Rattle.langtag_language.specs.Language.{IsLanguage}
+use Rattle.langtag_scan.proofs.Joins.{unwrap_or-joined, take-join}
+use Rattle.langtag_scan.proofs.PartOffsets.{language_between, script_between, region_between, variants_between, extensions_between, private_use_between, ends_equal}
+use Rattle.langtag_scan.proofs.SpelledTexts.{ends_each, ends_had, offsets_kept}
+use Rattle.langtag_scan.proofs.SubtagFacts.{of_variant}
+use Rattle.langtag_scan.proofs.SubtagLists.{each_subtag, subtags-joined}
+use Rattle.langtag.specs.Offsets.{PartsStandIn}
+use Rattle.langtag_language.specs.Language.{IsLanguage, SpellsLanguage}
 use Rattle.langtag_place.specs.Variants.{IsVariants}
 use Rattle.langtag_extension.specs.Spelling.{IsExtensions}
-use Rattle.langtag_scan.proofs.Joins.{take-join}
-use Rattle.langtag_scan.proofs.PartOffsets.{ends_equal}
-use Rattle.langtag_scan.proofs.SpelledTexts.{ends_each, ends_had, offsets_kept}
 use Rattle.langtag.specs.Edit.{base_record}
-use Rattle.langtag.proofs.PartsFound.{language_found, script_found, region_found, variants_found, extensions_found, private_use_found}
+
+-- a normal tag has that of its record
+pub part_found : {A : Type 0} {text : List ℕ} {part_of : Record → A} {none answer : A} →
+    IsNormal text → EachRecord text (λ r. answer ≡ part_of r) → PartOf text part_of none answer
+part_found normal found = record { part = found; absent = λ other. absurd (other normal) }
+
+-- ---- what stands in a normal text between two of its ends is the part of each record that spells it
+
+-- each part of a record stands between its offsets in the spelling
+pub parts_stand : (r : Record) → PartsStandIn (spell r) r
+parts_stand r =
+    grind (arith, common_steps, language_between, script_between, region_between, variants_between, unwrap_or-joined, extensions_between, private_use_between)
+
+-- what stands between the ends that are kept, part by part
+pub language_found : (text : List ℕ) (ends : Ends) → HasEnds text ends → EachRecord text (λ r. take ends.language text ≡ language_part r)
+language_found text ends h r spells = rw (ends_each text ends h r spells, ← spells.1) (parts_stand r).language
+
+pub script_found : (text : List ℕ) (ends : Ends) → HasEnds text ends → EachRecord text (λ r. text_between text ends.language ends.script ≡ r.script)
+script_found text ends h r spells = rw (ends_each text ends h r spells, ← spells.1) (parts_stand r).script
+
+pub region_found : (text : List ℕ) (ends : Ends) → HasEnds text ends → EachRecord text (λ r. text_between text ends.script ends.region ≡ r.region)
+region_found text ends h r spells = rw (ends_each text ends h r spells, ← spells.1) (parts_stand r).region
+
+pub variants_found :
+    (text : List ℕ) (ends : Ends) → HasEnds text ends →
+    EachRecord text (λ r. unwrap_or (text_between text ends.region ends.variants) [] ≡ variants_part r)
+variants_found text ends h r spells = rw (ends_each text ends h r spells, ← spells.1) (parts_stand r).variants
+
+pub extensions_found :
+    (text : List ℕ) (ends : Ends) → HasEnds text ends →
+    EachRecord text (λ r. unwrap_or (text_between text ends.variants ends.extensions) [] ≡ extensions_part r)
+extensions_found text ends h r spells = rw (ends_each text ends h r spells, ← spells.1) (parts_stand r).extensions
+
+pub private_use_found :
+    (text : List ℕ) (ends : Ends) → HasEnds text ends →
+    EachRecord text (λ r. text_between text ends.extensions ends.whole ≡ private_use_part r)
+private_use_found text ends h r spells = rw (ends_each text ends h r spells, ← spells.1) (parts_stand r).private_use
+
+-- the variants of a record are the subtags of their part
+pub variants_listed : (r : Record) (text : List ℕ) → IsWellFormed r → text ≡ variants_part r → subtags text ≡ r.variants
+variants_listed r text well same = ap subtags same ∙ subtags-joined r.variants (each_subtag is_variant of_variant r.variants well.variants)
+
+-- ---- what the accessors cut out of a normal text meets the rules of the types of parts
 
 pub IsLanguage-cut : (text : List ℕ) (ends : Ends) → HasEnds text ends → IsLanguage (take ends.language text)
 unfolding HasEnds
@@ -101,3 +142,6 @@ pub ruleset extensions_rules = (IsExtensions-cut, extensions_found, ends_had, of
 pub ruleset private_use_rules = (IsPrivate-cut, private_use_found, ends_had, offsets_kept)
 
 pub ruleset base_rules = (base_kept, base_found, ends_had, offsets_kept)
+
+pub language_spelled : (r : Record) (text : List ℕ) → IsWellFormed r → text ≡ language_part r → SpellsLanguage r.primary r.extended text
+language_spelled r text well same = record { first = well.primary; others = well.extended; few = well.few; short = well.short; joined = sym same }

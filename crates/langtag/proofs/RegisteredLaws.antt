@@ -1,30 +1,54 @@
--- The variants of `GrandfatheredLangTag` and `GRANDFATHERED`, beside the table of registered tags.
-use Rattle.std.proofs.Common.{◌≡◌, ℕ, ◌<◌, ◌≤◌, Bool, true, false, cond, ltb, List, [], length, map, get_or, slice_get, Option, Some, None, refl, sym, ap, subst, ◌∙◌, arith, option_map, zero-add, bytes_eq}
-use Rattle.std.specs.List.{position, position_or_len, range_with_len}
-use Rattle.std.specs.Option.{option_map_or}
-use Rattle.std.proofs.lemmas.Bool.{lt-ltb, cases_lt, both_ways}
-use Rattle.std.proofs.lemmas.List.{get_or-map}
+-- The variants of `GrandfatheredLangTag` and `GRANDFATHERED`, their order, and the irregular tags, beside the table of registered tags.
+use Rattle.langtag_scan.proofs.Prelude.{◌≡◌, ◌↔◌, ℕ, true, Bool, IsTrue, List, [], length, take, slice_get, Some, ap, ◌∙◌, arith, ◌<◌, ◌≤◌, false, cond, ltb, map, get_or, Option, None, refl, sym, subst, option_map, ◌==◌, list_any, position, position_or_len, Any-from_list_any, list_any_at, slice_get_read, slice_get_within, get_or_from_slice_get, slice_get-get_or, slice_get-map, common_steps, option_map_or, lt-ltb, cases_lt, both_ways, get_or-map, position-Some, fails_before_first, Fits-of_lt}
+use Rattle.std.proofs.Common.{Decides, zero-add, bytes_eq, nat_cmp}
+use Rattle.std.specs.List.{range_with_len}
+use Rattle.langtag_scan.proofs.Grammar.{Alike, are_alike, fold_byte, fold_text, EndsFirst, case_cmp, are_alike-decides, irregular_texts, Grandfathered, grandfathered_tags, IsIrregular, IsIrregularAt, IsNormal, IsTag, IsIrregularPrefix, is_letter, is_primary, EachRecord, segments}
 use Rattle.std.proofs.lemmas.List.FromFn.{get_or-range_with_len}
-use Rattle.std.proofs.lemmas.List.Quantifiers.{position-Some}
-use Rattle.std.proofs.lemmas.List.Sums.{fails_before_first}
-use Rattle.std.proofs.lemmas.Option.{slice_get-get_or, slice_get-map, slice_get_within, get_or_from_slice_get}
-use Rattle.std.proofs.lemmas.Grind.{common_steps}
-use Rattle.langtag_scan.specs.Case.{fold_byte, fold_text, Alike, are_alike}
-use Rattle.langtag_scan.specs.CaseLaws.{are_alike-decides}
-use Rattle.langtag_scan.specs.Class.{is_letter, is_primary}
-use Rattle.langtag_scan.specs.Grandfathered.{Grandfathered, grandfathered_tags, irregular_texts}
-use Rattle.langtag_scan.specs.Record.{EachRecord}
-use Rattle.langtag_scan.specs.Subtags.{segments}
-use Rattle.langtag_scan.specs.Tag.{IsNormal, IsIrregular, IsIrregularAt, IsTag}
 use Rattle.langtag_scan.proofs.CaseLaw.{alike_tag}
 use Rattle.langtag_scan.proofs.NormalTexts.{spelled_segments}
-use Rattle.langtag_scan.proofs.OneKind.{normal_no_irregular}
-use Rattle.langtag_scan.proofs.RegisteredTags.{registered_tag}
+use Rattle.langtag_scan.proofs.IrregularTexts.{normal_no_irregular, registered_tag}
 use Rattle.langtag_language.specs.Language.{IsLanguage}
 use Rattle.langtag.specs.declared.grandfathered.GrandfatheredLangTag.{GrandfatheredLangTag}
 use Rattle.langtag.specs.declared.grandfathered.GrandfatheredLangTag.TheVariants.{EnGbOed}
 use Rattle.langtag.specs.declared.grandfathered.TheConstants.{GRANDFATHERED}
 use Rattle.langtag.specs.Registered.{index_of, text_of, language_of, IsGrandfatheredAt, IsGrandfathered}
+use denote.Enum.Declared.{tag_of}
+use Rattle.std.specs.Hash.{usize}
+use Rattle.std.specs.declared.cmp.Ordering.TheVariants.{Greater}
+use Rattle.langtag_scan.proofs.Ascii.{IsAscii-tag}
+use Rattle.langtag_scan.proofs.CaseOrder.{case_cmp-ends_first}
+use Rattle.langtag_scan.proofs.TagLaws.{tag_normal}
+use Rattle.langtag.specs.contracts.grandfathered.GrandfatheredLangTag.{the_type}
+use Rattle.langtag.specs.Order.{TagsCompareByIndex}
+use Rattle.langtag.specs.contracts.grandfathered.GrandfatheredLangTagHash.TheImpl as tag_hash
+use Rattle.langtag.specs.contracts.grandfathered.GrandfatheredLangTagOrd.TheImpl as tag_order
+use Rattle.langtag.specs.contracts.grandfathered.GrandfatheredLangTagPartialEq.TheImpl as tag_equality
+
+-- some irregular tag has a property exactly where one passes the test that decides it
+module _ (test : List ℕ → Bool) (P : List ℕ → Type 0) (decides : (name : List ℕ) → Decides (test name) (P name)) where
+  from_test : list_any test irregular_texts ≡ true → (k : ℕ) × (name : List ℕ) × (slice_get irregular_texts k ≡ Some name) × P name
+  from_test found = grind (arith, common_steps, Any-from_list_any, slice_get_read)
+
+  to_test : (k : ℕ) (name : List ℕ) → slice_get irregular_texts k ≡ Some name → P name → list_any test irregular_texts ≡ true
+  to_test k name at is =
+      list_any_at test irregular_texts k [] (slice_get_within irregular_texts k name at)
+      (ap test (get_or_from_slice_get irregular_texts k name [] at) ∙ (decides name).1 is)
+
+pub begins_some : (p : List ℕ) → IsTrue (list_any (λ name. are_alike p (take (length p) name)) irregular_texts) ↔ IsIrregularPrefix p
+unfolding IsIrregularPrefix
+begins_some p = (
+  λ found. from_test (λ name. are_alike p (take (length p) name)) (λ name. Alike p (take (length p) name)) (λ name. are_alike-decides p (take (length p) name)) found,
+  λ is. to_test (λ name. are_alike p (take (length p) name)) (λ name. Alike p (take (length p) name)) (λ name. are_alike-decides p (take (length p) name)) is.0 is.1 is.2 is.3,
+)
+
+pub alike_some : (t : List ℕ) → IsTrue (list_any (λ name. are_alike name t) irregular_texts) ↔ IsIrregular t
+unfolding IsIrregular IsIrregularAt
+alike_some t = (
+  λ found.
+      let (k, name, at, alike) = from_test (λ name. are_alike name t) (λ name. Alike name t) (λ name. are_alike-decides name t) found in
+      (k, (name, at, alike)),
+  λ is. to_test (λ name. are_alike name t) (λ name. Alike name t) (λ name. are_alike-decides name t) is.0 is.1.0 is.1.1 is.1.2,
+)
 
 -- ---- the table
 
@@ -125,6 +149,10 @@ spelling_tag tag =
     let within : index_of tag < 26 = slice_get_within GRANDFATHERED (index_of tag) tag (listed tag) in
     grandfathered_tag (text_of tag) (index_of tag, grandfathered_at (index_of tag) (text_of tag) within refl)
 
+pub grandfathered_alike : (a b : List ℕ) → Alike a b → IsGrandfathered a → IsGrandfathered b
+unfolding IsGrandfathered IsGrandfatheredAt
+grandfathered_alike a b alike (k, (entry, at, same)) = (k, (entry, at, same ∙ alike))
+
 -- ---- the languages
 
 -- each language of the table is a primary subtag
@@ -161,3 +189,29 @@ registered_primary tag r spells = by_index (ltb (index_of tag) 17) (irregular_at
         language_of tag ≡ cond is_irregular None (first_subtag (text_of tag)) → language_of tag ≡ Some r.primary
     by_index true at language = absurd (normal_no_irregular (text_of tag) (r, spells) (index_of tag, (text_of tag, at, refl)))
     by_index false at language = language ∙ ap (λ ss. slice_get ss 0) (ap segments (sym spells.1) ∙ spelled_segments r spells.0)
+
+-- ---- the derived comparisons of the grandfathered tags, and the order of tags of which one begins the other
+
+-- what a derived comparison reads of a variant is its index
+tag_of-index : (tag : GrandfatheredLangTag) → tag_of the_type tag ≡ index_of tag
+tag_of-index tag = at_member (tag_of the_type) index_of GRANDFATHERED (index_of tag) tag (listed tag) refl
+
+pub equal : (a b : GrandfatheredLangTag) → tag_equality.eq-value.it a b ≡ (index_of a == index_of b)
+equal a b = ap (λ n. n == tag_of the_type b) (tag_of-index a) ∙ ap (λ n. index_of a == n) (tag_of-index b)
+
+ordered : (a b : GrandfatheredLangTag) → tag_order.cmp-value.it a b ≡ nat_cmp (index_of a) (index_of b)
+ordered a b = grind (arith, common_steps, at_member, listed)
+
+-- and what it feeds to a hasher
+hashed : (tag : GrandfatheredLangTag) → tag_hash.hash_input-value.it tag ≡ usize (index_of tag)
+hashed tag = at_member tag_hash.hash_input-value.it (λ t. usize (index_of t)) GRANDFATHERED (index_of tag) tag (listed tag) refl
+
+pub tags_compare : TagsCompareByIndex
+tags_compare = record { equal = equal; ordered = ordered; hashed = hashed }
+
+-- a tag that begins another, but for case, and ends first is the greater
+pub tag_ends_first : (t u : List ℕ) → IsTag u → EndsFirst t u → case_cmp t u ≡ Greater
+tag_ends_first t u tag ends = grind (arith, common_steps, IsAscii-tag u tag, case_cmp-ends_first t u, Fits-of_lt)
+
+pub normal_ends_first : (t u : List ℕ) → IsNormal u → EndsFirst t u → case_cmp t u ≡ Greater
+normal_ends_first t u normal ends = tag_ends_first t u (tag_normal u normal) ends

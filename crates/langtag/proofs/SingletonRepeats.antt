@@ -1,17 +1,7 @@
 -- The singletons of extensions, and the flags that say which of them were met.
-use Rattle.std.proofs.Common.{◌≡◌, ℕ, ◌+◌, ◌<◌, Bool, true, false, ◌==◌, List, [], ◌∷◌, length, get_or, set, take, drop, map, slice_get, slice_index, Option, refl, ap, sym, subst, ◌∙◌, arith, option_map}
-use Rattle.std.specs.List.{list_any}
-use Rattle.std.proofs.Math.Bool.{or-false}
-use Rattle.std.proofs.lemmas.Bool.Decides.{eqb_tells}
-use Rattle.std.proofs.lemmas.Bool.{or_right}
-use Rattle.std.proofs.lemmas.Grind.{get_or-set_at, common_steps}
-use Rattle.std.proofs.lemmas.List.{get_or-set_other, drop-map}
+use Rattle.langtag_scan.proofs.Prelude.{◌≡◌, ℕ, ◌+◌, ◌<◌, Bool, true, false, ◌==◌, List, [], ◌∷◌, length, get_or, set, take, drop, map, slice_get, slice_index, Option, refl, ap, sym, subst, ◌∙◌, arith, option_map, list_any, or-false, eqb_tells, or_right, get_or-set_at, common_steps, get_or-set_other, drop-map, slice_get-map, lowercase_ascii}
 use Rattle.std.proofs.lemmas.List.Folds.{list_any_more}
-use Rattle.std.proofs.lemmas.Option.{slice_get-map}
-use Rattle.std.proofs.lemmas.Str.Ascii.{lowercase_ascii}
-use Rattle.langtag_scan.specs.Case.{fold_byte}
-use Rattle.langtag_scan.specs.Class.{is_singleton}
-use Rattle.langtag_scan.specs.Record.{Extension}
+use Rattle.langtag_scan.proofs.Grammar.{fold_byte, is_singleton, Extension}
 use Rattle.langtag_scan.proofs.Ascii.{alphanumeric_below}
 use Rattle.langtag_scan.proofs.SubtagFacts.{singleton_alphanumeric}
 use Rattle.langtag_place.proofs.RepeatLaws.{IsAt, IsAt-drop}

@@ -123,7 +123,7 @@ impl<'a> LangTag<'a> {
     /// LangTag::from_bytes(b"zh-Hant-TW")?.as_str(); // "zh-Hant-TW"
     /// LangTag::from_bytes(b"fr\xFF").is_err(); // true
     /// ```
-    #[tactic(auto, using(crate::proofs::KeptFound::found_kept, crate::proofs::AlikeFound::utf8_found))]
+    #[tactic(auto, using(crate::proofs::KeptFound::found_kept, crate::proofs::KeptFound::utf8_found))]
     pub fn from_bytes(bytes: &'a [u8]) -> Result<LangTag<'a>, InvalidLangTag<&'a [u8]>>
         ensures accepts { IsTrue (is_ok result) ↔ IsTag bytes.now }
         ensures same_text { IfOk result (λ tag. lang_tag_text tag ≡ bytes.now) }
@@ -222,7 +222,7 @@ impl<'a> LangTag<'a> {
     /// LangTag::new("zh-Hant")?.eq_str("ZH-hant"); // true
     /// LangTag::new("zh-Hant")?.eq_str("zh_Hant"); // false
     /// ```
-    #[tactic(auto, using(langtag_scan::proofs::CaseOrder::bytes_ends_first, crate::proofs::OrderLaws::tag_ends_first, crate::proofs::KeptFound::alike_laws))]
+    #[tactic(auto, using(langtag_scan::proofs::CaseOrder::bytes_ends_first, crate::proofs::RegisteredLaws::tag_ends_first, crate::proofs::KeptFound::alike_laws))]
     pub fn eq_str(&self, other: &str) -> bool
         ensures test { result ≡ are_alike (lang_tag_text self.now) other.now }
         // law: equal texts, ignoring case, are of the same kind
@@ -412,7 +412,7 @@ impl<'a> LangTag<'a> {
     /// let tag = LangTag::new("MN-cYRL-mn")?;
     /// assert_eq!(format!("{}", tag.in_recommended_case()), "mn-Cyrl-MN");
     /// ```
-    #[tactic(auto, using(crate::proofs::AlikeFound::ascii_found))]
+    #[tactic(auto, using(crate::proofs::KeptFound::ascii_found))]
     pub fn in_recommended_case(&self) -> InRecommendedCase<'a>
         ensures { in_recommended_case_text result ≡ recommended_text (lang_tag_text self.now) }
     {
@@ -455,7 +455,7 @@ impl<'a> LangTag<'a> {
 }
 
 /// The parts of a normal tag; a tag of another kind has none.
-#[tactic(auto, using(crate::proofs::PartOfLaws::part_found, langtag_scan::proofs::SpelledTexts::normal_spelled))]
+#[tactic(auto, using(crate::proofs::PartRules::part_found, langtag_scan::proofs::SpelledTexts::normal_spelled))]
 impl<'a> LangTag<'a> {
     ghost use Rattle.langtag_language.specs.Text.{language_text};
     ghost use Rattle.langtag_place.specs.Text.{script_text, region_text, variants_text};

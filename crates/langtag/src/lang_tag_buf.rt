@@ -159,7 +159,7 @@ impl LangTagBuf {
     /// tag.make_recommended_case();
     /// tag.as_str(); // "mn-Cyrl-MN"
     /// ```
-    #[tactic(auto, using(crate::proofs::AlikeFound::ascii_found, crate::proofs::AlikeFound::found_alike, langtag_case::proofs::RecommendedLaws::alike_of_recommended, langtag_case::proofs::RecommendedLaws::alike_recommended, langtag_case::proofs::RecordLaw::spelled_in_case, crate::proofs::KeptFound::alike_kinds, langtag_scan::proofs::CaseLaw::alike_parts))]
+    #[tactic(auto, using(crate::proofs::KeptFound::ascii_found, crate::proofs::KeptFound::found_alike, langtag_case::proofs::RecommendedLaws::alike_of_recommended, langtag_case::proofs::RecommendedLaws::alike_recommended, langtag_case::proofs::RecommendedLaws::spelled_in_case, crate::proofs::KeptFound::alike_kinds, langtag_scan::proofs::CaseLaw::alike_parts))]
     pub fn make_recommended_case(&mut self)
         ensures case { lang_tag_buf_text self.new ≡ recommended_text (lang_tag_buf_text self.old) }
         // law: the `String` keeps its allocation
@@ -344,7 +344,7 @@ impl LangTagBuf {
     }
 }
 
-#[tactic(auto, using(crate::proofs::PartLaws::part_comes_back, crate::proofs::KeptFound::found_kept, langtag_scan::proofs::SpelledTexts::offsets_kept))]
+#[tactic(auto, using(crate::proofs::EditLaws::part_comes_back, crate::proofs::KeptFound::found_kept, langtag_scan::proofs::SpelledTexts::offsets_kept))]
 impl LangTagBuf {
     ghost use Rattle.langtag.specs.Edit.{SetsPart, ComesBack, with_old_part};
     ghost use Rattle.langtag.specs.Text.{lang_tag_buf_text, part_text};

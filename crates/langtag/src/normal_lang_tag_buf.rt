@@ -379,7 +379,7 @@ impl NormalLangTagBuf {
     }
 }
 
-#[tactic(auto, using(crate::proofs::PartLaws::part_comes_back, langtag_scan::proofs::SpelledTexts::offsets_kept))]
+#[tactic(auto, using(crate::proofs::EditLaws::part_comes_back, langtag_scan::proofs::SpelledTexts::offsets_kept))]
 impl NormalLangTagBuf {
     ghost use Rattle.langtag.specs.Edit.{SetsPart, ComesBack, with_old_part};
     ghost use Rattle.langtag.specs.Text.{normal_lang_tag_buf_text, part_text};

@@ -178,7 +178,7 @@ fn is_alphanumeric(byte: u8) -> bool
 const IRREGULAR: usize = 17;
 
 /// Returns whether some irregular tag begins with the bytes (section 2.2.8).
-#[tactic(auto, using(crate::proofs::IrregularTests::begins_some), unfolding(langtag_scan::specs::Grandfathered::irregular_texts, langtag_scan::specs::Grandfathered::grandfathered_tags))]
+#[tactic(auto, using(crate::proofs::RegisteredLaws::begins_some), unfolding(langtag_scan::specs::Grandfathered::irregular_texts, langtag_scan::specs::Grandfathered::grandfathered_tags))]
 fn begins_irregular(bytes: &[u8]) -> bool
     ensures { IsTrue result ↔ IsIrregularPrefix bytes.now }
 {

@@ -3,13 +3,13 @@ use Rattle.std.proofs.Common.{arith, ◌≡◌, ◌∙◌, ℕ, Option, Some, Li
 use Rattle.std.specs.Io.KnownBytes.{Appends}
 use Rattle.langtag_scan.specs.Record.{EachRecord}
 use Rattle.langtag_scan.specs.Tag.{IsTag, IsNormal}
-use Rattle.langtag_scan.proofs.OneKind.{normal_no_private, normal_no_irregular}
+use Rattle.langtag_scan.proofs.IrregularTexts.{normal_no_private, normal_no_irregular}
 use Rattle.langtag_scan.proofs.TagLaws.{tag_private, tag_of_irregular}
 use Rattle.langtag_lines.specs.Lines.{ended}
 use Rattle.langtag_registry.specs.Canonical.{IsCanonicalForm}
 use Rattle.langtag_registry.specs.Fault.{Told, faults}
 use Rattle.langtag_registry.specs.Valid.{IsValid}
-use Rattle.langtag_registry.proofs.ValidLaws.{valid_of_other}
+use Rattle.langtag_registry.proofs.FaultLaws.{valid_of_other}
 use Rattle.langtag_answers.specs.CheckAnswer.{fault_text, IsCheckAnswer, valid, invalid}
 
 -- the pieces of the answer to a tag that is not valid

@@ -5,9 +5,8 @@ use Rattle.std.specs.Prelude.{codes}
 use Rattle.langtag_scan.specs.Grandfathered.{irregular_texts}
 use Rattle.langtag_scan.specs.Record.{Record, Spells}
 use Rattle.langtag_scan.specs.Tag.{IsIrregular, IsIrregularAt}
-use Rattle.langtag_scan.proofs.IrregularTexts.{irregular_once}
+use Rattle.langtag_scan.proofs.IrregularTexts.{irregular_once, normal_no_private, normal_no_irregular, private_no_irregular}
 use Rattle.langtag_scan.proofs.NormalTexts.{spelled_once}
-use Rattle.langtag_scan.proofs.OneKind.{normal_no_private, normal_no_irregular, private_no_irregular}
 use Rattle.langtag_scan.proofs.SpelledTexts.{normal_spelled}
 use Rattle.langtag_scan.proofs.TagLaws.{tag_normal, tag_private, tag_irregular}
 use Rattle.langtag_answers.specs.ShowAnswer.{normal_answer, IsShowAnswer, normal, private_use, irregular, refused}

@@ -6,7 +6,7 @@ use Rattle.langtag_scan.specs.Tag.{IsTag, IsNormal, IsIrregular}
 use Rattle.langtag_scan.specs.declared.ends.Ends.{Ends}
 use Rattle.langtag_scan.specs.declared.finding.Finding.{Finding}
 use Rattle.langtag_scan.proofs.TagLaws.{tag_normal}
-use Rattle.langtag_scan.proofs.OneKind.{normal_no_private, normal_no_irregular}
+use Rattle.langtag_scan.proofs.IrregularTexts.{normal_no_private, normal_no_irregular}
 
 pub ends_kept :
     (text : List ℕ) (found : Finding) (same : Type 0) (left : Ends) → IsFoundOf text found →

@@ -44,7 +44,7 @@ pub extern "C" fn langtag_bench_matches_extended(range: &[u8], tag: &[u8]) -> bo
 }
 
 /// Returns the bytes as a range, or `None` if they are not a range.
-#[tactic(auto, using(langtag_range::proofs::AsciiRanges::utf8_range))]
+#[tactic(auto, using(langtag_range::proofs::BasicForms::utf8_range))]
 pub(crate) fn range_of<'a>(bytes: &'a [u8]) -> Option<LanguageRange<'a>>
     ensures { MatchOption result (is_language_range bytes.now ≡ false)
         (λ range. (language_range_text range ≡ bytes.now) × IsTrue (is_language_range bytes.now)) }

@@ -1,22 +1,23 @@
--- What is said of the best tag for a reader, and of the range that it serves.
-use Rattle.std.proofs.Common.{◌≡◌, ℕ, ◌<◌, ◌≤◌, List, length, Option, None, Some, unwrap_or, sym, subst, arith}
-use Rattle.std.proofs.lemmas.Grind.{common_steps}
-use Rattle.std.proofs.lemmas.List.{length-map}
-use Rattle.std.proofs.lemmas.Option.{slice_get_within}
+-- What is said of the best tag for a reader, of the range that it serves, and of tags that are prepared.
+use Rattle.langtag_scan.proofs.Prelude.{◌≡◌, ℕ, ◌<◌, ◌≤◌, List, length, Option, None, Some, unwrap_or, sym, subst, arith, true, false, true≢false, Bool, not, ◌||◌, Bor, [], ◌∷◌, get_or, option_map, refl, ap, ◌∙◌, slice_get, common_steps, length-map, get_or-map, slice_get_within, slice_get-map, and_parts, nat_tests, list_all}
 use Rattle.std.specs.Option.{IfSome}
 use Rattle.langtag_range.specs.Element.{Element, items}
 use Rattle.langtag_range.specs.Wanted.{wanted_elements}
 use Rattle.langtag_choice.specs.Best.{IsChoice, IsMatchOf, Pair}
 use Rattle.langtag_choice.specs.Suitable.{AreSuitable}
-use Rattle.langtag_choice.specs.declared.best_match.BestMatch as choice
 use Rattle.langtag_span.specs.RangePlaces.{IsRangeAt, range_count}
-use Rattle.langtag_span.specs.Spans.{empty_at}
-use Rattle.langtag_span.specs.TagsAt.{tags_at}
+use Rattle.langtag_span.specs.Spans.{empty_at, HasBytes, has_bytes, span_text}
+use Rattle.langtag_span.specs.TagsAt.{tags_at, tag_at}
 use Rattle.langtag_span.specs.declared.span.Span.{Span}
 use Rattle.langtag_span.proofs.LookUps.{length_wanted, placed}
-use Rattle.langtag_span.proofs.TagsAt.{are_tags_at}
+use Rattle.langtag_span.proofs.TagsAt.{are_tags_at, bytes_from_test}
 use Rattle.langtag_c.specs.Choice.{AreBest, IsBest, IsMatchAt, no_match}
 use Rattle.langtag_c.specs.declared.best_match.BestMatch.{BestMatch}
+use Rattle.langtag_choice.specs.Prepared.{is_prepared_for}
+use Rattle.langtag_c.specs.Site.{ArePrepared, IsCurrentAt, current_tag_at, current_tags_at, is_current, spans_of}
+use Rattle.langtag_choice.specs.declared.prepared_form.PreparedForm.{PreparedForm}
+use Rattle.langtag_c.specs.declared.prepare.PreparedTag.{PreparedTag}
+use Rattle.langtag_choice.specs.declared.best_match.BestMatch as choice
 
 pub is_best :
     (elements : List Element) (text : List ℕ) (spans : List Span) (chosen : Option ℕ) (answer : ℕ) → IsChoice elements (tags_at text spans) chosen →
@@ -54,3 +55,123 @@ module _ (header text : List ℕ) (spans : List Span) where
   pub no_match_at :
       (answer : ℕ) (found : BestMatch) → (Pair (wanted_elements header) (tags_at text spans) → ⊥) → answer ≡ length spans → found ≡ no_match header → IsMatchAt header text spans answer found
   no_match_at answer found none all empty = record { tags = tags_at text spans; are = are_tags_at text spans; chosen = None; is = none; same = (all, empty) }
+
+-- ---- an entry
+
+pub current_count : (text : List ℕ) (tags : List PreparedTag) → length (current_tags_at text tags) ≡ length tags
+current_count text tags = length-map tags (current_tag_at text)
+
+-- the entry at an index
+pub current_entry :
+    (text : List ℕ) (tags : List PreparedTag) (index : ℕ) (p : PreparedTag) → index < length tags → get_or (current_tags_at text tags) index None ≡ current_tag_at text (get_or tags index p)
+current_entry text tags index p inside = get_or-map (current_tag_at text) tags index p None inside
+
+-- what is current is the tag in the span
+pub current_there : (text : List ℕ) (p : PreparedTag) → is_current text p ≡ true → current_tag_at text p ≡ tag_at text p.tag
+unfolding current_tag_at
+current_there text p current = rw current refl
+
+-- what is not current is left out
+pub current_none : (text : List ℕ) (p : PreparedTag) → is_current text p ≡ false → current_tag_at text p ≡ None
+unfolding current_tag_at
+current_none text p stale = rw stale refl
+
+-- a span that is no tag is left out
+pub current_no_tag : (text : List ℕ) (p : PreparedTag) → tag_at text p.tag ≡ None → current_tag_at text p ≡ None
+unfolding current_tag_at
+current_no_tag text p none = grind (arith, nat_tests)
+
+-- a tag that is there is current, and is the text of its span
+pub current_some : (text : List ℕ) (p : PreparedTag) (tag : List ℕ) → current_tag_at text p ≡ Some tag → (is_current text p ≡ true) × (tag_at text p.tag ≡ Some tag)
+unfolding current_tag_at
+current_some text p tag is = grind (arith, nat_tests)
+
+tag_text : (text : List ℕ) (span : Span) (tag : List ℕ) → tag_at text span ≡ Some tag → (has_bytes text span ≡ true) × (span_text text span ≡ tag)
+unfolding tag_at
+tag_text text span tag is = grind (arith, nat_tests, and_parts)
+
+-- what was prepared for the bytes of a span is current
+pub prepared_current :
+    (text : List ℕ) (p : PreparedTag) (bytes : List ℕ) → (HasBytes text p.tag → bytes ≡ span_text text p.tag) → is_prepared_for bytes p.form ≡ true → is_current text p ≡ true
+prepared_current text p bytes same is = by_test (has_bytes text p.tag) refl
+  where
+    by_test : (b : Bool) → has_bytes text p.tag ≡ b → (not b || is_prepared_for (span_text text p.tag) p.form) ≡ true
+    by_test false lacks = refl
+    by_test true has = subst (λ t. is_prepared_for t p.form ≡ true) (same (bytes_from_test text p.tag has)) is
+
+pub current_tag : (text : List ℕ) (p : PreparedTag) (tag : List ℕ) → tag_at text p.tag ≡ Some tag → is_prepared_for tag p.form ≡ true → current_tag_at text p ≡ Some tag
+current_tag text p tag there is = current_there text p (prepared_current text p tag (λ has. sym (tag_text text p.tag tag there).1) is) ∙ there
+
+stale_test : (b c : Bool) → b ≡ true → c ≡ false → (not b || c) ≡ false
+stale_test b c has stale = rw (has, stale) refl
+
+pub stale_tag : (text : List ℕ) (p : PreparedTag) (tag : List ℕ) → tag_at text p.tag ≡ Some tag → is_prepared_for tag p.form ≡ false → current_tag_at text p ≡ None
+stale_tag text p tag there stale =
+    let is = tag_text text p.tag tag there in
+    current_none text p (stale_test (has_bytes text p.tag) (is_prepared_for (span_text text p.tag) p.form) is.0 (subst (λ t. is_prepared_for t p.form ≡ false) (sym is.1) stale))
+
+fresh_test : (b c : Bool) → b ≡ true → (not b || c) ≡ true → c ≡ true
+fresh_test true c has fresh = fresh
+fresh_test false c has fresh = absurd (true≢false (sym has))
+
+-- what is kept of a tag that is there is true of it
+pub entry_form : (text : List ℕ) (p : PreparedTag) (tag : List ℕ) → current_tag_at text p ≡ Some tag → is_prepared_for tag p.form ≡ true
+entry_form text p tag is =
+    let some = current_some text p tag is in
+    let here = tag_text text p.tag tag some.1 in
+    subst (λ t. is_prepared_for t p.form ≡ true) here.1 (fresh_test (has_bytes text p.tag) (is_prepared_for (span_text text p.tag) p.form) here.0 some.0)
+
+pub entry_bytes : (text : List ℕ) (p : PreparedTag) (bytes tag : List ℕ) → (HasBytes text p.tag → bytes ≡ span_text text p.tag) → current_tag_at text p ≡ Some tag → bytes ≡ tag
+entry_bytes text p bytes tag same is =
+    let here = tag_text text p.tag tag (current_some text p tag is).1 in
+    same (bytes_from_test text p.tag here.0) ∙ here.1
+
+-- what is read beyond the entries
+abbrev pub no_entry : PreparedTag
+no_entry = record { tag = empty_at 0; form = record { number = 0; letters = []; language = []; script = []; region = [] } }
+
+pub some_borrowed : (a b : Bor PreparedForm) → Some a ≡ Some b → a ≡ b
+some_borrowed a b is = cc
+
+-- ---- all entries
+
+-- if all entries are current, the tags are those in the spans
+pub all_current : (text : List ℕ) (tags : List PreparedTag) → ArePrepared text tags → current_tags_at text tags ≡ tags_at text (spans_of tags)
+all_current text [] prepared = refl
+all_current text (p ∷ tags) prepared =
+    let parts = and_parts (is_current text p) (list_all (is_current text) tags) prepared in
+    ap (λ t. t ∷ current_tags_at text tags) (current_there text p parts.0) ∙ ap (λ ts. tag_at text p.tag ∷ ts) (all_current text tags parts.1)
+
+pub span_count : (tags : List PreparedTag) → length (spans_of tags) ≡ length tags
+span_count tags = length-map tags (λ p. p.tag)
+
+-- ---- the choice
+
+module _ (elements : List Element) (text : List ℕ) (tags : List PreparedTag) (chosen : Option ℕ) (answer : ℕ)
+    (choice : IsChoice elements (current_tags_at text tags) chosen) (is : answer ≡ unwrap_or chosen (length tags)) where
+  pub site_best : ArePrepared text tags → IsBest elements text (spans_of tags) answer
+  site_best prepared =
+      is_best elements text (spans_of tags) chosen answer (subst (λ ts. IsChoice elements ts chosen) (all_current text tags prepared) choice)
+      (is ∙ ap (unwrap_or chosen) (sym (span_count tags)))
+
+some_same : (a b : Option (List ℕ)) → Some a ≡ Some b → a ≡ b
+some_same a b is = cc
+
+-- what is chosen is current
+pub site_current :
+    (elements : List Element) (text : List ℕ) (tags : List PreparedTag) (chosen : Option ℕ) (answer : ℕ) → IsChoice elements (current_tags_at text tags) chosen →
+    answer ≡ unwrap_or chosen (length tags) → IsCurrentAt text tags answer
+site_current elements text tags None answer choice is = λ p there.
+    let last : answer ≡ length tags = is in
+    let inside = slice_get_within tags answer p there in
+    absurd (omega (arith, inside, last))
+site_current elements text tags (Some i) answer choice is = λ p there.
+    let same : answer ≡ i = is in
+    let here = subst (λ k. slice_get tags k ≡ Some p) same there in
+    let at : slice_get (current_tags_at text tags) i ≡ Some (current_tag_at text p) = slice_get-map (current_tag_at text) tags i ∙ ap (option_map (current_tag_at text)) here in
+    let chosen = subst (λ k. slice_get (current_tags_at text tags) k ≡ Some (Some choice.pair.tag)) choice.here choice.pair.there in
+    (current_some text p choice.pair.tag (some_same (current_tag_at text p) (Some choice.pair.tag) (sym at ∙ chosen))).0
+
+pub site_within :
+    (elements : List Element) (text : List ℕ) (tags : List PreparedTag) (chosen : Option ℕ) → IsChoice elements (current_tags_at text tags) chosen → unwrap_or chosen (length tags) ≤ length tags
+site_within elements text tags chosen choice = grind (arith, common_steps, length-map, slice_get_within)

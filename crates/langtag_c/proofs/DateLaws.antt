@@ -1,10 +1,8 @@
 -- The number of a date, digit by digit.
-use Rattle.std.proofs.Common.{◌≡◌, ℕ, ◌+◌, ◌-◌, ◌*◌, ◌<◌, ◌≤◌, true, false, ltb, List, [], ◌∷◌, drop, length, filter, fold, get_or, refl, ◌∙◌, arith}
-use Rattle.std.proofs.lemmas.Bool.{ltb-true}
-use Rattle.std.proofs.lemmas.List.{at_drop_more}
-use Rattle.std.proofs.lemmas.Bool.Decides.{nat_tests}
+use Rattle.langtag_scan.proofs.Prelude.{◌≡◌, ℕ, ◌+◌, ◌-◌, ◌*◌, ◌<◌, ◌≤◌, true, false, ltb, List, [], ◌∷◌, drop, length, fold, get_or, refl, ◌∙◌, arith, ltb-true, at_drop_more, nat_tests}
+use Rattle.std.proofs.Common.{filter}
 use Rattle.langtag_scan.specs.Class.{is_digit}
-use Rattle.langtag_registry.specs.declared.tables.TheConstants.{FILE_DATE}
+use Rattle.langtag_fields.specs.declared.tables.TheConstants.{FILE_DATE}
 use Rattle.langtag_c.specs.Answers.{digits_number}
 
 -- what a number becomes by the digits of a text that follow it

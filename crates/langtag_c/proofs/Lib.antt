@@ -1,12 +1,4 @@
-mod ChoiceLaws
 mod DateLaws
-mod KeywordTexts
+mod ChoiceLaws
 mod KindLaws
-mod LikelyForms
-mod ParentLaws
-mod ParseLaws
-mod PartSpanLaws
-mod RangeLaws
-mod SiteLaws
-mod StopLaws
-mod Suggested
+mod WrittenTexts

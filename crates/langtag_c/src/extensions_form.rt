@@ -29,7 +29,7 @@ use langtag_unicode::write_extensions_form;
 /// longer than the tag.
 ///
 /// Returns 0 and writes nothing if the string is not a tag.
-#[tactic(auto, using(crate::proofs::LikelyForms::some_extensions))]
+#[tactic(auto, using(crate::proofs::WrittenTexts::some_extensions))]
 #[unsafe(no_mangle)]
 pub extern "C" fn langtag_extensions_form(bytes: &[u8], buffer: &mut [u8]) -> usize
     // law: the form that `extensions_form` returns, if the buffer has room for it, and its length

@@ -25,7 +25,7 @@ use langtag_span::tag_of;
 /// x-a or qaa, stays as it is.
 ///
 /// Returns 0 and writes nothing if the string is not a tag.
-#[tactic(auto, using(crate::proofs::LikelyForms::some_maximal))]
+#[tactic(auto, using(crate::proofs::WrittenTexts::some_maximal))]
 #[unsafe(no_mangle)]
 pub extern "C" fn langtag_maximized(bytes: &[u8], buffer: &mut [u8]) -> usize
     ensures maximal { IsTag bytes.now → Writes (IsMaximalForm bytes.now) buffer.old buffer.new result }
@@ -41,7 +41,7 @@ pub extern "C" fn langtag_maximized(bytes: &[u8], buffer: &mut [u8]) -> usize
 /// Writes a tag without its likely subtags to `buffer` (UTS #35, part 1, Remove Likely Subtags), and returns its
 /// length, as `langtag_maximized` does: zh-Hant-TW becomes zh-TW, en-Latn-US becomes en, and iw-Hebr-IL becomes iw. If it
 /// is enough to keep either the script or the region, the region is kept.
-#[tactic(auto, using(crate::proofs::LikelyForms::some_minimal))]
+#[tactic(auto, using(crate::proofs::WrittenTexts::some_minimal))]
 #[unsafe(no_mangle)]
 pub extern "C" fn langtag_minimized(bytes: &[u8], buffer: &mut [u8]) -> usize
     ensures minimal { IsTag bytes.now → Writes (IsMinimalForm bytes.now) buffer.old buffer.new result }

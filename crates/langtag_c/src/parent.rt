@@ -27,7 +27,7 @@ use langtag_span::tag_of;
 /// languages. Case is ignored.
 ///
 /// Returns 0 and writes nothing if the tag has no parent, such as pt and x-a, or if the string is not a tag.
-#[tactic(auto, using(crate::proofs::ParentLaws::no_parent, crate::proofs::ParentLaws::parent_written))]
+#[tactic(auto, using(crate::proofs::WrittenTexts::no_parent, crate::proofs::WrittenTexts::parent_written))]
 #[unsafe(no_mangle)]
 pub extern "C" fn langtag_parent(bytes: &[u8], buffer: &mut [u8]) -> usize
     ensures parent { (IsParent bytes.now None → ⊥) → Writes (λ parent. IsParent bytes.now (Some parent)) buffer.old buffer.new result }

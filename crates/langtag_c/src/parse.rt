@@ -1,5 +1,5 @@
 //! Whether bytes are a tag, of which kind, and where its parts are.
-#![tactic(auto, using(crate::proofs::ParseLaws::parse_laws))]
+#![tactic(auto, using(crate::proofs::KindLaws::parse_laws))]
 
 ghost use Rattle.std.specs.Prelude.{◌≡◌, ◌≤◌, ℕ, List, length, IfSome, MatchOption};
 ghost use Rattle.langtag_scan.specs.Ends.{HasEnds, ends_of};

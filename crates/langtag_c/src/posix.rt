@@ -22,7 +22,7 @@ use langtag_span::{Span, tag_of};
 ///
 /// Returns 0 and writes nothing if language and territory do not form a tag (C), are POSIX, or have more than 255
 /// bytes.
-#[tactic(auto, using(crate::proofs::LikelyForms::some_named))]
+#[tactic(auto, using(crate::proofs::WrittenTexts::some_named))]
 #[unsafe(no_mangle)]
 pub extern "C" fn langtag_from_posix(name: &[u8], buffer: &mut [u8]) -> usize
     ensures tag { NamesTag name.now → Writes (IsTagOfName name.now) buffer.old buffer.new result }
@@ -54,7 +54,7 @@ pub extern "C" fn langtag_from_posix(name: &[u8], buffer: &mut [u8]) -> usize
 /// Returns 0 and writes nothing if no name expresses the whole tag: another script or variant, an extended language,
 /// another extension, private use, or a language of more than three letters. Also for und, and if the string is not a
 /// tag. To leave extensions out, ask for the first `langtag_base_len` bytes of the tag.
-#[tactic(auto, using(crate::proofs::LikelyForms::posix_some))]
+#[tactic(auto, using(crate::proofs::WrittenTexts::posix_some))]
 #[unsafe(no_mangle)]
 pub extern "C" fn langtag_to_posix(bytes: &[u8], buffer: &mut [u8]) -> usize
     // law: the name that `to_posix` returns, if the buffer has room for it, and its length

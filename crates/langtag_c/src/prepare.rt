@@ -62,7 +62,7 @@ pub(crate) struct PreparedTags<'a> {
     pub(crate) tags: &'a [PreparedTag],
 }
 
-#[tactic(auto, using(crate::proofs::SiteLaws::current_count))]
+#[tactic(auto, using(crate::proofs::ChoiceLaws::current_count))]
 impl TagList for PreparedTags<'_> {
     ghost texts = { λ site. current_tags_at site.text.now site.tags.now };
 

@@ -10,7 +10,7 @@ use langtag_match::LanguageRange;
 use langtag_span::tag_of;
 
 /// Returns which kind of language range a string is, as an enum `langtag_range_kind_answer`.
-#[tactic(auto, using(crate::proofs::RangeLaws::range_kinds))]
+#[tactic(auto, using(crate::proofs::KindLaws::range_kinds))]
 #[unsafe(no_mangle)]
 pub extern "C" fn langtag_range_kind(bytes: &[u8]) -> u32
     ensures { IsRangeKind bytes.now result }
@@ -52,7 +52,7 @@ pub extern "C" fn langtag_matches_extended(range: &[u8], tag: &[u8]) -> bool
 }
 
 /// Returns the bytes as a range, or `None` if they are not a range.
-#[tactic(auto, using(langtag_range::proofs::AsciiRanges::utf8_range))]
+#[tactic(auto, using(langtag_range::proofs::BasicForms::utf8_range))]
 fn range_of<'a>(bytes: &'a [u8]) -> Option<LanguageRange<'a>>
     ensures { MatchOption result (is_language_range bytes.now ≡ false)
         (λ range. (language_range_text range ≡ bytes.now) × IsTrue (is_language_range bytes.now)) }

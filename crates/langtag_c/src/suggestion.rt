@@ -37,7 +37,7 @@ pub extern "C" fn langtag_suggestion(fault: u32, subtag: &[u8], buffer: &mut [u8
 }
 
 /// Returns the code by which CLDR replaces a language, whose fault is 2, or a region, whose fault is 6.
-#[tactic(auto, using(crate::proofs::Suggested::utf8_suggested))]
+#[tactic(auto, using(crate::proofs::WrittenTexts::utf8_suggested))]
 fn suggested(fault: u32, subtag: &[u8]) -> Option<&'static str>
     ensures { option_map (λ text. text.now) result ≡ suggested fault subtag.now }
 {

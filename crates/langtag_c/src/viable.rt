@@ -14,7 +14,7 @@ pub extern "C" fn langtag_viable_len(bytes: &[u8]) -> usize
 
 /// Returns the length of the shortest prefix with which no tag begins, or `len` if there is none: 4 for "i-no", 3 for
 /// "en-". A program that reads the string byte by byte can stop there.
-#[tactic(auto, using(crate::proofs::StopLaws::stop_after_viable))]
+#[tactic(auto, using(crate::proofs::KindLaws::stop_after_viable))]
 #[unsafe(no_mangle)]
 pub extern "C" fn langtag_stop_len(bytes: &[u8]) -> usize
     ensures { IsStop bytes.now result }

@@ -1,3 +1,2 @@
-pub mod RecommendedLaws
 mod PieceLaws
-pub mod RecordLaw
+pub mod RecommendedLaws

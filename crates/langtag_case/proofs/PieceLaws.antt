@@ -1,16 +1,10 @@
 -- The walk from piece to piece.
-use Rattle.std.proofs.Common.{◌≡◌, ◌≢◌, ℕ, ◌+◌, ◌-◌, ◌<◌, ◌≤◌, true, false, ◌⊎◌, inl, inr, List, [], ◌∷◌, ◌++◌, length, map, take, drop, set, get_or, refl, sym, ap, subst, ◌∙◌, arith, append-nil, append_assoc, length-take, length-drop, length-append, ne_eqb, eq-eqb}
-use Rattle.std.proofs.lemmas.Grind.{common_steps}
+use Rattle.langtag_scan.proofs.Prelude.{◌≡◌, ◌≢◌, ℕ, ◌+◌, ◌-◌, ◌<◌, ◌≤◌, true, false, ◌⊎◌, inl, inr, List, [], ◌∷◌, ◌++◌, length, map, take, drop, set, get_or, refl, sym, ap, subst, ◌∙◌, arith, append-nil, append_assoc, length-append, common_steps, to_ascii_uppercase, at_drop_more, take_more, take-append-drop, take_all, drop_all, take-map, drop-map, get_or-take, take-append_seam, drop-append_seam, slice_split_none, slice_split_at, length-slice_split, join_with_byte-slice_split}
+use Rattle.std.proofs.Common.{length-take, length-drop, ne_eqb, eq-eqb}
 use Prim.Native.Nat.{zero, suc}
-use Rattle.std.specs.Char.{to_ascii_uppercase}
-use Rattle.std.proofs.lemmas.List.{at_drop_more, take_more, take-append-drop, take_all, drop_all, take-map, drop-map, get_or-take}
-use Rattle.std.proofs.Math.Seq.{take-append_seam, drop-append_seam}
 use borrow.Rule.Slice.PartMut.{put_mid}
 use Rattle.std.proofs.lemmas.List.Elements.{All-from_get_or}
-use Rattle.std.proofs.lemmas.List.Splits.{slice_split_none, slice_split_at, length-slice_split, join_with_byte-slice_split}
-use Rattle.langtag_scan.specs.Case.{fold_byte, fold_text}
-use Rattle.langtag_scan.specs.Class.{is_single}
-use Rattle.langtag_scan.specs.Subtags.{is_hyphen, IsHyphenFree, NoHyphenWithin, join, segments}
+use Rattle.langtag_scan.proofs.Grammar.{fold_byte, fold_text, is_single, is_hyphen, IsHyphenFree, NoHyphenWithin, join, segments}
 use Rattle.langtag_scan.proofs.CaseLaw.{join-fold}
 use Rattle.langtag_case.specs.RecommendedCase.{capital_text, by_length, recommended_text}
 use Rattle.langtag_case.specs.Walk.{BeginsWith, after_piece, cased, later, later_text}

@@ -1,25 +1,17 @@
--- The recommended case of a text: it is alike the text, alike texts have the same one, and how it is had from subtag to
--- subtag.
-use Rattle.std.proofs.Common.{◌≡◌, ℕ, ◌<◌, ◌==◌, Bool, true, false, cond, ◌||◌, Some, All, subst, List, [], ◌∷◌, ◌++◌, length, map, take, get_or, refl, sym, ap, ◌∙◌, arith, append_assoc, append-nil, rules, IsAscii, eqb-true, ne_eqb}
-use Rattle.std.proofs.lemmas.Grind.{common_steps}
+-- The recommended case of a text: it is alike the text, alike texts have the same one, and how it is had from subtag to subtag and part by part.
+use Rattle.langtag_scan.proofs.Prelude.{◌≡◌, ℕ, ◌<◌, ◌==◌, Bool, true, false, cond, ◌||◌, Some, All, subst, List, [], ◌∷◌, ◌++◌, length, map, take, get_or, refl, sym, ap, ◌∙◌, arith, append_assoc, append-nil, rules, IsAscii, eqb-true, ◌≤◌, Option, None, option_map, IsTrue, IfSome, common_steps, to_ascii_uppercase, list_any, AllByRecursion, flat_map, or-true, or-false, length-map, map-append, nat_tests, list_any-append, length-slice_split, join_with_byte-slice_split, lowercase-uppercase, lowercase_ascii, All-nil, All-cons, All-head, All-tail, ne_eqb, and_parts, or_cases}
 use Prim.Native.Nat.{zero, suc}
-use Rattle.std.specs.Char.{to_ascii_uppercase}
-use Rattle.std.specs.List.{list_any, slice_get}
-use Rattle.std.proofs.Math.Bool.{or-true, or-false}
-use Rattle.std.proofs.lemmas.List.{length-map, length-append, map-append}
-use Rattle.std.proofs.lemmas.Bool.Decides.{nat_tests}
-use Rattle.std.proofs.lemmas.List.Folds.{list_any-append}
-use Rattle.std.proofs.lemmas.List.Splits.{length-slice_split, join_with_byte-slice_split}
-use Rattle.std.proofs.lemmas.Str.Ascii.{lowercase-uppercase, IsAscii-map, lowercase_ascii}
+use Rattle.std.specs.List.{slice_get}
+use Rattle.std.proofs.lemmas.List.{length-append}
+use Rattle.std.proofs.lemmas.Str.Ascii.{IsAscii-map}
 use Rattle.std.proofs.Math.ListN.{get_or-map}
-use Rattle.langtag_scan.specs.Case.{fold_byte, fold_text, Alike}
-use Rattle.langtag_scan.specs.Class.{is_single}
-use Rattle.langtag_scan.specs.Subtags.{is_hyphen, IsHyphenFree, join, segments}
-use Rattle.langtag_scan.proofs.CaseLaw.{hyphen-fold, length-fold, segments-fold, join-fold, fold_text-twice}
+use Rattle.langtag_scan.proofs.Grammar.{fold_byte, fold_text, Alike, is_single, is_digit, are_letters, are_digits, is_primary, is_extended, is_script, is_region, is_variant, is_hyphen, IsHyphenFree, join, segments, fold_extension, fold_private_use, EachRecord, Extension, PrivateUse, Record, IsWellFormed, extension_flat, one_flat, private_part_flat, spell}
+use Rattle.langtag_scan.proofs.CaseLaw.{hyphen-fold, length-fold, segments-fold, join-fold, fold_text-twice, extensions-fold, private_part-fold}
 use Rattle.langtag_scan.proofs.SubtagLists.{segments-join, segments-hyphen_free}
-use Rattle.std.proofs.lemmas.List.Elements.{All-nil, All-cons, All-head, All-tail}
 use Rattle.langtag_case.specs.Walk.{later}
-use Rattle.langtag_case.specs.RecommendedCase.{title_text, by_length, recommended_subtag, recommended_after, recommended_text}
+use Rattle.langtag_case.specs.RecommendedCase.{title_text, by_length, recommended_subtag, recommended_after, recommended_text, capital_text, recommended_record}
+use Rattle.langtag_scan.proofs.BoolFacts.{between_true}
+use Rattle.langtag_scan.proofs.NormalTexts.{spelled_segments}
 
 -- ---- bytes
 
@@ -192,3 +184,102 @@ pub recommended_each :
 recommended_each t s k there =
     ap (λ ss. slice_get ss k) (segments-cased (segments t) (omega (arith, length-slice_split is_hyphen t)) (segments-hyphen_free t))
     ∙ recommended-at [] (segments t) k s there
+
+-- ---- digits have no case
+
+-- a digit
+digit-case : (b : ℕ) → is_digit b ≡ true → to_ascii_uppercase b ≡ fold_byte b
+unfolding is_digit fold_byte
+digit-case b digit = grind (arith, nat_tests)
+
+-- a subtag of digits
+digits-case : (s : List ℕ) → are_digits s ≡ true → capital_text s ≡ fold_text s
+digits-case [] digits = refl
+digits-case (b ∷ s) digits = let k = and_parts (is_digit b) (are_digits s) digits in rw (digit-case b k.0, digits-case s k.1) refl
+
+-- ---- the case of a subtag by its class
+
+-- it is no singleton, and its length calls for a case
+abbrev IsCased : (List ℕ → List ℕ) → List ℕ → Type 0
+IsCased put s = (is_single s ≡ false) × (by_length s ≡ put s)
+
+-- of three bytes
+three : (s : List ℕ) → length s ≡ 3 → IsCased fold_text s
+three s size = (ap (λ n. n == 1) size, rw size refl)
+
+-- of five bytes or more
+long : (s : List ℕ) → 5 ≤ length s → IsCased fold_text s
+long s size = grind (arith, common_steps, ne_eqb (length s) 1, ne_eqb (length s) 2, ne_eqb (length s) 4)
+
+-- an extended subtag is small
+extended-cased : (s : List ℕ) → is_extended s ≡ true → IsCased fold_text s
+unfolding is_extended
+extended-cased s is = three s (eqb-true (length s) 3 (and_parts (length s == 3) (are_letters s) is).0)
+
+-- a script in titlecase
+script-cased : (s : List ℕ) → is_script s ≡ true → IsCased title_text s
+unfolding is_script
+script-cased s is = let size : length s ≡ 4 = eqb-true (length s) 4 (and_parts (length s == 4) (are_letters s) is).0 in (ap (λ n. n == 1) size, rw size refl)
+
+-- a region in capitals, where it has letters
+region-cased : (s : List ℕ) → is_region s ≡ true → IsCased capital_text s
+unfolding is_region
+region-cased s is = grind (arith, common_steps, or_cases, eqb-true, and_parts, three, digits-case)
+
+-- a variant small
+variant-cased : (s : List ℕ) → is_variant s ≡ true → IsCased fold_text s
+unfolding is_variant
+variant-cased s is = grind (arith, common_steps, or_cases, long, between_true, and_parts, eqb-true, digit-case)
+
+-- a primary subtag is no singleton
+primary-many : (s : List ℕ) → is_primary s ≡ true → is_single s ≡ false
+unfolding is_primary
+primary-many s is = grind (arith, common_steps, between_true, and_parts, ne_eqb)
+
+-- ---- the parts, one after the other
+
+-- the subtags of a part, and those after it
+module _ (test : List ℕ → Bool) (put : List ℕ → List ℕ) (cases : (s : List ℕ) → test s ≡ true → IsCased put s) where
+  -- of several subtags
+  part-cased : (ss us : List (List ℕ)) → AllByRecursion (λ s. IsTrue (test s)) ss → later (ss ++ us) ≡ map put ss ++ later us
+  part-cased [] us fits = refl
+  part-cased (s ∷ ss) us fits = grind (arith, common_steps, part-cased ss us fits.1)
+
+  -- of one that may be there
+  one-cased : (o : Option (List ℕ)) (us : List (List ℕ)) → IfSome o (λ s. IsTrue (test s)) → later (one_flat o ++ us) ≡ one_flat (option_map put o) ++ later us
+  one-cased o us fits = grind (arith, common_steps, part-cased)
+
+-- the first of them begins with a singleton, after which all is small
+tail-cased :
+    (es : List Extension) (p : Option PrivateUse) →
+    later (flat_map extension_flat es ++ private_part_flat p)
+    ≡ flat_map extension_flat (map fold_extension es) ++ private_part_flat (option_map fold_private_use p)
+tail-cased [] None = refl
+tail-cased [] (Some p) = refl
+tail-cased (e ∷ es) p = grind (arith, common_steps, map-append, extensions-fold, private_part-fold)
+
+-- ---- the law
+
+-- a record spells its text in its recommended case where it is itself in its own
+pub recommended_spelled : (r : Record) → IsWellFormed r → recommended_text (spell r) ≡ spell (recommended_record r)
+recommended_spelled r fits =
+    ap (λ ss. join (recommended_after [] ss)) (spelled_segments r fits)
+    ∙ ap (λ ss. join (fold_text r.primary ∷ ss)) (after_first r.primary _ false (primary-many r.primary fits.primary) ∙ parts)
+  where
+    parts :
+        later (r.extended ++ (one_flat r.script ++ (one_flat r.region ++ (r.variants ++ (flat_map extension_flat r.extensions ++ private_part_flat r.private_use)))))
+        ≡ map fold_text r.extended ++ (one_flat (option_map title_text r.script) ++ (one_flat (option_map capital_text r.region)
+        ++ (map fold_text r.variants ++ (flat_map extension_flat (map fold_extension r.extensions) ++ private_part_flat (option_map fold_private_use r.private_use)))))
+    parts =
+        part-cased is_extended fold_text extended-cased r.extended _ fits.extended
+        ∙ ap (λ ss. map fold_text r.extended ++ ss) (
+        one-cased is_script title_text script-cased r.script _ fits.script
+        ∙ ap (λ ss. one_flat (option_map title_text r.script) ++ ss) (
+        one-cased is_region capital_text region-cased r.region _ fits.region
+        ∙ ap (λ ss. one_flat (option_map capital_text r.region) ++ ss) (
+        part-cased is_variant fold_text variant-cased r.variants _ fits.variants
+        ∙ ap (λ ss. map fold_text r.variants ++ ss) (tail-cased r.extensions r.private_use))))
+
+-- and so does the text of a tag in its recommended case
+pub spelled_in_case : (old new : List ℕ) → new ≡ recommended_text old → EachRecord old (λ r. new ≡ spell (recommended_record r))
+spelled_in_case old new case r spells = case ∙ ap recommended_text (sym spells.1) ∙ recommended_spelled r spells.0

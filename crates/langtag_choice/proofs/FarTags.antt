@@ -6,10 +6,8 @@ use Rattle.langtag_scan.specs.Case.{are_alike, fold_byte, Alike}
 use Rattle.langtag_scan.specs.CaseLaws.{are_alike-decides}
 use Rattle.langtag_scan.specs.Subtags.{subtags}
 use Rattle.langtag_range.proofs.AlikeTexts.{is_star-fold}
-use Rattle.langtag_range.proofs.BasicForms.{basic_form-basic, basic_of, is_plain, IsBasicOf}
-use Rattle.langtag_range.proofs.BasicRanges.{is_language_range-from_basic}
-use Rattle.langtag_range.proofs.AsciiRanges.{hyphened_range}
-use Rattle.langtag_range.proofs.Prefixes.{length-alike}
+use Rattle.langtag_range.proofs.BasicForms.{basic_form-basic, basic_of, is_plain, IsBasicOf, is_language_range-from_basic, hyphened_range}
+use Rattle.langtag_range.proofs.Among.{length-alike}
 use Rattle.langtag_range.specs.Basic.{ends_subtag}
 use Rattle.langtag_range.specs.Fallback.{ends_in_single}
 use Rattle.langtag_range.specs.Listed.{basic_text}

@@ -44,7 +44,7 @@ impl<'a> RangeList<'a> for &'a [u8] {
 }
 
 /// Ranges with their weights.
-#[tactic(auto, using(langtag_range::proofs::AsciiRanges::hyphened_range))]
+#[tactic(auto, using(langtag_range::proofs::BasicForms::hyphened_range))]
 impl<'a> RangeList<'a> for &'a [WeightedRange<'a>] {
     ghost elements = { λ ranges. weighted_elements ranges.now };
 
@@ -59,7 +59,7 @@ impl<'a> RangeList<'a> for &'a [WeightedRange<'a>] {
 }
 
 /// Ranges, in order of preference.
-#[tactic(auto, using(langtag_range::proofs::AsciiRanges::hyphened_range))]
+#[tactic(auto, using(langtag_range::proofs::BasicForms::hyphened_range))]
 impl<'a> RangeList<'a> for &'a [LanguageRange<'a>] {
     ghost elements = { λ ranges. ordered_elements ranges.now };
 

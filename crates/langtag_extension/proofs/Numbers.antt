@@ -1,8 +1,5 @@
 -- The classes of subtags by the numbers of their bytes.
-use Rattle.std.proofs.Common.{◌≡◌, ◌==◌, ◌&&◌, ◌||◌, not, ℕ, List, length, refl}
-use Rattle.std.specs.Char.{is_ascii_alphabetic, is_ascii_digit}
-use Rattle.std.specs.Int.{is_in_range}
-use Rattle.std.specs.List.{list_all}
+use Rattle.langtag_scan.proofs.Prelude.{◌≡◌, ◌==◌, ◌&&◌, ◌||◌, not, ℕ, List, length, refl, is_ascii_alphabetic, is_ascii_digit, is_in_range, list_all}
 use Rattle.langtag_scan.specs.Class.{is_letter, is_digit, is_mark, is_singleton, is_extension_subtag}
 
 -- a letter or digit other than x

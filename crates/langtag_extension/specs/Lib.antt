@@ -4,3 +4,4 @@ pub mod Conversion
 pub mod Spelling
 pub mod ExtensionTexts
 pub mod Decided
+pub mod Noted

@@ -96,7 +96,7 @@ impl<'a> ExtensionSubtag<'a> {
     /// Returns whether another string equals this string, ignoring the case of ASCII letters:
     /// `ExtensionSubtag::new("co")?.eq_str("CO")` is `true`. It is proved that comparisons and hashes also ignore case,
     /// and that a clone is the same value.
-    #[tactic(auto, using(langtag_scan::proofs::CaseOrder::bytes_ends_first, langtag_scan::proofs::AlikeClasses::alike_extension_subtag))]
+    #[tactic(auto, using(langtag_scan::proofs::CaseOrder::bytes_ends_first, langtag_scan::proofs::CaseLaw::alike_extension_subtag))]
     pub fn eq_str(&self, other: &str) -> bool
         ensures test { result ≡ are_alike (extension_subtag_text self.now) other.now }
         ensures in_class { IsTrue result → IsTrue (class.is_extension_subtag other.now) }

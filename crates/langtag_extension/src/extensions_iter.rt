@@ -30,7 +30,7 @@ impl<'a> ExtensionsIter<'a> {
     ghost use Rattle.langtag_extension.specs.Text.{extensions_left};
 
     /// Returns an iterator over the extensions of a string.
-    #[tactic(auto, using(crate::proofs::Counts::few_extensions))]
+    #[tactic(auto, using(crate::proofs::ExtensionLookUp::few_extensions))]
     pub(crate) fn new(text: &'a str) -> Self
         requires { IsTrue (is_extensions_text text.now) }
         ensures { extensions_left result ≡ extension_texts text.now }

@@ -15,6 +15,7 @@ mod extension_subtag;
 mod extension_texts;
 mod extensions;
 mod extensions_iter;
+mod noted;
 mod singleton;
 
 pub use extension::{Extension, ExtensionBuf, InvalidExtension};
@@ -24,3 +25,6 @@ pub use extension_texts::first_extension_end;
 pub use extensions::{Extensions, ExtensionsBuf, InvalidExtensions};
 pub use extensions_iter::ExtensionsIter;
 pub use singleton::{InvalidSingleton, Singleton};
+
+// For langtag_registry and langtag_locale.
+pub use noted::{SINGLETONS, folded_singleton, singletons_of};

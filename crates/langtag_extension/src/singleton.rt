@@ -123,7 +123,7 @@ impl TryFrom<char> for Singleton {
 
     ghost try_from_gives = { ConvertsToSingleton };
 
-    #[tactic(auto, using(crate::proofs::SingletonLemmas::singleton_is_ascii))]
+    #[tactic(auto, using(crate::proofs::ExtensionLookUp::singleton_is_ascii))]
     fn try_from(c: char) -> Result<Self, InvalidSingleton<char>> {
         if !c.is_ascii() {
             return Err(InvalidSingleton(c));
@@ -140,7 +140,7 @@ impl fmt::Display for Singleton {
 
     ghost output = { λ singleton. Some (singleton_byte singleton ∷ []) };
 
-    #[tactic(auto, using(crate::proofs::SingletonLemmas::encode_singleton))]
+    #[tactic(auto, using(crate::proofs::ExtensionLookUp::encode_singleton))]
     fn fmt<W: fmt::Write>(&self, f: &mut fmt::Formatter<W>) -> fmt::Result {
         f.write_char(self.byte as char)
     }

@@ -1,6 +1,5 @@
 -- The tables have what the lists say, and the case of a text changes nothing of its alias.
-use Rattle.langtag_keyword.proofs.Common.{◌≡◌, ℕ, List, ◌&&◌, find, option_map, ap, ◌∙◌, map, refl, bytes_eq, Alike, are_alike, fold_text, Alias, TypeAlias}
-use Rattle.langtag_keyword.proofs.Common.{alias_for, type_alias_for}
+use Rattle.langtag_keyword.proofs.Common.{◌≡◌, ℕ, List, ◌&&◌, find, option_map, ap, ◌∙◌, map, refl, bytes_eq, Alike, are_alike, fold_text, Alias, TypeAlias, alias_for, type_alias_for}
 use Rattle.langtag_keyword.specs.Aliases.{subdivision_aliases, transform_type_aliases, unicode_type_aliases}
 use Rattle.langtag_keyword.specs.declared.alias_tables.TheConstants.{SUBDIVISION_ALIASES, TRANSFORM_TYPE_ALIASES, UNICODE_TYPE_ALIASES}
 

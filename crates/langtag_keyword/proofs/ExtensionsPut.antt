@@ -1,7 +1,5 @@
 -- Extensions that are put one after the other, while their texts are walked over.
-use Rattle.langtag_keyword.proofs.Common.{◌≡◌, ℕ, List, [], ◌∷◌, ◌++◌, length, map, sym, ap, ◌∙◌, arith, append-nil, flat_map-append, AllByRecursion, flat_map}
-use Rattle.langtag_keyword.proofs.Common.{SpellsExtension, extension_spelling, Output, Pushes, Extension, IsWellFormedExtension, extension_flat, pushes_both}
-use Rattle.langtag_keyword.proofs.Common.{pushes_joined, pushes_same}
+use Rattle.langtag_keyword.proofs.Common.{◌≡◌, ℕ, List, [], ◌∷◌, ◌++◌, length, map, sym, ap, ◌∙◌, arith, append-nil, flat_map-append, AllByRecursion, flat_map, SpellsExtension, extension_spelling, Output, Pushes, Extension, IsWellFormedExtension, extension_flat, pushes_both, pushes_joined, pushes_same}
 
 -- these are the texts of some extensions, of which something holds
 pub record AreLeft (Holds : List Extension → Type 0) (texts : List (List ℕ)) : Type 0 where

@@ -1,8 +1,5 @@
 -- The keys that a walk has met, and the keywords that are left to it.
-use Rattle.langtag_keyword.proofs.Common.{common_steps, ◌≡◌, ℕ, ◌*◌, ◌^◌, ◌<◌, Bool, true, false, ◌==◌, ◌&&◌, ◌||◌, not, List, [], ◌∷◌, ◌++◌, length, drop}
-use Rattle.langtag_keyword.proofs.Common.{eqb-true, refl, ap, sym, subst, ◌∙◌, arith, AllByRecursion, filter, list_any, and_parts, eqb_tells, nat_tests}
-use Rattle.langtag_keyword.proofs.Common.{list_any-append, are_alike, are_alphanumeric, is_alphanumeric, is_extension_subtag, subtags, IsExtension, IsSubtag}
-use Rattle.langtag_keyword.proofs.Common.{of_extension_subtag, opens_keyword, is_new_key, keywords_after, HasKeys, IsTrue}
+use Rattle.langtag_keyword.proofs.Common.{common_steps, ◌≡◌, ℕ, ◌*◌, ◌^◌, ◌<◌, Bool, true, false, ◌==◌, ◌&&◌, ◌||◌, not, List, [], ◌∷◌, ◌++◌, length, drop, eqb-true, refl, ap, sym, subst, ◌∙◌, arith, AllByRecursion, filter, list_any, and_parts, eqb_tells, nat_tests, list_any-append, are_alike, are_alphanumeric, is_alphanumeric, is_extension_subtag, subtags, IsExtension, IsSubtag, of_extension_subtag, opens_keyword, is_new_key, keywords_after, HasKeys, IsTrue}
 use Rattle.std.proofs.Common.{◌≢◌, ◌%◌, eqb, bit_or, replicate, set, slice_index_or, w64}
 use Rattle.std.specs.Int.{bit_at}
 use Rattle.std.proofs.lemmas.List.{get_or-replicate, get_or-set_other, get_or-set_same, length-set}

@@ -1,10 +1,6 @@
 -- Keywords that are written key after key, in the order of the keys, and what becomes of them when a keyword is set or
 -- removed.
-use Rattle.langtag_keyword.proofs.Common.{common_steps, ◌≡◌, ℕ, ◌≤◌, Bool, true, false, cond, ◌&&◌, not, List, [], ◌∷◌, ◌++◌, length, find, Option, None, Some}
-use Rattle.langtag_keyword.proofs.Common.{unwrap_or, refl, sym, ap, ◌∙◌, arith, append-nil, append_assoc, and_parts, flat_map, AllByRecursion, is_some}
-use Rattle.langtag_keyword.proofs.Common.{option_map_or, nat_tests, find_extension, are_alike, fold_text, Extension, Record, extension_flat, changed_from}
-use Rattle.langtag_keyword.proofs.Common.{extension_of, is_this_key, keyword_error, put_keyword, with_changed_u, with_keyword, without_keyword, without_within}
-use Rattle.langtag_keyword.proofs.Common.{is_place, is_of, is_before, is_key}
+use Rattle.langtag_keyword.proofs.Common.{common_steps, ◌≡◌, ℕ, ◌≤◌, Bool, true, false, cond, ◌&&◌, not, List, [], ◌∷◌, ◌++◌, length, find, Option, None, Some, unwrap_or, refl, sym, ap, ◌∙◌, arith, append-nil, append_assoc, and_parts, flat_map, AllByRecursion, is_some, option_map_or, nat_tests, find_extension, are_alike, fold_text, Extension, Record, extension_flat, changed_from, extension_of, is_this_key, keyword_error, put_keyword, with_changed_u, with_keyword, without_keyword, without_within, is_place, is_of, is_before, is_key}
 use Rattle.langtag_scan.specs.Case.{fold_byte}
 use Rattle.langtag_keyword.specs.Edit.{edited_record, is_place_of_u}
 use Rattle.langtag_keyword.proofs.KeywordLaws.{put-here, put-later, without-gone, AreNoKeys, ArePassed, fits_from, passed, standing-this, without-kept}

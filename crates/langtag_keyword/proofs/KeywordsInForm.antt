@@ -1,12 +1,9 @@
 -- Keywords that are written in the order of their keys are read again as they are: so keywords in their form are their own
 -- form, and subtags in which each key has the same value have the same form.
-use Rattle.langtag_keyword.proofs.Common.{each-weaker, common_steps, arith, ◌≡◌, ℕ, Bool, true, false, cond, ◌||◌, List, [], ◌∷◌, ◌++◌, map, Option, None, Some}
-use Rattle.langtag_keyword.proofs.Common.{option_map, refl, sym, ap, ◌∙◌, append-nil, AllByRecursion, filter, flat_map, is_some, option_map_or, fold_text}
-use Rattle.langtag_keyword.proofs.Common.{are_alike-decides, join, subtags, is_before, put_among, before_key, value_of}
+use Rattle.langtag_keyword.proofs.Common.{each-weaker, common_steps, arith, ◌≡◌, ℕ, Bool, true, false, cond, ◌||◌, List, [], ◌∷◌, ◌++◌, map, Option, None, Some, option_map, refl, sym, ap, ◌∙◌, append-nil, AllByRecursion, filter, flat_map, is_some, option_map_or, fold_text, are_alike-decides, join, subtags, is_before, put_among, before_key, value_of}
 use Rattle.langtag_keyword.specs.Form as form
 use Rattle.langtag_keyword.specs.Form.{keys_in_order}
-use Rattle.langtag_keyword.proofs.AlphabetLaws.{Rise, rise-in_alphabet, AreLower, lower-in_alphabet, among, among-alphabet, before-apart, each-among, not-among}
-use Rattle.langtag_keyword.proofs.AlphabetLaws.{same-risen, under-each}
+use Rattle.langtag_keyword.proofs.AlphabetLaws.{Rise, rise-in_alphabet, AreLower, lower-in_alphabet, among, among-alphabet, before-apart, each-among, not-among, same-risen, under-each}
 use Rattle.langtag_keyword.proofs.KeywordBlocks.{block, blocks}
 
 pub flat-same : (P : List ℕ → Type 0) (f g : List ℕ → List (List ℕ)) → ((k : List ℕ) → P k → f k ≡ g k) → (keys : List (List ℕ)) → AllByRecursion P keys → flat_map f keys ≡ flat_map g keys

@@ -1,9 +1,5 @@
 -- The numbers of subtags are in the order of the alphabet, and tell the subtags.
-use Rattle.langtag_keyword.proofs.Common.{each-weaker, ◌≡◌, ℕ, zero, suc, ◌+◌, ◌*◌, ◌<◌, ◌≤◌, ◌-◌, Bool, true, false, not, cond, ◌==◌, ◌&&◌, ◌||◌, List, []}
-use Rattle.langtag_keyword.proofs.Common.{◌∷◌, ◌++◌, length, get_or, take, drop, map, append_assoc, append-nil, refl, sym, ap, subst, ◌∙◌, arith}
-use Rattle.langtag_keyword.proofs.Common.{flat_map-append, AllByRecursion, filter, flat_map, list_any, and_parts, false≢true, nat_tests, at_drop_more}
-use Rattle.langtag_keyword.proofs.Common.{take_more, pushes_both, pushes_ended, pushes_same, Output, Pushes, length-fold, IsSubtag, fold_text, are_alphanumeric}
-use Rattle.langtag_keyword.proofs.Common.{is_alphanumeric, in_alphabet, is_before, IsOffered, Least, key_of, number_text, order_number}
+use Rattle.langtag_keyword.proofs.Common.{each-weaker, ◌≡◌, ℕ, zero, suc, ◌+◌, ◌*◌, ◌<◌, ◌≤◌, ◌-◌, Bool, true, false, not, cond, ◌==◌, ◌&&◌, ◌||◌, List, [], ◌∷◌, ◌++◌, length, get_or, take, drop, map, append_assoc, append-nil, refl, sym, ap, subst, ◌∙◌, arith, flat_map-append, AllByRecursion, filter, flat_map, list_any, and_parts, false≢true, nat_tests, at_drop_more, take_more, pushes_both, pushes_ended, pushes_same, Output, Pushes, length-fold, IsSubtag, fold_text, are_alphanumeric, is_alphanumeric, in_alphabet, is_before, IsOffered, Least, key_of, number_text, order_number}
 use Rattle.std.proofs.Common.{◌/◌, ◌%◌}
 use Prim.Native.Nat.{◌^◌}
 use Rattle.std.proofs.Math.Nat.{mod-eq_of_lt, pow-suc}

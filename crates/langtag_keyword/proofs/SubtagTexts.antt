@@ -1,10 +1,5 @@
 -- The subtags of an extension, and those before a key, in its text.
-use Rattle.langtag_keyword.proofs.Common.{◌≡◌, ℕ, ◌≤◌, ◌<◌, ◌+◌, ◌-◌, Bool, true, false, List, [], ◌∷◌, ◌++◌, length, take, drop, get_or, Option, None, Some}
-use Rattle.langtag_keyword.proofs.Common.{suc, refl, ap, sym, subst, ◌∙◌, arith, cond, append-nil, zero, IsUtf8, IsCharBoundary-after_ascii, common_steps}
-use Rattle.langtag_keyword.proofs.Common.{length-append, AllByRecursion, list_any, option_map_or, length-slice_split, Extension, Record, IsWellFormed}
-use Rattle.langtag_keyword.proofs.Common.{is_hyphen, join, segments, subtags, NoHyphenWithin, hyphenated, length-join, IsSubtag, of_extension_subtag}
-use Rattle.langtag_keyword.proofs.Common.{each_subtag, subtags-joined, join-subtags, is_extension_subtag, SpellsExtension, IsExtension, find_extension}
-use Rattle.langtag_keyword.proofs.Common.{extension_found, length_with_hyphens, opens_keyword, before_key, is_new_key, keywords_after, are_alike, option_map}
+use Rattle.langtag_keyword.proofs.Common.{◌≡◌, ℕ, ◌≤◌, ◌<◌, ◌+◌, ◌-◌, Bool, true, false, List, [], ◌∷◌, ◌++◌, length, take, drop, get_or, Option, None, Some, suc, refl, ap, sym, subst, ◌∙◌, arith, cond, append-nil, zero, IsUtf8, IsCharBoundary-after_ascii, common_steps, length-append, AllByRecursion, list_any, option_map_or, length-slice_split, Extension, Record, IsWellFormed, is_hyphen, join, segments, subtags, NoHyphenWithin, hyphenated, length-join, IsSubtag, of_extension_subtag, each_subtag, subtags-joined, join-subtags, is_extension_subtag, SpellsExtension, IsExtension, find_extension, extension_found, length_with_hyphens, opens_keyword, before_key, is_new_key, keywords_after, are_alike, option_map}
 use Rattle.std.proofs.Common.{take-append-drop}
 use Rattle.std.specs.Str.{IsCharBoundary}
 use Rattle.std.proofs.lemmas.Str.{IsCharBoundary-start, IsCharBoundary-end, IsCharBoundary-before_ascii}

@@ -1,6 +1,5 @@
 -- The members of a language are the subtags of its text.
-use Rattle.std.proofs.Common.{◌≡◌, ℕ, List, ◌∷◌, drop, Option, IfSome, sym, ap, ◌∙◌, arith}
-use Rattle.std.proofs.lemmas.Grind.{common_steps}
+use Rattle.langtag_scan.proofs.Prelude.{◌≡◌, ℕ, List, ◌∷◌, drop, Option, IfSome, sym, ap, ◌∙◌, arith, common_steps}
 use Rattle.langtag_scan.specs.Subtags.{subtags}
 use Rattle.langtag_language.specs.declared.language_extension.LanguageExtension.{LanguageExtension}
 use Rattle.langtag_language.specs.Language.{EachLanguageSpelling, SpellsLanguageExtension}

@@ -1,8 +1,5 @@
 -- The classes of subtags by the numbers of their bytes.
-use Rattle.std.proofs.Common.{◌≡◌, ◌==◌, ◌&&◌, ℕ, List, length, refl}
-use Rattle.std.specs.Char.{is_ascii_alphabetic}
-use Rattle.std.specs.Int.{is_in_range}
-use Rattle.std.specs.List.{list_all}
+use Rattle.langtag_scan.proofs.Prelude.{◌≡◌, ◌==◌, ◌&&◌, ℕ, List, length, refl, is_ascii_alphabetic, is_in_range, list_all}
 use Rattle.langtag_scan.specs.Class.{is_letter, is_primary, is_extended}
 
 -- two to eight letters

@@ -1,13 +1,7 @@
 -- A rule and its test say the same: one list of subtags spells a text, and it is what stands between the hyphens.
-use Rattle.std.proofs.Common.{◌≡◌, ◌↔◌, ℕ, true, Bool, IsTrue, List, [], ◌∷◌, map, refl, sym, ap, ◌∙◌, arith}
-use Rattle.std.proofs.lemmas.Bool.{leb-true, le-leb, and_parts}
-use Rattle.std.proofs.lemmas.List.{nil_from_length, length-map}
-use Rattle.std.proofs.lemmas.Grind.{common_steps}
-use Rattle.langtag_scan.specs.Case.{fold_text, are_alike}
-use Rattle.langtag_scan.specs.Class.{is_extended}
-use Rattle.langtag_scan.specs.Subtags.{join, subtags}
-use Rattle.langtag_scan.proofs.AlikeClasses.{each_test-fold, alike_subtags_test}
-use Rattle.langtag_scan.proofs.CaseLaw.{classes-fold, length-fold}
+use Rattle.langtag_scan.proofs.Prelude.{◌≡◌, ◌↔◌, ℕ, true, Bool, IsTrue, List, [], ◌∷◌, map, refl, sym, ap, ◌∙◌, arith, leb-true, le-leb, and_parts, nil_from_length, length-map, common_steps}
+use Rattle.langtag_scan.proofs.Grammar.{fold_text, are_alike, is_extended, join, subtags}
+use Rattle.langtag_scan.proofs.CaseLaw.{each_test-fold, alike_subtags_test, classes-fold, length-fold}
 use Rattle.langtag_scan.proofs.SubtagFacts.{of_primary, of_extended}
 use Rattle.langtag_scan.proofs.SubtagLists.{each_from_test, test_from_each, each_subtag, subtags-joined, join-subtags}
 use Rattle.langtag_language.specs.Language.{SpellsLanguageExtension, IsLanguageExtension, SpellsLanguage, IsLanguage}

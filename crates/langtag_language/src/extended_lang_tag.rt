@@ -94,7 +94,7 @@ impl<'a> ExtendedLangTag<'a> {
     /// Returns whether another string equals this string, ignoring the case of ASCII letters:
     /// `ExtendedLangTag::new("yue")?.eq_str("YUE")` is `true`. It is proved that comparisons and hashes also ignore
     /// case, and that a clone is the same value.
-    #[tactic(auto, using(langtag_scan::proofs::CaseOrder::bytes_ends_first, langtag_scan::proofs::AlikeClasses::alike_extended))]
+    #[tactic(auto, using(langtag_scan::proofs::CaseOrder::bytes_ends_first, langtag_scan::proofs::CaseLaw::alike_extended))]
     pub fn eq_str(&self, other: &str) -> bool
         ensures test { result ≡ are_alike (extended_lang_tag_text self.now) other.now }
         ensures in_class { IsTrue result → IsTrue (class.is_extended other.now) }

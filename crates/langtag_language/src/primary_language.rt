@@ -95,7 +95,7 @@ impl<'a> PrimaryLanguage<'a> {
     /// Returns whether another string equals this string, ignoring the case of ASCII letters:
     /// `PrimaryLanguage::new("fr")?.eq_str("FR")` is `true`. It is proved that comparisons and hashes also ignore case,
     /// and that a clone is the same value.
-    #[tactic(auto, using(langtag_scan::proofs::CaseOrder::bytes_ends_first, langtag_scan::proofs::AlikeClasses::alike_primary))]
+    #[tactic(auto, using(langtag_scan::proofs::CaseOrder::bytes_ends_first, langtag_scan::proofs::CaseLaw::alike_primary))]
     pub fn eq_str(&self, other: &str) -> bool
         ensures test { result ≡ are_alike (primary_language_text self.now) other.now }
         ensures in_class { IsTrue result → IsTrue (class.is_primary other.now) }

@@ -14,7 +14,7 @@ use Rattle.langtag_scan.specs.Case.{are_alike, fold_byte}
 use Rattle.langtag_range.specs.Listed.{basic_text}
 use Rattle.langtag_range.specs.BasicForm.{begins_with_wildcard}
 use Rattle.langtag_range.proofs.BasicForms.{length-basic}
-use Rattle.langtag_range.proofs.Wildcards.{basic_form-byte}
+use Rattle.langtag_range.proofs.Among.{basic_form-byte}
 use Rattle.langtag_likely.specs.Ranges.{after_common, BeginsPlain}
 use Rattle.langtag_likely.proofs.AddedTwice.{either_way}
 

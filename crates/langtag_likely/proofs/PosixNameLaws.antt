@@ -15,7 +15,7 @@ use Rattle.langtag_range.specs.Wanted.{hyphened, hyphened_byte}
 use Rattle.langtag_likely.specs.Modifiers.{is_empty, is_script_code}
 use Rattle.langtag_likely.specs.ToPosix.{after_variants, marked}
 use Rattle.langtag_scan.specs.CaseLaws.{are_alike-decides}
-use Rattle.langtag_scan.proofs.AlikeClasses.{alike_region}
+use Rattle.langtag_scan.proofs.CaseLaw.{alike_region}
 use Rattle.langtag_scan.proofs.Disjoint.{region_short, script_four}
 use Rattle.langtag_scan.proofs.SubtagFacts.{of_region}
 use Rattle.langtag.proofs.Alike.{alike_is, alike_length}

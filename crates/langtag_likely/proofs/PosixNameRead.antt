@@ -15,8 +15,7 @@ use Rattle.langtag_scan.specs.Parts.{language_part, variants_part}
 use Rattle.langtag_scan.specs.Record.{Extension, IsWellFormed, Record, extension_flat, one_flat, spell}
 use Rattle.langtag_scan.specs.Subtags.{is_hyphen, join}
 use Rattle.langtag_scan.specs.Tag.{IsNormal, IsTag}
-use Rattle.langtag_scan.proofs.AlikeClasses.{alike_primary, alike_region}
-use Rattle.langtag_scan.proofs.CaseLaw.{fold_text-twice, hyphen-fold, length-fold}
+use Rattle.langtag_scan.proofs.CaseLaw.{alike_primary, alike_region, fold_text-twice, hyphen-fold, length-fold}
 use Rattle.langtag_scan.proofs.Disjoint.{extended_three, region_short}
 use Rattle.langtag_scan.proofs.Joins.{hyphenated, length-join}
 use Rattle.langtag_scan.proofs.Ascii.{IsAscii-each, alphanumeric_below}
@@ -28,7 +27,7 @@ use Rattle.langtag.specs.Fields.{Fields}
 use Rattle.langtag.proofs.Alike.{alike_is, alike_length}
 use Rattle.langtag_range.specs.Locale.{ends_locale, front_of, is_hash, locale_place, place_before, without_mark}
 use Rattle.langtag_range.specs.Wanted.{hyphened}
-use Rattle.langtag_range.proofs.FoldedTexts.{list_any-fold}
+use Rattle.langtag_range.proofs.AlikeTexts.{list_any-fold}
 use Rattle.langtag_likely.specs.Likely.{language_alone, or_else, without_script}
 use Rattle.langtag_likely.specs.Maximal.{fields_of}
 use Rattle.langtag_likely.specs.Modifiers.{is_empty, modifier_for, modifier_script, modifier_variant, modifiers, names}

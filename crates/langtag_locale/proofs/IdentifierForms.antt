@@ -1,9 +1,5 @@
 -- The form of a language identifier has a language, and maybe a script and a region.
-use Rattle.langtag_keyword.proofs.Common.{each-weaker, ◌≡◌, ℕ, Bool, true, cond, List, [], ◌∷◌, ◌++◌, ◌&&◌, length, fold, Option, Some, None, unwrap_or, refl}
-use Rattle.langtag_keyword.proofs.Common.{sym, ap, ◌∙◌, append_assoc, arith, common_steps, length-map, flat_map, list_all, AllByRecursion, IsTrue, with_joined}
-use Rattle.langtag_keyword.proofs.Common.{of_primary, IsSubtag, of_variant, are_alike, is_region, is_script, is_variant, IsWellFormed, Record, extension_flat}
-use Rattle.langtag_keyword.proofs.Common.{one_flat, private_part_flat, spell, segments, Alias, TypeAlias, alias_for, is_unicode_language, both, found_has}
-use Rattle.langtag_keyword.proofs.Common.{nat_tests, each-append}
+use Rattle.langtag_keyword.proofs.Common.{each-weaker, ◌≡◌, ℕ, Bool, true, cond, List, [], ◌∷◌, ◌++◌, ◌&&◌, length, fold, Option, Some, None, unwrap_or, refl, sym, ap, ◌∙◌, append_assoc, arith, common_steps, length-map, flat_map, list_all, AllByRecursion, IsTrue, with_joined, of_primary, IsSubtag, of_variant, are_alike, is_region, is_script, is_variant, IsWellFormed, Record, extension_flat, one_flat, private_part_flat, spell, segments, Alias, TypeAlias, alias_for, is_unicode_language, both, found_has, nat_tests, each-append}
 use Rattle.std.specs.Prelude.{IfSome}
 use Rattle.langtag_case.proofs.RecommendedLaws.{recommended_alike}
 use Rattle.langtag_case.specs.RecommendedCase.{recommended_text}

@@ -1,8 +1,5 @@
 -- The form of a language identifier is its own form, in any case of its letters.
-use Rattle.langtag_keyword.proofs.Common.{rules, arith, ◌≡◌, ℕ, Bool, true, false, not, cond, List, [], ◌∷◌, ◌&&◌, ◌||◌, fold, Option, Some, None, find, refl}
-use Rattle.langtag_keyword.proofs.Common.{sym, ap, ◌∙◌, unwrap_or, common_steps, false_from_ne_true, false≢true, not-true, AllByRecursion, list_all, is_none}
-use Rattle.langtag_keyword.proofs.Common.{is_some, option_map_or, IsTrue, codes, each-append, each_from_test, Alike, are_alike, are_alike-decides, one_flat}
-use Rattle.langtag_keyword.proofs.Common.{segments, Alias, TypeAlias, alias_for, type_alias_for, both, found_has, fold_text-twice, in_alphabet}
+use Rattle.langtag_keyword.proofs.Common.{rules, arith, ◌≡◌, ℕ, Bool, true, false, not, cond, List, [], ◌∷◌, ◌&&◌, ◌||◌, fold, Option, Some, None, find, refl, sym, ap, ◌∙◌, unwrap_or, common_steps, false_from_ne_true, false≢true, not-true, AllByRecursion, list_all, is_none, is_some, option_map_or, IsTrue, codes, each-append, each_from_test, Alike, are_alike, are_alike-decides, one_flat, segments, Alias, TypeAlias, alias_for, type_alias_for, both, found_has, fold_text-twice, in_alphabet}
 use Rattle.std.proofs.lemmas.Bool.{cond_both, or_parts}
 use Rattle.langtag_likely.proofs.AlikeFields.{likely_for-alike}
 use Rattle.langtag.proofs.Alike.{are_alike-left, are_alike-right}
@@ -14,9 +11,7 @@ use Rattle.langtag_locale.specs.LocaleForm.{forms, has_variant, language_after, 
 use Rattle.langtag_locale.proofs.LocaleCase.{has_variant-alike, is_gone, region_by, replaced_by, replacement}
 use Rattle.langtag_keyword.proofs.Aliases.{alias_for-alike, type_alias_for-alike}
 use Rattle.langtag_locale.proofs.IdentifierForms.{row_good, sign_cases, sign_found, fold_good}
-use Rattle.langtag_locale.proofs.LocaleTables.{heirs_last, is_last_language, is_last_region, is_last_script, is_last_sign, is_last_variant, is_old_language}
-use Rattle.langtag_locale.proofs.LocaleTables.{no_region_last, pairs_last, replaced_last, replacements_last, scripts_last, sign_languages_last, stays_always}
-use Rattle.langtag_locale.proofs.LocaleTables.{variants_last, found_good, heir_good, languages_old, pairs_replaced, regions_dropped, variant_languages_last}
+use Rattle.langtag_locale.proofs.LocaleTables.{heirs_last, is_last_language, is_last_region, is_last_script, is_last_sign, is_last_variant, is_old_language, no_region_last, pairs_last, replaced_last, replacements_last, scripts_last, sign_languages_last, stays_always, variants_last, found_good, heir_good, languages_old, pairs_replaced, regions_dropped, variant_languages_last}
 use Rattle.langtag_keyword.proofs.AlphabetLaws.{in_alphabet-twice, each-alphabet}
 use Rattle.langtag_locale.specs.LocaleAliases as list
 use Rattle.langtag_locale.specs.LocaleForm as form

@@ -1,16 +1,11 @@
 -- The form of a Unicode locale identifier is a tag.
-use Rattle.langtag_keyword.proofs.Common.{common_steps, flat_map-append, ◌≡◌, ◌<◌, List, ℕ, Bool, [], ◌∷◌, ◌++◌, ◌&&◌, true, false, cond, length, get_or, map}
-use Rattle.langtag_keyword.proofs.Common.{Option, None, Some, option_map, refl, sym, ap, ◌∙◌, arith, append-nil, ◌≤◌, inl, inr, false≢true, AllByRecursion}
-use Rattle.langtag_keyword.proofs.Common.{flat_map, list_all, option_map_or, extension_found, SpellsExtension, SpellsExtensions, extension_spelling}
-use Rattle.langtag_keyword.proofs.Common.{find_extension, fold_byte, length-join, is_primary, is_region, is_script, Extension, IsWellFormedExtension}
-use Rattle.langtag_keyword.proofs.Common.{extension_flat, IsWellFormed, Record, one_flat, spell, is_of, is_transform, unicode_form, is_language_or_none}
-use Rattle.langtag_keyword.proofs.Common.{nat_tests, IsTrue, IsSubtag, of_primary, of_variant, each-append, both, found_has}
+use Rattle.langtag_keyword.proofs.Common.{common_steps, flat_map-append, ◌≡◌, ◌<◌, List, ℕ, Bool, [], ◌∷◌, ◌++◌, ◌&&◌, true, false, cond, length, get_or, map, Option, None, Some, option_map, refl, sym, ap, ◌∙◌, arith, append-nil, ◌≤◌, inl, inr, false≢true, AllByRecursion, flat_map, list_all, option_map_or, extension_found, SpellsExtension, SpellsExtensions, extension_spelling, find_extension, fold_byte, length-join, is_primary, is_region, is_script, Extension, IsWellFormedExtension, extension_flat, IsWellFormed, Record, one_flat, spell, is_of, is_transform, unicode_form, is_language_or_none, nat_tests, IsTrue, IsSubtag, of_primary, of_variant, each-append, both, found_has}
 use Rattle.std.proofs.lemmas.List.Folds.{list_all_at}
 use Rattle.langtag_extension.proofs.ExtensionLookUp.{first_byte-spelling}
-use Rattle.langtag_registry.specs.Noted.{of_singleton}
+use Rattle.langtag_extension.specs.Noted.{of_singleton}
 use Rattle.langtag_scan.specs.Class.{is_singleton, is_extension_subtag}
 use Rattle.langtag_locale.specs.Locale.{is_locale_extension, is_unicode_subtag, is_locale_record}
-use Rattle.langtag_registry.specs.Canonical.{singletons}
+use Rattle.langtag_extension.specs.Noted.{singletons}
 use Rattle.langtag_locale.specs.LocaleForm.{extension_at, locale_extension_form, locale_transform_form, identifier_form, locale_record, locale_text}
 use Rattle.langtag_locale.specs.LocaleForm.{new_variants, record_fields, transform_language_form}
 use Rattle.std.specs.Prelude.{IfSome}

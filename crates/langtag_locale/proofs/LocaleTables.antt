@@ -1,7 +1,5 @@
 -- The tables of language identifiers have what the lists say, and what replaces a field has its class: by computation.
-use Rattle.langtag_keyword.proofs.Common.{common_steps, arith, ◌≡◌, ℕ, Bool, true, cond, List, [], ◌∷◌, fold, map, option_map, Some, refl, ap, ◌∙◌, ◌+◌, ◌*◌}
-use Rattle.langtag_keyword.proofs.Common.{◌==◌, not, ◌&&◌, ◌++◌, codes, list_all, are_alike, fold_text, segments, Alias, TypeAlias, alias_for, type_alias_for}
-use Rattle.langtag_keyword.proofs.Common.{both, found_has, nat_tests, is_none, is_some, are_alike-decides, find, ◌||◌}
+use Rattle.langtag_keyword.proofs.Common.{common_steps, arith, ◌≡◌, ℕ, Bool, true, cond, List, [], ◌∷◌, fold, map, option_map, Some, refl, ap, ◌∙◌, ◌+◌, ◌*◌, ◌==◌, not, ◌&&◌, ◌++◌, codes, list_all, are_alike, fold_text, segments, Alias, TypeAlias, alias_for, type_alias_for, both, found_has, nat_tests, is_none, is_some, are_alike-decides, find, ◌||◌}
 use Rattle.std.proofs.Math.Bool.{and-false}
 use Rattle.langtag.specs.FieldClasses.{is_language_field, is_region_field, is_script_field}
 use Rattle.langtag_scan.specs.Case.{fold_byte}

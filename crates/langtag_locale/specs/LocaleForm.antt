@@ -12,9 +12,9 @@ use Rattle.langtag_likely.specs.Likely.{add_likely, known, likely_for, or_else, 
 use Rattle.langtag.specs.Fields.{Fields, subtag_of}
 use Rattle.langtag_likely.specs.LikelySubtags.{likely_subtags}
 use Rattle.langtag_likely.specs.Matching.{language_replaced, region_alone}
-use Rattle.langtag_registry.specs.Canonical.{singletons}
-use Rattle.langtag_registry.specs.Fields.{preferred_tag}
-use Rattle.langtag_registry.specs.Registered.{is_registered_extlang}
+use Rattle.langtag_extension.specs.Noted.{singletons}
+use Rattle.langtag_fields.specs.Fields.{preferred_tag}
+use Rattle.langtag_fields.specs.Registered.{is_registered_extlang}
 use Rattle.langtag_scan.specs.Case.{Alike, are_alike}
 use Rattle.langtag_scan.specs.Record.{Extension, Record, one_flat, spell}
 use Rattle.langtag_scan.specs.Subtags.{segments}

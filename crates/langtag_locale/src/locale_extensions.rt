@@ -22,13 +22,13 @@ ghost use Rattle.langtag_keyword.specs.Transform.{is_field_key};
 use crate::locale_fields::identifier_form;
 use crate::locale_variants::push_variants;
 use langtag::{Extension, Extensions, Singleton, into_smallcase};
+use langtag_extension::{SINGLETONS, singletons_of};
 use langtag_keyword::{
     Keys, is_of, preceding, push_keywords, push_unicode, split_first, subtags_of, take_region,
     take_script,
 };
 use langtag_likely::{TagFields, language_replaced};
 use langtag_output::Output;
-use langtag_registry::{SINGLETONS, singletons_of};
 
 /// Appends the extensions in their forms, in the order of their singletons.
 pub(crate) fn push_locale_extensions(out: &mut Output<'_>, extensions: Extensions<'_>)

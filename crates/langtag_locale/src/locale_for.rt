@@ -7,7 +7,7 @@ ghost use Rattle.langtag_locale.specs.LocaleForm as spec;
 
 use crate::locale::is_locale_record;
 use langtag::{ExtendedLangTag, LangTag, NormalLangTag};
-use langtag_registry::{is_registered_extlang, preferred_tag};
+use langtag_fields::{is_registered_extlang, preferred_tag};
 
 /// Returns the Unicode locale identifier whose form is the form of a tag: the tag itself, its Preferred-Value, or the tag
 /// from its extended language on. Returns `None` if the tag has no form.

@@ -79,7 +79,7 @@ fn weight_after(item: &[u8], semicolon: usize) -> Option<u32>
 }
 
 /// Returns the bytes as a basic language range, or `None` if they are not a basic language range.
-#[tactic(auto, using(langtag_range::proofs::BasicRanges::basic_ranges, langtag_range::proofs::AsciiRanges::utf8_basic))]
+#[tactic(auto, using(langtag_range::proofs::BasicForms::basic_ranges, langtag_range::proofs::BasicForms::utf8_basic))]
 fn basic_range(bytes: &[u8]) -> Option<LanguageRange<'_>>
     ensures { MatchOption result (is_basic_range bytes.now ≡ false)
         (λ range. (language_range_text range ≡ bytes.now) × IsTrue (is_basic_range bytes.now)) }

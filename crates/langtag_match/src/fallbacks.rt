@@ -30,7 +30,7 @@ pub struct Fallbacks<'a> {
 
 impl<'a> Fallbacks<'a> {
     /// Returns an iterator that starts at the range itself.
-    #[tactic(auto, using(langtag_range::proofs::Hyphens::few_fallbacks))]
+    #[tactic(auto, using(langtag_range::proofs::Among::few_fallbacks))]
     pub(crate) fn new(range: LanguageRange<'a>) -> Self
         ensures list { fallbacks_left result ≡ spec.fallbacks (language_range_text range.entry) }
         ensures few { length (fallbacks_left result) < 2 ^ 64 }

@@ -1,6 +1,5 @@
 -- What is left of a buffer that a text was written into, without the rest of the buffer.
-use Rattle.std.proofs.Common.{◌≡◌, ℕ, ◌≤◌, List, ◌++◌, length, take, drop, sym, ap, subst, ◌∙◌, arith, append_assoc}
-use Rattle.std.proofs.lemmas.List.{take-take, take_at}
+use Rattle.langtag_scan.proofs.Prelude.{◌≡◌, ℕ, ◌≤◌, List, ◌++◌, length, take, drop, sym, ap, subst, ◌∙◌, arith, append_assoc, take-take, take_at}
 use Rattle.langtag_output.specs.Writes.{Writes}
 use Rattle.langtag_output.specs.WritesWhole.{WritesWhole}
 

@@ -12,7 +12,7 @@ use Rattle.langtag_scan.specs.CaseLaws.{are_alike-decides}
 use Rattle.langtag_scan.specs.Class.{is_region, is_script, is_letter, is_digit, is_primary}
 use Rattle.langtag_scan.specs.Record.{EachRecord, Extension, IsWellFormed, PrivateUse, Record, Spells, extension_flat, flat, one_flat, private_part_flat, spell}
 use Rattle.langtag_scan.specs.Tag.{IsNormal}
-use Rattle.langtag_scan.proofs.AlikeClasses.{alike_primary}
+use Rattle.langtag_scan.proofs.CaseLaw.{alike_primary}
 use Rattle.langtag_scan.proofs.Disjoint.{script_four}
 use Rattle.langtag_scan.proofs.NormalTexts.{normal_or_not, spelled_once}
 use Rattle.langtag_tables.proofs.Letters.{primary_length}

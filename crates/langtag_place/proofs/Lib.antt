@@ -1,4 +1,3 @@
 pub mod Rules
 mod Numbers
 pub mod RepeatLaws
-mod VariantBlockLaws

@@ -1,9 +1,5 @@
 -- The classes of subtags by the numbers of their bytes.
-use Rattle.std.proofs.Common.{◌≡◌, ◌==◌, ◌&&◌, ◌||◌, ℕ, List, length, slice_index, refl, arith}
-use Rattle.std.specs.Char.{is_ascii_alphabetic, is_ascii_digit}
-use Rattle.std.specs.Int.{is_in_range}
-use Rattle.std.specs.List.{list_all}
-use Rattle.std.proofs.lemmas.Grind.{common_steps}
+use Rattle.langtag_scan.proofs.Prelude.{◌≡◌, ◌==◌, ◌&&◌, ◌||◌, ℕ, List, length, slice_index, refl, arith, is_ascii_alphabetic, is_ascii_digit, is_in_range, list_all, common_steps}
 use Rattle.langtag_scan.specs.Class.{is_letter, is_digit, is_script, is_region, is_variant}
 
 -- four letters

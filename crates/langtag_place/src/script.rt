@@ -92,7 +92,7 @@ impl<'a> Script<'a> {
     /// Returns whether another string equals this string, ignoring the case of ASCII letters:
     /// `Script::new("Latn")?.eq_str("LATN")` is `true`. It is proved that comparisons and hashes also ignore case, and
     /// that a clone is the same value.
-    #[tactic(auto, using(langtag_scan::proofs::CaseOrder::bytes_ends_first, langtag_scan::proofs::AlikeClasses::alike_script))]
+    #[tactic(auto, using(langtag_scan::proofs::CaseOrder::bytes_ends_first, langtag_scan::proofs::CaseLaw::alike_script))]
     pub fn eq_str(&self, other: &str) -> bool
         ensures test { result ≡ are_alike (script_text self.now) other.now }
         ensures in_class { IsTrue result → IsTrue (class.is_script other.now) }

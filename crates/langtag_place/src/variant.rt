@@ -98,7 +98,7 @@ impl<'a> Variant<'a> {
     /// Returns whether another string equals this string, ignoring the case of ASCII letters:
     /// `Variant::new("rozaj")?.eq_str("ROZAJ")` is `true`. It is proved that comparisons and hashes also ignore case,
     /// and that a clone is the same value.
-    #[tactic(auto, using(langtag_scan::proofs::CaseOrder::bytes_ends_first, langtag_scan::proofs::AlikeClasses::alike_variant))]
+    #[tactic(auto, using(langtag_scan::proofs::CaseOrder::bytes_ends_first, langtag_scan::proofs::CaseLaw::alike_variant))]
     pub fn eq_str(&self, other: &str) -> bool
         ensures test { result ≡ are_alike (variant_text self.now) other.now }
         ensures in_class { IsTrue result → IsTrue (class.is_variant other.now) }

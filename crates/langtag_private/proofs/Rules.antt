@@ -1,14 +1,7 @@
 -- The rule and its test say the same: one private list spells a text, and it is what stands between the hyphens.
-use Rattle.std.proofs.Common.{◌≡◌, ◌↔◌, ℕ, true, Bool, IsTrue, List, [], ◌∷◌, drop, map, ◌&&◌, refl, sym, ap, ◌∙◌, arith}
-use Rattle.std.proofs.lemmas.Bool.{and_parts}
-use Rattle.std.proofs.lemmas.Grind.{common_steps}
-use Rattle.langtag_scan.specs.Case.{fold_text, are_alike}
-use Rattle.langtag_scan.specs.Class.{is_mark, is_private_subtag}
-use Rattle.langtag_scan.specs.Record.{PrivateUse, IsWellFormedPrivateUse, private_use_flat}
-use Rattle.langtag_scan.specs.Subtags.{join, subtags}
-use Rattle.langtag_scan.specs.Tag.{IsPrivate}
-use Rattle.langtag_scan.proofs.AlikeClasses.{each_test-fold, alike_subtags_test}
-use Rattle.langtag_scan.proofs.CaseLaw.{classes-fold, is_mark-fold}
+use Rattle.langtag_scan.proofs.Prelude.{◌≡◌, ◌↔◌, ℕ, true, Bool, IsTrue, List, [], ◌∷◌, drop, map, ◌&&◌, refl, sym, ap, ◌∙◌, arith, and_parts, common_steps}
+use Rattle.langtag_scan.proofs.Grammar.{fold_text, are_alike, is_mark, is_private_subtag, PrivateUse, IsWellFormedPrivateUse, private_use_flat, join, subtags, IsPrivate}
+use Rattle.langtag_scan.proofs.CaseLaw.{each_test-fold, alike_subtags_test, classes-fold, is_mark-fold}
 use Rattle.langtag_scan.proofs.SubtagFacts.{of_one, of_private_subtag, mark_alphanumeric}
 use Rattle.langtag_scan.proofs.SubtagLists.{each_from_test, test_from_each, each_subtag, subtags-joined, join-subtags, length-after_first}
 use Rattle.langtag_private.specs.PrivateUse.{EachPrivateUseSpelling}

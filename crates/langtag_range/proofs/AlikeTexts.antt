@@ -1,17 +1,36 @@
--- The case of letters changes no mark and no digit of a text, nor whether it is a range.
-use Rattle.std.proofs.Common.{◌≡◌, ℕ, ◌<◌, eqb, List, [], ◌∷◌, map, refl, ap, arith}
-use Rattle.std.specs.List.{list_all}
-use Rattle.std.proofs.lemmas.Bool.Decides.{nat_tests, eqb_tells}
-use Rattle.std.proofs.lemmas.Grind.{common_steps}
-use Rattle.langtag_scan.specs.Case.{fold_byte, fold_text}
-use Rattle.langtag_scan.proofs.CaseLaw.{all-fold, is_letter-fold, length-fold, segments-fold, classes-fold}
-use Rattle.langtag_scan.specs.Class.{is_letter, is_private_subtag}
-use Rattle.langtag_scan.specs.Subtags.{subtags}
-use Rattle.langtag_range.specs.Element.{from_first, trimmed}
+-- The case of letters changes no mark, no digit and no range in a text; so alike headers have alike elements.
+use Rattle.langtag_scan.proofs.Prelude.{◌≡◌, ℕ, ◌+◌, Bool, List, [], ◌∷◌, map, reverse, refl, arith, ◌<◌, eqb, ap, true, cond, Option, None, Some, option_map, sym, ◌∙◌, list_any, slice_split, before_first, after_first, position_or_len, list_all, take-map, drop-map, map-append, reverse-append, length-map, common_steps, nat_tests, eqb_tells, and_parts}
+use Rattle.langtag_scan.proofs.Grammar.{fold_byte, fold_text, is_letter, is_private_subtag, are_digits, is_digit, subtags, Classes}
+use Rattle.langtag_scan.proofs.CaseLaw.{all-fold, is_letter-fold, length-fold, segments-fold, classes-fold, is_digit-fold}
+use Rattle.langtag_range.specs.Element.{from_first, trimmed, Element, is_comma, is_semicolon, range_of, items}
 use Rattle.langtag_range.specs.Range.{is_star, is_first_subtag, is_basic_range}
-use Rattle.langtag_range.specs.Wanted.{hyphened}
-use Rattle.langtag_range.proofs.FoldedTexts.{reverse-fold}
-use Rattle.langtag_scan.specs.Stage.{Classes}
+use Rattle.langtag_range.specs.Wanted.{hyphened, wanted_text, is_point, number_weight, value_weight, is_equals, is_q_name, is_q_parameter, wanted_weight, parameters, wanted, digits_behind, wanted_items, wanted_elements, folded, ElementsIgnoreCase}
+use Rattle.std.proofs.Math.ListN.{get_or-map}
+use Rattle.langtag_range.specs.Locale.{ends_locale, front_of, is_hash, place_before, locale_place, without_mark}
+
+module _ (p : ℕ → Bool) (same : (b : ℕ) → p (fold_byte b) ≡ p b) where
+  pub list_any-fold : (text : List ℕ) → list_any p (fold_text text) ≡ list_any p text
+  list_any-fold [] = refl
+  list_any-fold (b ∷ text) = rw (same b, list_any-fold text) refl
+
+  position_or_len-fold : (text : List ℕ) → position_or_len p (fold_text text) ≡ position_or_len p text
+  position_or_len-fold [] = refl
+  position_or_len-fold (b ∷ text) = rw (same b, position_or_len-fold text) refl
+
+  pub before_first-fold : (text : List ℕ) → before_first p (fold_text text) ≡ fold_text (before_first p text)
+  before_first-fold text = rw (position_or_len-fold text) (take-map fold_byte (position_or_len p text) text)
+
+  pub after_first-fold : (text : List ℕ) → after_first p (fold_text text) ≡ fold_text (after_first p text)
+  after_first-fold text = rw (position_or_len-fold text) (drop-map fold_byte (position_or_len p text + 1) text)
+
+  pub slice_split-fold : (text : List ℕ) → slice_split p (fold_text text) ≡ map fold_text (slice_split p text)
+  slice_split-fold [] = refl
+  slice_split-fold (b ∷ text) = grind (arith, common_steps, slice_split-fold text)
+
+pub reverse-fold : (text : List ℕ) → reverse (fold_text text) ≡ fold_text (reverse text)
+reverse-fold [] = refl
+reverse-fold (b ∷ text) =
+    grind (arith, common_steps, reverse-append (fold_byte b ∷ []) (fold_text text), reverse-fold text, map-append fold_byte (reverse text) (b ∷ []), reverse-append (b ∷ []) text)
 
 -- ---- bytes
 
@@ -57,3 +76,87 @@ subtags-fold text = grind (arith, common_steps, segments-fold text)
 
 pub is_basic_range-fold : (text : List ℕ) → is_basic_range (fold_text text) ≡ is_basic_range text
 is_basic_range-fold text = grind (arith, common_steps, is_star-fold text, subtags-fold text, is_first_subtag-fold, are_private-fold)
+
+-- ---- where an item is cut
+
+ends_locale-fold : (b : ℕ) → ends_locale (fold_byte b) ≡ ends_locale b
+ends_locale-fold b = rw (mark-fold 46 (omega arith) b, mark-fold 64 (omega arith) b) refl
+
+without_mark-fold : (text : List ℕ) → without_mark (fold_text text) ≡ fold_text (without_mark text)
+unfolding fold_byte
+without_mark-fold text = grind (arith, common_steps, length-map, get_or-map, underscore-fold, take-map)
+
+place_before-fold : (front : List ℕ) → place_before (fold_text front) ≡ fold_text (place_before front)
+place_before-fold front =
+    grind (arith, common_steps, list_any-fold is_hash (mark-fold 35 (omega arith)) front, before_first-fold is_hash (mark-fold 35 (omega arith)) front, without_mark-fold)
+
+locale_place-fold : (name : List ℕ) → locale_place (fold_text name) ≡ fold_text (locale_place name)
+locale_place-fold name = rw (before_first-fold ends_locale ends_locale-fold name) (place_before-fold (front_of name))
+
+-- what is to be the range of an item
+wanted_range-fold : (item : List ℕ) → hyphened (wanted_text (fold_text item)) ≡ fold_text (hyphened (wanted_text item))
+wanted_range-fold item =
+    rw (before_first-fold is_semicolon (mark-fold 59 (omega arith)) item, trimmed-fold (before_first is_semicolon item), locale_place-fold (range_of item)) (hyphened-fold (wanted_text item))
+
+parameters-fold : (item : List ℕ) → parameters (fold_text item) ≡ map fold_text (parameters item)
+parameters-fold item =
+    rw (after_first-fold is_semicolon (mark-fold 59 (omega arith)) item) (slice_split-fold is_semicolon (mark-fold 59 (omega arith)) (after_first is_semicolon item))
+
+-- ---- the weight that a value says: a number has no letters
+
+digits_stay : (text : List ℕ) → are_digits text ≡ true → fold_text text ≡ text
+unfolding fold_byte is_digit
+digits_stay [] digits = refl
+digits_stay (b ∷ text) digits = grind (arith, common_steps, nat_tests, and_parts (is_digit b) (are_digits text) digits, digits_stay text)
+
+number_weight-fold : (whole fraction : List ℕ) → number_weight (fold_text whole) (fold_text fraction) ≡ number_weight whole fraction
+number_weight-fold whole fraction = grind (arith, common_steps, digits_stay whole, digits_stay fraction, all-fold is_digit is_digit-fold whole, all-fold is_digit is_digit-fold fraction)
+
+value_weight-fold : (value behind : List ℕ) → value_weight (fold_text value) (fold_text behind) ≡ value_weight value behind
+value_weight-fold value behind =
+    grind (arith, common_steps, list_any-fold is_point (mark-fold 46 (omega arith)) value, before_first-fold is_point (mark-fold 46 (omega arith)) value, after_first-fold is_point (mark-fold 46 (omega arith)) value, number_weight-fold)
+
+-- ---- parameters
+
+is_q_name-fold : (name : List ℕ) → is_q_name (fold_text name) ≡ is_q_name name
+unfolding fold_byte
+is_q_name-fold name = grind (arith, common_steps, nat_tests)
+
+is_q_parameter-fold : (parameter : List ℕ) → is_q_parameter (fold_text parameter) ≡ is_q_parameter parameter
+is_q_parameter-fold parameter =
+    grind (arith, common_steps, list_any-fold is_equals (mark-fold 61 (omega arith)) parameter, before_first-fold is_equals (mark-fold 61 (omega arith)) parameter, trimmed-fold, is_q_name-fold)
+
+wanted_weight-fold : (parameters : List (List ℕ)) (behind : List ℕ) → wanted_weight (map fold_text parameters) (fold_text behind) ≡ wanted_weight parameters behind
+wanted_weight-fold [] behind = refl
+wanted_weight-fold (parameter ∷ parameters) behind =
+    rw (
+      is_q_parameter-fold parameter,
+      after_first-fold is_equals (mark-fold 61 (omega arith)) parameter,
+      trimmed-fold (after_first is_equals parameter),
+      value_weight-fold (trimmed (after_first is_equals parameter)) behind,
+      wanted_weight-fold parameters behind,
+    ) refl
+
+-- ---- elements
+
+-- the element of a range and a weight: none where the range is none
+abbrev element_of : List ℕ → ℕ → Option Element
+element_of range weight = cond (is_basic_range range) (Some (record { range = range; weight = weight })) None
+
+element_of-fold : (range : List ℕ) (weight : ℕ) → element_of (fold_text range) weight ≡ option_map folded (element_of range weight)
+element_of-fold range weight = grind (arith, common_steps, is_basic_range-fold)
+
+wanted-fold : (item behind : List ℕ) → wanted (fold_text item) (fold_text behind) ≡ option_map folded (wanted item behind)
+unfolding wanted
+wanted-fold item behind = grind (arith, common_steps, wanted_range-fold, parameters-fold, wanted_weight-fold, element_of-fold)
+
+wanted_items-fold : (items : List (List ℕ)) → wanted_items (map fold_text items) ≡ map folded (wanted_items items)
+wanted_items-fold [] = refl
+wanted_items-fold (item ∷ items) = grind (arith, common_steps, wanted-fold item (digits_behind items), wanted_items-fold items, all-fold is_digit is_digit-fold)
+
+-- those of a header in small letters are those of the header, in small letters
+wanted_elements-fold : (header : List ℕ) → wanted_elements (fold_text header) ≡ map folded (wanted_elements header)
+wanted_elements-fold header = ap wanted_items (slice_split-fold is_comma (mark-fold 44 (omega arith)) header) ∙ wanted_items-fold (items header)
+
+pub alike_headers : (header : List ℕ) → ElementsIgnoreCase header (wanted_elements header)
+alike_headers header other alike = sym (wanted_elements-fold other) ∙ ap wanted_elements (sym alike) ∙ wanted_elements-fold header

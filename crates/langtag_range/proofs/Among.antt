@@ -1,15 +1,16 @@
--- What one subtag of a tag says of the subtags of a range that stand among it and those after it: the steps of
--- RFC 4647 section 3.3.2.
-use Rattle.std.proofs.Common.{◌≡◌, ◌↔◌, ℕ, Bool, true, false, not, subst, IsTrue, List, [], ◌∷◌, ◌++◌, refl, ap, append_assoc, arith}
-use Rattle.std.proofs.lemmas.Bool.{and_parts, both_ways, not-true}
-use Rattle.std.proofs.lemmas.List.{length-map}
-use Rattle.std.proofs.lemmas.List.Folds.{list_all-append}
-use Rattle.std.proofs.lemmas.Grind.{common_steps}
-use Rattle.langtag_scan.specs.Case.{fold_byte, are_alike}
-use Rattle.langtag_scan.specs.Subtags.{subtags}
+-- A range beside a tag: what each subtag of the tag says of the subtags of the range, and what stands before each hyphen.
+use Rattle.langtag_scan.proofs.Prelude.{◌≡◌, ◌↔◌, ℕ, Bool, true, false, not, subst, IsTrue, List, [], ◌∷◌, ◌++◌, refl, ap, append_assoc, arith, ◌+◌, ◌-◌, ◌<◌, ◌≤◌, cond, map, take, drop, length, get_or, ◌∙◌, eqb, ◌&&◌, sym, rules, and_parts, both_ways, not-true, or_cases, or_right, cases_lt, eq-eqb, length-map, get_or-drop, at_drop_more, take-append-drop, take_all, take_at, list_all-append, common_steps, All-tail, length-filter, count_by-le-length, length-slice_split}
+use Rattle.std.proofs.Common.{length-drop}
+use Rattle.std.proofs.lemmas.Bool.{eqb-true}
+use Rattle.std.proofs.lemmas.List.{length-append, get_or-append_right}
+use Rattle.langtag_scan.proofs.Grammar.{fold_byte, are_alike, Alike, subtags, is_hyphen, IsHyphenFree, NoHyphenWithin, segments, is_single}
 use Rattle.langtag_range.specs.Extended.{have_no_single, StandAmong, without_stars, MatchesExtended, stand_among, test_extended}
-use Rattle.langtag_scan.specs.Class.{is_single}
-use Rattle.langtag_range.specs.Range.{is_star}
+use Rattle.langtag_range.specs.Range.{is_star, is_range_subtag, are_extended_range, is_language_range}
+use Rattle.langtag_scan.proofs.SubtagLists.{slice_split-push}
+use Rattle.langtag_range.specs.Fallback.{before_hyphens, fallbacks}
+use Rattle.std.specs.Char.{to_ascii_lowercase}
+use Rattle.langtag_range.specs.BasicForm.{begins_with_wildcard, basic_form}
+use Rattle.langtag_range.specs.Basic.{BeginsWithRange, MatchesBasic, ends_subtag, test_basic}
 
 -- texts that are alike are as long
 alike_single : (w t : List ℕ) → are_alike w t ≡ true → is_single t ≡ is_single w
@@ -86,3 +87,117 @@ test_extended-decides range tag = grind (arith, common_steps, stand_among-decide
 -- two tests of one statement are equal
 pub same_test : (a b : Bool) (P : Type 0) → IsTrue a ↔ P → IsTrue b ↔ P → a ≡ b
 same_test a b P first second = grind (arith, common_steps)
+
+-- ---- what stands before each hyphen of a text, by what stands before the last of them
+
+-- a text without one
+before_hyphens-none : (text : List ℕ) → IsHyphenFree text → before_hyphens text ≡ []
+before_hyphens-none [] free = refl
+before_hyphens-none (b ∷ text) free =
+    let here : is_hyphen b ≡ false = free 0 0 (omega arith) in rw (before_hyphens-none text (All-tail (λ b. is_hyphen b ≡ false) b text free), here) refl
+
+-- one that ends in a hyphen and a text without one
+before_hyphens-last : (front last : List ℕ) → IsHyphenFree last → before_hyphens (front ++ 45 ∷ last) ≡ front ∷ before_hyphens front
+before_hyphens-last [] last free = rw (before_hyphens-none last free) refl
+before_hyphens-last (b ∷ front) last free = rw (before_hyphens-last front last free) refl
+
+from_segments : (text : List ℕ) → are_extended_range (segments text) ≡ true → is_language_range text ≡ true
+from_segments text is = grind (arith, common_steps)
+
+-- the subtags of a range but for the last one
+are_extended_range-front : (front : List (List ℕ)) (last : List ℕ) → 0 < length front → are_extended_range (front ++ last ∷ []) ≡ true → are_extended_range front ≡ true
+are_extended_range-front front last some is = grind (arith, common_steps, and_parts, list_all-append is_range_subtag)
+
+-- ---- where the last subtag of a text begins, as `segment_start` returns it
+
+module _ (text bytes : List ℕ) (start : ℕ) (same : bytes ≡ text) (within : start ≤ length text) (free : NoHyphenWithin bytes start (length text)) where
+  last_free : IsHyphenFree (drop start text)
+  last_free = grind (arith, common_steps, get_or-drop start text, length-drop start text)
+
+  pub before_hyphens-whole : start ≡ 0 → before_hyphens text ≡ []
+  before_hyphens-whole none = before_hyphens-none text (subst (λ n. IsHyphenFree (drop n text)) none last_free)
+
+  last_cut : 0 < start → get_or bytes (start - 1) 0 ≡ 45 → text ≡ take (start - 1) text ++ 45 ∷ drop start text
+  last_cut some hyphen = grind (arith, common_steps, at_drop_more, take-append-drop (start - 1) text)
+
+  pub before_hyphens-cut : 0 < start → get_or bytes (start - 1) 0 ≡ 45 → before_hyphens text ≡ take (start - 1) text ∷ before_hyphens (take (start - 1) text)
+  before_hyphens-cut some hyphen = ap before_hyphens (last_cut some hyphen) ∙ before_hyphens-last (take (start - 1) text) (drop start text) last_free
+
+  -- and it is a range where the whole is
+  pub is_language_range-cut : 0 < start → get_or bytes (start - 1) 0 ≡ 45 → is_language_range text ≡ true → is_language_range (take (start - 1) text) ≡ true
+  is_language_range-cut some hyphen is =
+      grind (arith, common_steps, last_cut, slice_split-push, last_free, from_segments, are_extended_range-front, length-slice_split)
+
+-- ---- no more than bytes
+
+length-before_hyphens : (text : List ℕ) → length (before_hyphens text) ≤ length text
+length-before_hyphens [] = omega arith
+length-before_hyphens (b ∷ text) =
+    grind (arith, common_steps, length-before_hyphens text, length-append (map (λ before. b ∷ before) (before_hyphens text)) (cond (is_hyphen b) ([] ∷ []) []), length-map (before_hyphens text) (λ before. b ∷ before))
+
+pub few_fallbacks : (text : List ℕ) → length (fallbacks text) ≤ length text + 1
+few_fallbacks text = grind (arith, common_steps, length-filter, count_by-le-length, length-before_hyphens text)
+
+-- ---- a tag and a range in its basic form, byte by byte
+
+-- a byte with which no "-*" begins stays
+pub basic_form-byte : (a : ℕ) (range : List ℕ) → begins_with_wildcard (a ∷ range) ≡ false → basic_form (a ∷ range) ≡ a ∷ basic_form range
+basic_form-byte a range none = grind (arith, common_steps)
+
+-- the next bytes differ
+pub are_alike-differ :
+    (tag range : List ℕ) → 0 < length tag → 0 < length range → begins_with_wildcard range ≡ false →
+    eqb (to_ascii_lowercase (get_or tag 0 0)) (to_ascii_lowercase (get_or range 0 0)) ≡ false → are_alike tag (basic_form range) ≡ false
+unfolding fold_byte
+are_alike-differ tag range some any none differ = grind (arith, common_steps, basic_form-byte)
+
+-- or are alike, and then all that follows decides
+pub are_alike-next :
+    (tag range : List ℕ) → 0 < length tag → 0 < length range → begins_with_wildcard range ≡ false →
+    eqb (to_ascii_lowercase (get_or tag 0 0)) (to_ascii_lowercase (get_or range 0 0)) ≡ true →
+    are_alike (take (length tag - 1) (drop 1 tag)) (basic_form (take (length range - 1) (drop 1 range))) ≡ are_alike tag (basic_form range)
+unfolding fold_byte
+are_alike-next tag range some any none alike = grind (arith, common_steps, take_all, basic_form-byte)
+
+pub ruleset bytes_alike = (are_alike-differ, are_alike-next)
+
+-- ---- a tag that begins with a range
+
+-- texts that are alike are as long
+pub length-alike : (a b : List ℕ) → Alike a b → length a ≡ length b
+length-alike a b alike = sym (length-map a fold_byte) ∙ ap length alike ∙ length-map b fold_byte
+
+-- the tag goes on with a hyphen
+pub begins_before :
+    (range tag : List ℕ) → length range < length tag → Alike range (take (length range) tag) → get_or tag (length range) 0 ≡ 45 →
+    BeginsWithRange range tag
+begins_before range tag longer alike hyphen = grind (arith, common_steps, at_drop_more, take-append-drop (length range) tag)
+
+-- what a tag that begins with the range shows
+pub record Begins (range tag : List ℕ) : Type 0 where
+  pub within : length range ≤ length tag
+  pub alike : Alike range (take (length range) tag)
+  pub hyphen : length range < length tag → get_or tag (length range) 0 ≡ 45
+
+pub begins_shown : (range tag : List ℕ) → BeginsWithRange range tag → Begins range tag
+begins_shown range tag h = grind (arith, common_steps, length-alike, take_all, length-append, take_at, get_or-append_right)
+
+-- ---- the same as a test
+
+ends_subtag-hyphen : (rest : List ℕ) → ends_subtag rest ≡ true → 0 < length rest → get_or rest 0 0 ≡ 45
+ends_subtag-hyphen rest ends some = grind (arith, common_steps, eqb-true)
+
+ends_subtag-from_hyphen : (rest : List ℕ) → (0 < length rest → get_or rest 0 0 ≡ 45) → ends_subtag rest ≡ true
+ends_subtag-from_hyphen rest hyphen = grind (arith, common_steps, eq-eqb)
+
+first-drop : (n : ℕ) (text : List ℕ) → get_or (drop n text) 0 0 ≡ get_or text n 0
+first-drop n text = grind (arith, common_steps, get_or-drop n text 0 0)
+
+begins_from_test : (range tag : List ℕ) → are_alike range (take (length range) tag) ≡ true → ends_subtag (drop (length range) tag) ≡ true → BeginsWithRange range tag
+begins_from_test range tag alike ends = search (rules, cases_lt, ends_subtag-hyphen, length-drop, begins_before, first-drop, take_all)
+
+test_from_begins : (range tag : List ℕ) → BeginsWithRange range tag → (are_alike range (take (length range) tag) && ends_subtag (drop (length range) tag)) ≡ true
+test_from_begins range tag begins = search (rules, begins_shown, ends_subtag-from_hyphen, first-drop, length-drop)
+
+pub test_basic-decides : (range tag : List ℕ) → IsTrue (test_basic range tag) ↔ MatchesBasic range tag
+test_basic-decides range tag = grind (arith, common_steps, or_cases, and_parts, begins_from_test, or_right, test_from_begins)

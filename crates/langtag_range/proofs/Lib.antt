@@ -1,13 +1,4 @@
-pub mod AlikeHeaders
-pub mod AlikeTexts
-pub mod Among
-pub mod AsciiRanges
 pub mod BasicForms
-pub mod BasicRanges
-pub mod FoldedTexts
-pub mod Hyphens
-pub mod Prefixes
-pub mod Spaces
-pub mod Thousandths
+pub mod AlikeTexts
 pub mod WantedTexts
-pub mod Wildcards
+pub mod Among

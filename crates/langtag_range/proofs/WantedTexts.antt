@@ -1,20 +1,58 @@
--- Ranges in which "_" is read as "-", and the parts of a list that is cut one after the other.
-use Rattle.std.proofs.Common.{◌≡◌, ◌⊎◌, take, not, cond, ℕ, ◌+◌, ◌<◌, ◌≤◌, Bool, true, false, ◌&&◌, ◌||◌, List, [], ◌∷◌, Some, None, length, length-drop, refl, arith, rules}
-use Rattle.std.specs.List.{list_any, slice_split, before_first, after_first, position, position_or_len, cons_option}
-use Rattle.std.proofs.lemmas.Bool.{and_parts, cases_lt, or_cases, or_right}
-use Rattle.std.proofs.lemmas.Bool.Decides.{nat_tests, eqb_tells}
-use Rattle.std.proofs.lemmas.List.{length-take-le, drop_all, take_all}
-use Rattle.std.proofs.lemmas.List.Splits.{length-slice_split, slice_split_first, slice_split_none}
-use Rattle.std.proofs.lemmas.List.Sums.{count_by-le-length, prefix_len-le-length, fails_before_first}
-use Rattle.std.proofs.lemmas.Grind.{common_steps}
-use Rattle.langtag_scan.specs.Class.{has_length, are_digits, are_letters, is_private_subtag}
-use Rattle.langtag_scan.specs.Subtags.{segments, subtags}
-use Rattle.langtag_range.specs.Element.{items, is_comma, is_semicolon, trimmed}
+-- Ranges in which "_" is read as "-", white space around them, their weights, and the parts of a list that is cut one after the other.
+use Rattle.langtag_scan.proofs.Prelude.{◌≡◌, ℕ, ◌+◌, ◌-◌, ◌<◌, ◌≤◌, true, false, IsTrue, List, [], ◌∷◌, length, take, drop, reverse, get_or, refl, ap, sym, ◌∙◌, arith, ◌*◌, ◌⊎◌, not, cond, Bool, ◌&&◌, ◌||◌, Some, None, rules, take_more, drop_more, drop_all, reverse-append, length-take-le, take_all, list_all-append, common_steps, and_parts, or_cases, leb-true, cases_lt, or_right, list_any, slice_split, before_first, after_first, position, position_or_len, cons_option, nat_tests, eqb_tells, length-slice_split, slice_split_first, slice_split_none, count_by-le-length, prefix_len-le-length, fails_before_first}
+use Rattle.std.proofs.Common.{length-drop}
+use Rattle.std.proofs.lemmas.List.{reverse-reverse}
+use Rattle.langtag_range.specs.Element.{from_first, is_ows, is_space, items, is_comma, is_semicolon, trimmed}
+use Rattle.langtag_range.specs.Weight.{is_fraction, is_qvalue, thousandths}
+use Rattle.langtag_scan.proofs.Grammar.{has_length, are_digits, are_letters, is_private_subtag, segments, subtags}
 use Rattle.langtag_range.specs.Locale.{is_hash}
 use Rattle.langtag_range.specs.Range.{is_star, is_first_subtag, is_range_subtag, are_basic_range, are_basic_subtags, are_extended_range, are_range_subtags, is_basic_range, is_language_range}
 use Rattle.langtag_scan.proofs.SubtagFacts.{letters_alphanumeric}
 use Rattle.langtag_scan.proofs.Places.{any_at_first, none_at_length}
 use Rattle.langtag_range.specs.Wanted.{hyphened, is_separator, is_q_name, is_q_parameter, is_equals, is_point, number_weight, value_weight, wanted_weight, wanted, digits_behind, wanted_items, wanted_elements}
+
+module _ (text : List ℕ) (start : ℕ) (within : start < length text) where
+  -- one more byte of it
+  pub ows_more : is_space (get_or text start 0) ≡ true → IsTrue (is_ows (take start text)) → IsTrue (is_ows (take (start + 1) text))
+  ows_more space before = grind (arith, common_steps, take_more text start 0 within, list_all-append is_space (take start text) (get_or text start 0 ∷ []))
+
+  pub from_first_more : is_space (get_or text start 0) ≡ true → from_first (drop start text) ≡ from_first (drop (start + 1) text)
+  from_first_more space = ap from_first (drop_more text start 0 within) ∙ rw space refl
+
+  -- and the first other byte
+  pub from_first_stops : is_space (get_or text start 0) ≡ false → from_first (drop start text) ≡ drop start text
+  from_first_stops other = ap from_first (drop_more text start 0 within) ∙ rw other (sym (drop_more text start 0 within))
+
+pub from_first_ends : (text : List ℕ) (start : ℕ) → length text ≤ start → from_first (drop start text) ≡ drop start text
+from_first_ends text start past = let none = drop_all start text past in rw none refl
+
+-- ---- from the end on
+
+module _ (text : List ℕ) (len : ℕ) (some : 0 < len) (within : len ≤ length text) where
+  last_first : reverse (take len text) ≡ get_or text (len - 1) 0 ∷ reverse (take (len - 1) text)
+  last_first = grind (arith, common_steps, take_more text (len - 1) 0, reverse-append (take (len - 1) text) (get_or text (len - 1) 0 ∷ []))
+
+  pub last_space : is_space (get_or text (len - 1) 0) ≡ true → from_first (reverse (take len text)) ≡ from_first (reverse (take (len - 1) text))
+  last_space space = ap from_first last_first ∙ rw space refl
+
+  pub last_stops : is_space (get_or text (len - 1) 0) ≡ false → reverse (from_first (reverse (take len text))) ≡ take len text
+  last_stops other = grind (arith, common_steps, last_first, reverse-reverse (take len text))
+
+-- ---- the value of a qvalue in thousandths, by the place of each digit
+
+-- up to three digits after the point, each in its place
+in_places :
+    (whole : ℕ) (fraction : List ℕ) → length fraction ≤ 4 →
+    1000 * (whole - 48) + 100 * (get_or fraction 1 48 - 48) + 10 * (get_or fraction 2 48 - 48) + (get_or fraction 3 48 - 48) ≡ thousandths (whole ∷ fraction)
+in_places whole fraction few = grind (arith, common_steps)
+
+fraction_short : (greatest : ℕ) (fraction : List ℕ) → is_fraction greatest fraction ≡ true → length fraction ≤ 4
+fraction_short greatest fraction is = grind (arith, common_steps, and_parts, leb-true)
+
+pub thousandths_of :
+    (qvalue : List ℕ) → is_qvalue qvalue ≡ true →
+    1000 * (get_or qvalue 0 48 - 48) + 100 * (get_or qvalue 2 48 - 48) + 10 * (get_or qvalue 3 48 - 48) + (get_or qvalue 4 48 - 48) ≡ thousandths qvalue
+thousandths_of qvalue is = grind (arith, common_steps, or_cases, in_places, fraction_short, and_parts)
 
 -- ---- the subtags of a text in which a byte is read as a hyphen
 

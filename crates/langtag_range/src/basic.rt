@@ -12,7 +12,7 @@ pub fn matches_basic(range: &str, tag: &str) -> bool
 }
 
 /// Returns whether a tag equals a range, or begins with the range followed by a hyphen. Case is ignored.
-#[tactic(auto, using(crate::proofs::Prefixes::begins_before, crate::proofs::Prefixes::begins_shown))]
+#[tactic(auto, using(crate::proofs::Among::begins_before, crate::proofs::Among::begins_shown))]
 fn begins_with(tag: &[u8], range: &[u8]) -> bool
     ensures { IsTrue result ↔ spec.BeginsWithRange range.now tag.now }
 {

@@ -4,7 +4,7 @@ ghost use Rattle.langtag_scan.specs.Case.{are_alike};
 ghost use Rattle.langtag_range.specs.BasicForm as spec;
 
 /// Returns whether a tag equals a range, ignoring case and each `-*`.
-#[tactic(auto, using(crate::proofs::Wildcards::bytes_alike))]
+#[tactic(auto, using(crate::proofs::Among::bytes_alike))]
 pub fn is_range(tag: &[u8], range: &[u8]) -> bool
     ensures { result ≡ are_alike tag.now (spec.basic_form range.now) }
 {

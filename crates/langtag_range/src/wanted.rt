@@ -52,7 +52,7 @@ pub struct WantedRanges<'a> {
 /// ranges.next().map(|it| (it.bytes, it.weight)); // Some((&b"de_CH"[..], 1000))
 /// ranges.next().map(|it| (it.bytes, it.weight)); // Some((&b"en"[..], 500))
 /// ```
-#[tactic(auto, using(crate::proofs::AlikeHeaders::alike_headers, crate::proofs::WantedTexts::few_wanted))]
+#[tactic(auto, using(crate::proofs::AlikeTexts::alike_headers, crate::proofs::WantedTexts::few_wanted))]
 pub fn wanted_ranges<'a>(header: &'a [u8]) -> WantedRanges<'a>
     ensures list { spec.wanted_left result ≡ spec.wanted_elements header.now }
     // law: alike headers have alike elements

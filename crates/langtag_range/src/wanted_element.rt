@@ -28,7 +28,7 @@ pub(crate) fn wanted_at<'a>(item: &'a [u8], behind: &[u8]) -> Option<WantedRange
 
 /// Returns the range in a string, or `None` if it has none. Most strings are ranges, so only the others are read as locale
 /// names.
-#[tactic(auto, using(crate::proofs::AsciiRanges::range_place))]
+#[tactic(auto, using(crate::proofs::BasicForms::range_place))]
 fn wanted_bytes(text: &[u8]) -> Option<&[u8]>
     ensures { MatchOption result (is_basic_range (spec.hyphened (place.locale_place text.now)) ≡ false)
         (λ bytes. (bytes.now ≡ place.locale_place text.now) × IsTrue (is_basic_range (spec.hyphened bytes.now))) }

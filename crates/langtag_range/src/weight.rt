@@ -52,7 +52,7 @@ pub(crate) fn are_digits(bytes: &[u8], greatest: u8) -> bool
 }
 
 /// Returns a number from 0 to 1 in thousandths.
-#[tactic(auto, using(crate::proofs::Thousandths::thousandths_of))]
+#[tactic(auto, using(crate::proofs::WantedTexts::thousandths_of))]
 fn thousandths(qvalue: &[u8]) -> u32
     requires { IsTrue (spec.is_qvalue qvalue.now) }
     ensures { result ≡ spec.thousandths qvalue.now }

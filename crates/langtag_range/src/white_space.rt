@@ -30,7 +30,7 @@ pub fn trimmed_place(text: &[u8]) -> (usize, usize)
 }
 
 /// Returns the number of bytes of white space at the start of a string.
-#[tactic(auto, using(crate::proofs::Spaces::ows_more, crate::proofs::Spaces::from_first_more, crate::proofs::Spaces::from_first_stops, crate::proofs::Spaces::from_first_ends))]
+#[tactic(auto, using(crate::proofs::WantedTexts::ows_more, crate::proofs::WantedTexts::from_first_more, crate::proofs::WantedTexts::from_first_stops, crate::proofs::WantedTexts::from_first_ends))]
 fn leading_spaces(text: &[u8]) -> usize
     ensures within { result ≤ length text.now }
     ensures space { IsTrue (spec.is_ows (take result text.now)) }
@@ -44,7 +44,7 @@ fn leading_spaces(text: &[u8]) -> usize
 }
 
 /// Returns the length of a string without the white space at its end.
-#[tactic(auto, using(crate::proofs::Spaces::last_space, crate::proofs::Spaces::last_stops))]
+#[tactic(auto, using(crate::proofs::WantedTexts::last_space, crate::proofs::WantedTexts::last_stops))]
 fn len_without_spaces(text: &[u8]) -> usize
     ensures within { result ≤ length text.now }
     ensures rest { take result text.now ≡ reverse (spec.from_first (reverse text.now)) }

@@ -1,17 +1,14 @@
 -- The canonical record, part by part, and what a tag becomes by it.
-use Rattle.std.proofs.Common.{◌≡◌, ◌<◌, ℕ, List, Option, None, Some, unwrap_or, ◌⊎◌, refl, sym, ap, subst, ◌∙◌, arith, inl}
-use Rattle.std.proofs.lemmas.Grind.{common_steps}
-use Rattle.langtag_scan.specs.Record.{Record, Spells, spell}
-use Rattle.langtag_scan.specs.Tag.{IsNormal, IsTag}
+use Rattle.langtag_scan.proofs.Prelude.{◌≡◌, ◌<◌, ℕ, List, Option, None, Some, unwrap_or, ◌⊎◌, refl, sym, ap, subst, ◌∙◌, arith, inl, common_steps}
+use Rattle.langtag_scan.proofs.Grammar.{Record, Spells, spell, IsNormal, IsTag}
 use Rattle.langtag_scan.proofs.NormalTexts.{spelled_once}
 use Rattle.langtag.specs.Registered.{IsGrandfathered}
 use Rattle.langtag_output.specs.Writes.{Writes}
 use Rattle.langtag_output.specs.WritesWhole.{WritesWhole}
 use Rattle.langtag_registry.specs.Canonical.{canonical_primary, canonical_extended, canonical_region, canonical_variants, in_order, canonical_record, canonical_text, IsCanonicalForm}
-use Rattle.langtag_registry.specs.Fields.{preferred_tag}
-use Rattle.langtag_registry.proofs.TwiceLaws.{whole_settled, preferred_record_stays, form_of, Form, whole_form, own_form, parts_form, again_form}
-use Rattle.langtag_registry.proofs.WellFormedForms.{canonical_record_well_formed}
-use Rattle.langtag_registry.proofs.WholeTags.{record_of, preferred_spelled, preferred_is_tag}
+use Rattle.langtag_fields.specs.Fields.{preferred_tag}
+use Rattle.langtag_registry.proofs.TwiceLaws.{whole_settled, preferred_record_stays, form_of, Form, whole_form, own_form, parts_form, again_form, canonical_record_well_formed}
+use Rattle.langtag_fields.proofs.WholeTags.{record_of, preferred_spelled, preferred_is_tag}
 
 -- ---- where all stay
 

@@ -1,21 +1,16 @@
 -- A language that is registered as an extended one, too, after its Prefix.
-use Rattle.std.proofs.Common.{◌≡◌, ℕ, ◌≤◌, true, false, ◌==◌, ltb, List, [], ◌∷◌, ◌++◌, length, map, Some, refl, arith, eqb-true, eq-eqb}
-use Rattle.std.specs.List.{list_all}
-use Rattle.std.proofs.lemmas.Bool.{and_parts, ltb-true}
-use Rattle.std.proofs.lemmas.Bool.Decides.{nat_tests}
-use Rattle.std.proofs.lemmas.Grind.{common_steps}
-use Rattle.langtag_scan.specs.Class.{is_primary, is_extended}
-use Rattle.langtag_scan.specs.Record.{EachRecord, spell}
-use Rattle.langtag_scan.specs.Tag.{IsNormal}
+use Rattle.langtag_scan.proofs.Prelude.{◌≡◌, ℕ, ◌≤◌, true, false, ◌==◌, ltb, List, [], ◌∷◌, ◌++◌, length, map, Some, refl, arith, eqb-true, list_all, and_parts, ltb-true, nat_tests, common_steps}
+use Rattle.std.proofs.Common.{eq-eqb}
+use Rattle.langtag_scan.proofs.Grammar.{is_primary, is_extended, EachRecord, spell, IsNormal}
 use Rattle.langtag_scan.proofs.CaseLaw.{length-fold}
 use Rattle.langtag_language.specs.Language.{SpellsLanguage, IsLanguage}
 use Rattle.langtag_registry.specs.Canonical.{IsCanonicalForm, IsExtlangForm, is_full, extlang_primary, extlang_extended, extlang_record}
-use Rattle.langtag_registry.specs.Entry.{Entry, value_for}
-use Rattle.langtag_registry.specs.Fields.{extlang_prefix}
-use Rattle.langtag_registry.specs.Subtags.{extlang_prefixes}
-use Rattle.langtag_registry.proofs.FieldTables.{prefix_good}
+use Rattle.langtag_fields.specs.Entry.{Entry, value_for}
+use Rattle.langtag_fields.specs.Fields.{extlang_prefix}
+use Rattle.langtag_fields.specs.Subtags.{extlang_prefixes}
+use Rattle.langtag_fields.proofs.FieldTables.{prefix_good}
 use Rattle.langtag_tables.proofs.Letters.{primary_letters}
-use Rattle.langtag_registry.proofs.Values.{value_good}
+use Rattle.langtag_fields.proofs.Values.{value_good}
 
 -- ---- by computation: the subtags have three letters, and the prefixes at most three
 

@@ -1,20 +1,16 @@
--- The first fault of a record, part by part, and that a record is valid where it has no fault.
-use Rattle.std.proofs.Common.{append_assoc, ◌≡◌, ℕ, ◌+◌, ◌≤◌, Bool, true, false, not, cond, List, [], ◌∷◌, ◌++◌, length, map, take, drop, Option, None, Some, IsTrue, slice_get, refl, sym, ap, ◌∙◌, arith}
-use Rattle.std.specs.List.{list_any, position, position_from, AllByRecursion}
-use Rattle.std.specs.Option.{option_map, option_or, option_and_then}
+-- The first fault of a record, part by part, and that a tag is valid where it has no fault.
+use Rattle.langtag_scan.proofs.Prelude.{append_assoc, ◌≡◌, ℕ, ◌+◌, ◌≤◌, Bool, true, false, not, cond, List, [], ◌∷◌, ◌++◌, length, map, take, drop, Option, None, Some, IsTrue, slice_get, refl, sym, ap, ◌∙◌, arith, inl, inr, list_any, position, AllByRecursion, option_or, option_and_then, common_steps, at_drop_more, take_more, not-true}
+use Rattle.std.specs.List.{position_from}
+use Rattle.std.specs.Option.{option_map}
 use Rattle.std.proofs.lemmas.Iterator.Adapters.{position_from-zero}
-use Rattle.std.proofs.lemmas.Grind.{common_steps}
-use Rattle.langtag_scan.specs.Case.{are_alike}
-use Rattle.langtag_scan.specs.Parts.{language_part}
-use Rattle.langtag_scan.specs.Record.{Record, IsWellFormed}
+use Rattle.langtag_scan.proofs.Grammar.{are_alike, language_part, Record, IsWellFormed, Spells, IsTag, IsNormal}
 use Rattle.langtag_language.specs.Language.{SpellsLanguage}
 use Rattle.langtag.specs.Repeat.{repeat, repeat_index, repeat_index_after, are_alike_bytes}
 use Rattle.langtag.proofs.RepeatLaws.{IsAt-drop}
-use Rattle.std.proofs.lemmas.List.{at_drop_more, take_more}
-use Rattle.langtag_registry.specs.Registered.{is_registered_language, is_registered_extlang, is_registered_variant}
+use Rattle.langtag_fields.specs.Registered.{is_registered_language, is_registered_extlang, is_registered_variant}
 use Rattle.langtag_registry.specs.Fault.{Told, language, repeated_singleton, unless, extlang_faults, language_faults, script_faults, region_faults, variant_faults, singleton_faults, faults}
-use Rattle.langtag_registry.specs.Valid.{IsValidRecord}
-use Rattle.std.proofs.lemmas.Bool.{not-true}
+use Rattle.langtag_registry.specs.Valid.{IsValidRecord, IsValid}
+use Rattle.langtag.specs.Registered.{IsGrandfathered}
 
 abbrev pub first : List Told → Option Told
 first list = slice_get list 0
@@ -122,9 +118,6 @@ no_fault_of_valid r valid = grind (arith, common_steps, first_fault, variants_no
 
 -- ---- the parts of a record, and what was found
 
-pub language_spelled : (r : Record) (text : List ℕ) → IsWellFormed r → text ≡ language_part r → SpellsLanguage r.primary r.extended text
-language_spelled r text well same = record { first = well.primary; others = well.extended; few = well.few; short = well.short; joined = sym same }
-
 pub first_at :
     {A : Type 0} (view : A → Told) (o p : Option A) (told_first : Option Told) → o ≡ p → option_map view o ≡ told_first → option_map view p ≡ told_first
 first_at view o p list same is = ap (option_map view) (sym same) ∙ is
@@ -141,3 +134,21 @@ pub record AreGoodUntil (n : ℕ) (all : List (List ℕ)) : Type 0 where
 
 pub good_at_start : (all : List (List ℕ)) → AreGoodUntil 0 all
 good_at_start all = record { registered = position_from-zero is_unregistered all; apart = refl }
+
+-- ---- valid tags, by their kinds and faults
+
+pub valid_of_other : (text : List ℕ) → IsTag text → (IsNormal text → ⊥) → IsValid text
+unfolding IsValid IsNormal
+valid_of_other text tag other = (tag, inr (λ r spells. absurd (other (r, spells))))
+
+pub valid_of_none : (text : List ℕ) → IsTag text → ((r : Record) → Spells r text → None ≡ first (faults r)) → IsValid text
+unfolding IsValid
+valid_of_none text tag none = (tag, inr (λ r spells. valid_without_fault r (sym (none r spells))))
+
+pub valid_grandfathered : (text : List ℕ) → IsTag text → IsGrandfathered text → IsValid text
+unfolding IsValid
+valid_grandfathered text tag old = (tag, inl old)
+
+pub invalid : (text : List ℕ) (x : Told) → IsNormal text → ((r : Record) → Spells r text → Some x ≡ first (faults r)) → (IsGrandfathered text → ⊥) → IsValid text → ⊥
+unfolding IsValid IsNormal
+invalid text x normal is other valid = grind (arith, common_steps, no_fault_of_valid normal.0)

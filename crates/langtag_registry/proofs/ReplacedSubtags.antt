@@ -1,17 +1,80 @@
--- What a subtag becomes in a canonical form: one of its class, which is replaced by nothing more.
-use Rattle.std.proofs.Common.{◌≡◌, ℕ, ◌≤◌, true, false, Bool, not, leb, List, [], ◌∷◌, length, map, find, Option, None, Some, is_some, IfSome, option_map, unwrap_or, ◌⊎◌, refl, ap, arith}
-use Rattle.std.specs.List.{list_all, list_any, AllByRecursion}
-use Rattle.std.specs.Str.{bytes_eq}
-use Rattle.std.proofs.lemmas.Bool.{and_parts, leb-true}
-use Rattle.std.proofs.lemmas.Grind.{common_steps}
-use Rattle.langtag_scan.specs.Case.{fold_byte, fold_text, Alike, are_alike}
-use Rattle.langtag_scan.specs.Class.{is_letter, is_extended}
-use Rattle.langtag_registry.specs.Canonical.{preferred_extlang}
-use Rattle.langtag_registry.specs.Entry.{Entry, value_for}
-use Rattle.langtag_registry.specs.Fields.{preferred_language, preferred_region, preferred_variant}
-use Rattle.langtag_registry.specs.Registered.{is_registered_extlang}
-use Rattle.langtag_registry.specs.Subtags.{language_preferred, region_preferred, variant_preferred, extlang_subtags}
-use Rattle.langtag_registry.proofs.Values.{value_good}
+-- What a subtag, a language or a whole tag becomes in a canonical form: one of its class, which is replaced by nothing more.
+use Rattle.langtag_scan.proofs.Prelude.{common_steps, ◌≡◌, ◌↔◌, ℕ, true, false, Bool, List, [], ◌∷◌, None, Some, refl, sym, ap, arith, ◌≤◌, not, leb, length, map, find, Option, is_some, IfSome, option_map, unwrap_or, ◌⊎◌, ◌<◌, IsTrue, inl, list_all, list_any, AllByRecursion, bytes_eq, bytes_decides, and_parts, leb-true, option_map_or}
+use Rattle.std.specs.Prelude.{◌&&◌}
+use Rattle.langtag_scan.proofs.Grammar.{fold_byte, fold_text, are_alike, Alike, are_alike-decides, is_primary, is_letter, is_extended, is_digit, is_script, is_region, is_variant, join, subtags, Record, IsWellFormed, Spells, spell, IsTag, IsNormal}
+use Rattle.langtag_scan.proofs.SubtagFacts.{of_primary}
+use Rattle.langtag_fields.specs.Fields.{preferred_language, preferred_region, preferred_variant, preferred_tag}
+use Rattle.langtag_fields.specs.Registered.{is_registered_extlang}
+use Rattle.langtag_fields.specs.Subtags.{extlang_subtags, language_preferred, region_preferred, variant_preferred, tag_preferred}
+use Rattle.langtag_registry.specs.Canonical.{canonical_language, preferred_extlang, canonical_primary, canonical_extended, canonical_variants, canonical_region}
+use Rattle.langtag_output.specs.declared.output.Output.{Output}
+use Rattle.langtag_output.specs.Output.{Pushes}
+use Rattle.langtag_output.proofs.Pushed.{pushes_both, pushes_same, pushes_joined}
+use Rattle.langtag_fields.specs.Entry.{Entry, value_for}
+use Rattle.langtag_fields.proofs.Values.{value_good, value_of_long, found_good, value_for-alike}
+use Rattle.langtag_scan.proofs.SubtagLists.{each_from_test}
+
+-- ---- extended subtags are registered in small letters
+
+found_small :
+    (list : List (List ℕ)) (text : List ℕ) → list_all (λ t. bytes_eq (fold_text t) t) list ≡ true →
+    list_any (are_alike text) list ≡ true → find (are_alike text) list ≡ Some (fold_text text)
+found_small [] text small known = absurd cc
+found_small (t ∷ list) text small known =
+    grind (arith, common_steps, and_parts, are_alike-decides text t, bytes_decides (fold_text t) t, found_small list text)
+
+pub extlang_small : (text : List ℕ) → is_registered_extlang text ≡ true → preferred_extlang text ≡ Some (fold_text text)
+unfolding is_registered_extlang preferred_extlang extlang_subtags fold_byte
+extlang_small text known = found_small extlang_subtags text refl known
+
+not_found : (list : List (List ℕ)) (text : List ℕ) → list_any (are_alike text) list ≡ false → find (are_alike text) list ≡ None
+not_found [] text other = refl
+not_found (t ∷ list) text other = grind (arith, common_steps, not_found list text)
+
+pub extlang_none : (text : List ℕ) → is_registered_extlang text ≡ false → preferred_extlang text ≡ None
+unfolding is_registered_extlang preferred_extlang
+extlang_none text other = not_found extlang_subtags text other
+
+-- ---- what each language becomes is put
+
+-- several extended subtags, and the language before them, stay
+pub several_pushed :
+    (primary first second : List ℕ) (extended others : List (List ℕ)) (text : List ℕ) (old new : Output) → is_primary primary ≡ true → extended ≡ first ∷ second ∷ others →
+    join (primary ∷ extended) ≡ text → Pushes (text ∷ []) old new → Pushes (canonical_primary primary extended ∷ canonical_extended extended) old new
+several_pushed primary first second extended others text old new class several joined these =
+    let stay : primary ∷ extended ≡ canonical_primary primary extended ∷ canonical_extended extended = rw several refl in
+    pushes_same _ _ old new stay (pushes_joined primary extended old new (of_primary primary class).some (pushes_same _ _ old new (ap (λ t. t ∷ []) (sym joined)) these))
+
+-- one that is registered takes the place of the language, and becomes its Preferred-Value as a language
+pub extlang_pushed :
+    (primary extlang : List ℕ) (extended : List (List ℕ)) (text : List ℕ) (old new : Output) → extended ≡ extlang ∷ [] →
+    is_registered_extlang extlang ≡ true → text ≡ canonical_language (fold_text extlang) → Pushes (text ∷ []) old new →
+    Pushes (canonical_primary primary extended ∷ canonical_extended extended) old new
+extlang_pushed primary extlang extended text old new one known same these = grind (arith, common_steps, extlang_small, pushes_same)
+
+-- another stays after it
+pub other_pushed :
+    (primary value extlang : List ℕ) (extended : List (List ℕ)) (old middle new : Output) → extended ≡ extlang ∷ [] →
+    is_registered_extlang extlang ≡ false → value ≡ unwrap_or (preferred_language primary) primary → Pushes (value ∷ []) old middle →
+    Pushes (extlang ∷ []) middle new → Pushes (canonical_primary primary extended ∷ canonical_extended extended) old new
+other_pushed primary value extlang extended old middle new one other same these those =
+    grind (arith, common_steps, extlang_none, pushes_both (value ∷ []) (extlang ∷ []) old middle new, pushes_same)
+
+-- ---- where it stays: `none` says that the primary subtag does
+
+pub alone_stays :
+    (primary : List ℕ) (extended : List (List ℕ)) (none : Bool) → extended ≡ [] →
+    (none ≡ true) ↔ (unwrap_or (preferred_language primary) primary ≡ primary) →
+    (none ≡ true) ↔ ((canonical_primary primary extended ≡ primary) × (canonical_extended extended ≡ extended))
+alone_stays primary extended none empty decided = rw empty (λ h. (decided.0 h, refl), λ stays. decided.1 stays.0)
+
+pub other_stays :
+    (primary extlang : List ℕ) (extended : List (List ℕ)) (none : Bool) → extended ≡ extlang ∷ [] → is_registered_extlang extlang ≡ false →
+    (none ≡ true) ↔ (unwrap_or (preferred_language primary) primary ≡ primary) →
+    (none ≡ true) ↔ ((canonical_primary primary extended ≡ primary) × (canonical_extended extended ≡ extended))
+other_stays primary extlang extended none one other decided = grind (arith, common_steps, extlang_none)
+
+-- ---- what a subtag becomes in a canonical form: one of its class, which is replaced by nothing more
 
 pub none_from_test : (o : Option (List ℕ)) → not (is_some o) ≡ true → o ≡ None
 none_from_test o h = grind (arith, common_steps)
@@ -52,10 +115,6 @@ module _ (P : List ℕ → Type 0) (f : List ℕ → List ℕ) (step : (s : List
 
 -- ---- the values of entries
 
-pub value_for-alike : (list : List Entry) (a b : List ℕ) → Alike a b → value_for list a ≡ value_for list b
-value_for-alike [] a b same = refl
-value_for-alike (e ∷ list) a b same = grind (arith, common_steps, value_for-alike list a b same)
-
 -- no value has one itself, where a test says so
 values_settled : (list : List Entry) → list_all (λ n. not (is_some (value_for list n))) (map (λ e. e.value) list) ≡ true → IsSettled (value_for list)
 values_settled list none s new is = none_from_test (value_for list new) (value_good (λ n. not (is_some (value_for list n))) list s new none is)
@@ -94,12 +153,6 @@ variant-alike a b alike = value_for-alike variant_preferred a b alike
 
 -- ---- extended languages
 
--- what holds of each member holds of the one that is found
-pub found_good :
-    (p is_good : List ℕ → Bool) (list : List (List ℕ)) (x : List ℕ) → list_all is_good list ≡ true → find p list ≡ Some x → is_good x ≡ true
-found_good p is_good [] x all found = absurd cc
-found_good p is_good (y ∷ list) x all found = grind (arith, common_steps, and_parts (is_good y) (list_all is_good list) all, found_good p is_good list x)
-
 is_some-find : (p : List ℕ → Bool) (list : List (List ℕ)) → is_some (find p list) ≡ list_any p list
 is_some-find p [] = refl
 is_some-find p (y ∷ list) = grind (arith, common_steps, is_some-find p list)
@@ -120,6 +173,29 @@ pub extlang-alike : IgnoresCase preferred_extlang
 unfolding preferred_extlang
 extlang-alike a b alike = grind (arith, common_steps)
 
-pub registered_extlang-alike : (a b : List ℕ) → Alike a b → is_registered_extlang a ≡ is_registered_extlang b
-unfolding is_registered_extlang
-registered_extlang-alike a b alike = ap (λ t. list_any (λ y. bytes_eq t (fold_text y)) extlang_subtags) alike
+-- ---- where they stay
+
+abbrev pub has_none : List ℕ → Bool
+has_none v = not (is_some (preferred_variant v))
+
+pub variants_stay : (vs : List (List ℕ)) → (list_all has_none vs ≡ true) ↔ (canonical_variants vs ≡ vs)
+variants_stay [] = (λ _. refl, λ _. refl)
+variants_stay (v ∷ vs) = grind (arith, common_steps, and_parts (has_none v) (list_all has_none vs), variants_stay vs, variant_settled)
+
+-- ---- whether one after the other has none
+
+pub view_of : {A : Type 0} (view : A → List ℕ) (found : Option A) (x : A) → view (unwrap_or found x) ≡ unwrap_or (option_map view found) (view x)
+view_of view found x = grind (arith, common_steps)
+
+-- ---- a subtag stays where it has no Preferred-Value, and only there
+
+-- `none` is the answer of `is_none` to what was found
+pub stays_without :
+    {A : Type 0} (view : A → List ℕ) (preferred : List ℕ → Option (List ℕ)) → IsSettled preferred → (found : Option A) (s : List ℕ) (none : Bool) →
+    option_map view found ≡ preferred s → is_some found ≡ not none → (none ≡ true) ↔ (unwrap_or (preferred s) s ≡ s)
+stays_without view preferred settled found s none same is = grind (arith, common_steps)
+
+pub region_stays :
+    {A : Type 0} (view : A → List ℕ) (found : Option A) (g : List ℕ) (none : Bool) →
+    option_map view found ≡ preferred_region g → is_some found ≡ not none → (none ≡ true) ↔ (canonical_region (Some g) ≡ Some g)
+region_stays view found g none same is = grind (arith, common_steps, stays_without, region_settled)

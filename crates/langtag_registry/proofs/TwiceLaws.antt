@@ -1,25 +1,36 @@
--- A text has one canonical form, and that is its own.
-use Rattle.langtag_registry.proofs.CanonicalVariants.{variants_stay}
-use Rattle.std.proofs.Common.{◌≡◌, ℕ, true, Bool, not, ◌&&◌, List, [], ◌∷◌, Option, None, Some, is_some, unwrap_or, inl, inr, ◌⊎◌, refl, sym, ap, subst, ◌∙◌, arith, rules}
-use Rattle.std.specs.List.{list_all, position}
-use Rattle.std.specs.Option.{option_map_or}
-use Rattle.std.proofs.lemmas.Bool.{and_parts}
-use Rattle.std.proofs.lemmas.Grind.{common_steps}
-use Rattle.langtag_scan.specs.Case.{fold_byte, are_alike}
-use Rattle.langtag_scan.specs.Record.{Record, Spells, spell, EachRecord}
-use Rattle.langtag_scan.specs.Tag.{IsNormal}
+-- A text has one canonical form, which is well-formed and its own canonical form.
+use Rattle.langtag_scan.proofs.Prelude.{◌≡◌, ℕ, ◌≤◌, ◌⊎◌, List, [], length, IsTrue, arith, true, Bool, not, ◌&&◌, ◌∷◌, Option, None, Some, is_some, unwrap_or, inl, inr, refl, sym, ap, subst, ◌∙◌, rules, AllByRecursion, list_all, position, common_steps, option_map_or, and_parts}
+use Rattle.langtag_scan.proofs.Grammar.{is_primary, is_extended, Record, IsWellFormed, IsWellFormedExtension, Spells, spell, EachRecord, fold_byte, are_alike, IsNormal}
+use Rattle.langtag_registry.specs.Canonical.{canonical_primary, canonical_extended, canonical_record, canonical_variants, IsCanonicalForm}
+use Rattle.langtag_fields.specs.Fields.{preferred_region, preferred_variant, preferred_language, preferred_tag}
+use Rattle.langtag_tables.proofs.Letters.{extended_primary}
+use Rattle.langtag_registry.proofs.ExtensionOrder.{in_order-each, in_order-twice, in_order-risen}
+use Rattle.langtag_fields.proofs.FieldTables.{preferred_good, regions_good, variants_good}
+use Rattle.langtag_registry.proofs.ReplacedSubtags.{replaced-holds, if_some-map, each-map, new_language_short, extlang_cases, new_extlang_extended, none_from_test, replaced-twice, language_settled, region_settled, variant_settled, variants_stay}
 use Rattle.langtag_scan.proofs.NormalTexts.{spelled_once, normal_or_not}
 use Rattle.langtag.specs.Registered.{IsGrandfathered, text_of}
 use Rattle.langtag.specs.declared.grandfathered.TheConstants.{GRANDFATHERED}
 use Rattle.langtag.proofs.RegisteredLaws.{first_alike_found, none_alike}
-use Rattle.langtag_registry.specs.Canonical.{canonical_variants, canonical_record, IsCanonicalForm}
-use Rattle.langtag_registry.specs.Fields.{preferred_language, preferred_region, preferred_variant, preferred_tag}
-use Rattle.langtag_registry.specs.Subtags.{language_preferred, region_preferred, variant_preferred, tag_preferred}
-use Rattle.langtag_registry.proofs.OrderLaws.{in_order-twice, in_order-risen}
-use Rattle.langtag_registry.proofs.ReplacedSubtags.{none_from_test, replaced-twice, language_settled, region_settled, variant_settled, extlang_cases}
-use Rattle.langtag_registry.proofs.Values.{value_good}
-use Rattle.langtag_registry.proofs.WellFormedForms.{canonical_record_well_formed}
-use Rattle.langtag_registry.proofs.WholeTags.{record_of, simple_record, preferred_spelled}
+use Rattle.langtag_fields.specs.Subtags.{language_preferred, region_preferred, variant_preferred, tag_preferred}
+use Rattle.langtag_fields.proofs.Values.{value_good}
+use Rattle.langtag_fields.proofs.WholeTags.{record_of, simple_record, preferred_spelled}
+
+-- a primary subtag and extended ones that may stand after it
+pub record IsLanguageOf (primary : List ℕ) (extended : List (List ℕ)) : Type 0 where
+  pub first : IsTrue (is_primary primary)
+  pub others : AllByRecursion (λ s. IsTrue (is_extended s)) extended
+  pub few : length extended ≤ 3
+  pub short : (length primary ≤ 3) ⊎ (extended ≡ [])
+
+pub canonical_language_well_formed :
+    (p : List ℕ) (es : List (List ℕ)) → IsLanguageOf p es → IsLanguageOf (canonical_primary p es) (canonical_extended es)
+canonical_language_well_formed p es is =
+    grind (arith, common_steps, preferred_good, extlang_cases, extended_primary, new_extlang_extended, replaced-holds, new_language_short)
+
+pub canonical_record_well_formed : (r : Record) → IsWellFormed r → IsWellFormed (canonical_record r)
+unfolding canonical_record
+canonical_record_well_formed r well =
+    grind (arith, common_steps, canonical_language_well_formed r.primary r.extended, if_some-map, replaced-holds preferred_region, regions_good, each-map, replaced-holds preferred_variant, variants_good, in_order-each IsWellFormedExtension)
 
 -- ---- the canonical record of a canonical record is itself
 

@@ -5,9 +5,9 @@ use Rattle.langtag_scan.specs.Case.{are_alike, fold_byte}
 use Rattle.langtag_scan.specs.Record.{Extension, Record, EachRecord, spell}
 use Rattle.langtag_scan.specs.Tag.{IsNormal}
 use Rattle.langtag.specs.Registered.{IsGrandfathered}
-use Rattle.langtag_registry.specs.Fields.{preferred_language, preferred_region, preferred_variant, preferred_tag, extlang_prefix}
-use Rattle.langtag_registry.specs.Registered.{is_registered_extlang}
-use Rattle.langtag_registry.specs.Subtags.{extlang_subtags}
+use Rattle.langtag_fields.specs.Fields.{preferred_language, preferred_region, preferred_variant, preferred_tag, extlang_prefix}
+use Rattle.langtag_fields.specs.Registered.{is_registered_extlang}
+use Rattle.langtag_fields.specs.Subtags.{extlang_subtags}
 
 -- ---- step 1: the extensions are sorted by their singletons, ignoring case; extensions with the same singleton keep
 -- their order
@@ -25,10 +25,6 @@ module _ {A : Type 0} (key : A → ℕ) where
 
 unfoldable pub in_order : List Extension → List Extension
 in_order extensions = sorted_by (λ e. fold_byte e.singleton) extensions
-
--- all singletons (section 2.2.6), in order
-abbrev pub singletons : List ℕ
-singletons = codes "0123456789abcdefghijklmnopqrstuvwyz"
 
 -- ---- step 3: each subtag is replaced by its Preferred-Value
 

@@ -9,7 +9,7 @@ use Rattle.langtag_extension.specs.Text.{singleton_byte}
 use Rattle.langtag.specs.Repeat.{repeat_index, are_alike_bytes}
 use Rattle.langtag_registry.specs.declared.invalid_subtag.InvalidSubtag.{InvalidSubtag}
 use Rattle.langtag_registry.specs.declared.invalid_subtag.InvalidSubtag.TheVariants.{Language, Extlang, SecondExtlang, Script, Region, Variant, RepeatedVariant, RepeatedSingleton}
-use Rattle.langtag_registry.specs.Registered.{is_registered_language, is_registered_extlang, is_registered_script, is_registered_region, is_registered_variant}
+use Rattle.langtag_fields.specs.Registered.{is_registered_language, is_registered_extlang, is_registered_script, is_registered_region, is_registered_variant}
 
 -- a fault: a subtag that is not registered, is a second or third extended language, or repeats an earlier variant or
 -- singleton, ignoring case

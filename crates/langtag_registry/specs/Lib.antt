@@ -1,8 +1,3 @@
-pub mod Entry
-pub mod Subtags
-pub mod Registered
-pub mod Fields
-pub mod Tables
 pub mod Fault
 pub mod Compared
 pub mod Valid
@@ -10,4 +5,8 @@ pub mod Canonical
 pub mod Form
 pub mod CanonicalLaws
 pub mod Prefix
-pub mod Noted
+-- what the clauses of the calls of langtag_fields cite
+pub use Rattle.langtag_fields.specs.Entry
+pub use Rattle.langtag_fields.specs.Fields
+pub use Rattle.langtag_fields.specs.Registered
+pub use Rattle.langtag_fields.specs.Subtags

@@ -6,9 +6,9 @@ use Rattle.std.specs.Option.{option_map_or}
 use Rattle.langtag_scan.specs.Case.{are_alike}
 use Rattle.langtag_scan.specs.Record.{Record, spell}
 use Rattle.langtag_range.specs.Extended.{test_extended}
-use Rattle.langtag_registry.specs.Entry.{values_for}
-use Rattle.langtag_registry.specs.Fields.{extlang_prefix}
-use Rattle.langtag_registry.specs.Subtags.{variant_prefixes}
+use Rattle.langtag_fields.specs.Entry.{values_for}
+use Rattle.langtag_fields.specs.Fields.{extlang_prefix}
+use Rattle.langtag_fields.specs.Subtags.{variant_prefixes}
 
 -- whether one of the prefixes matches a text by extended filtering (RFC 4647 section 3.3.2), or there are no prefixes
 abbrev pub some_matches : List (List ℕ) → List ℕ → Bool

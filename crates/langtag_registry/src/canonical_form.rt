@@ -5,15 +5,15 @@ ghost use Rattle.langtag_scan.specs.Record.{EachRecord};
 ghost use Rattle.langtag.specs.Text.{lang_tag_text, lang_tag_buf_text, normal_lang_tag_text};
 ghost use Rattle.langtag_registry.specs.CanonicalLaws.{IsOnlyCanonicalForm, IsAlikeCanonicalForm, IsValidForm, HasNoExtlang};
 ghost use Rattle.langtag_registry.specs.Canonical.{IsCanonicalForm, canonical_text};
-ghost use Rattle.langtag_registry.specs.Fields as field;
+ghost use Rattle.langtag_fields.specs.Fields as field;
 ghost use Rattle.langtag_registry.specs.Form.{IsCanonicalAs};
 ghost use Rattle.langtag_registry.specs.declared.form.Form.TheVariants.{Parts};
 ghost use Rattle.langtag_output.specs.WritesWhole.{WritesWhole};
 
 use crate::canonical_parts::put_canonical_parts;
 use crate::form::{Form, form_of};
-use crate::preferred::preferred_for;
 use langtag::{LangTag, LangTagBuf, NormalLangTag, tag_of};
+use langtag_fields::preferred_for;
 use langtag_output::write_text;
 use std::alloc::{AllocError, Global};
 
@@ -73,7 +73,7 @@ pub fn canonical(alloc: Global, tag: LangTag<'_>) -> Result<LangTagBuf, AllocErr
 /// is_canonical(LangTag::new("HE")?); // true
 /// is_canonical(LangTag::new("iw")?); // false
 /// ```
-#[tactic(auto, using(crate::proofs::CanonicalCase::canonical_in_any_case))]
+#[tactic(auto, using(crate::proofs::AlikeForms::canonical_in_any_case))]
 pub fn is_canonical(tag: LangTag<'_>) -> bool
     ensures canonical { (result ≡ true) ↔ IsCanonicalForm (lang_tag_text tag.entry) (lang_tag_text tag.entry) }
     ensures any_case { (other : List ℕ) → Alike (lang_tag_text tag.entry) other → (result ≡ true) ↔ IsCanonicalForm other other }
@@ -157,7 +157,7 @@ fn counted_bytes(alloc: Global, tag: NormalLangTag<'_>) -> Result<Vec<u8>, Alloc
 }
 
 /// Writes a tag with its parts in their canonical forms, or the Preferred-Value of the tag that these parts make up.
-#[tactic(auto, using(crate::proofs::WholeTags::none_longer))]
+#[tactic(auto, using(langtag_fields::proofs::WholeTags::none_longer))]
 fn write_parts(tag: NormalLangTag<'_>, buffer: &mut [u8]) -> usize
     ensures form { EachRecord (normal_lang_tag_text tag.entry) (λ r. WritesWhole (λ form. form ≡ canonical_text r) buffer.old buffer.new result) }
     ensures untouched { length buffer.old < result → buffer.new ≡ buffer.old }

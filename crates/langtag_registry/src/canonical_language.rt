@@ -4,13 +4,12 @@ ghost use Rattle.langtag_language.specs.Language.{EachLanguageSpelling};
 ghost use Rattle.langtag_language.specs.Text.{language_text};
 ghost use Rattle.langtag_registry.specs.Canonical.{canonical_primary, canonical_extended};
 
-use crate::language_fields::preferred_language;
-use crate::subtags::is_registered_extlang;
+use langtag_fields::{is_registered_extlang, preferred_language};
 use langtag_language::Language;
 
 /// Returns whether a language is its own canonical form: `true` for `he`, `zh-fra` and `zh-cmn-yue`, `false` for `iw`,
 /// `iw-fra` and `zh-yue`.
-#[tactic(auto, using(crate::proofs::CanonicalLanguages::alone_stays, crate::proofs::CanonicalLanguages::other_stays, crate::proofs::PreferredValues::stays_without, crate::proofs::ReplacedSubtags::language_settled))]
+#[tactic(auto, using(crate::proofs::ReplacedSubtags::alone_stays, crate::proofs::ReplacedSubtags::other_stays, crate::proofs::ReplacedSubtags::stays_without, crate::proofs::ReplacedSubtags::language_settled))]
 pub(crate) fn is_canonical_language(language: Language<'_>) -> bool
     ensures { EachLanguageSpelling (language_text language.entry) (λ primary extended.
         (result ≡ true) ↔ ((canonical_primary primary extended ≡ primary) × (canonical_extended extended ≡ extended))) }

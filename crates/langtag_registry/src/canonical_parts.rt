@@ -12,15 +12,15 @@ ghost use Rattle.langtag_extension.specs.Spelling.{SpellsExtensions, extension_s
 ghost use Rattle.langtag_extension.specs.Text.{extensions_text};
 ghost use Rattle.langtag.specs.Text.{normal_lang_tag_text};
 ghost use Rattle.langtag_registry.specs.Canonical.{canonical_record, canonical_language, canonical_primary, canonical_extended, canonical_region, canonical_variants, in_order};
-ghost use Rattle.langtag_registry.specs.Noted.{of_singleton};
+ghost use Rattle.langtag_extension.specs.Noted.{of_singleton};
 ghost use Rattle.langtag_output.specs.Output.{Pushes, IsCounted};
 
-use crate::extension_order::{are_in_order, folded_singleton, singletons_of};
-use crate::language_fields::preferred_language;
-use crate::preferred::{preferred_region, preferred_variant};
-use crate::subtags::is_registered_extlang;
+use crate::extension_order::are_in_order;
 use langtag::{NormalLangTag, push_private_use};
-use langtag_extension::Extensions;
+use langtag_extension::{Extensions, folded_singleton, singletons_of};
+use langtag_fields::{
+    is_registered_extlang, preferred_language, preferred_region, preferred_variant,
+};
 use langtag_language::{ExtendedLangTag, Language, PrimaryLanguage};
 use langtag_output::Output;
 use langtag_place::{Region, Script, Variants};

@@ -4,11 +4,11 @@ ghost use Rattle.langtag_scan.specs.Subtags.{subtags};
 ghost use Rattle.langtag_place.specs.Text.{variants_text};
 ghost use Rattle.langtag_registry.specs.Canonical.{canonical_variants};
 
-use crate::preferred::preferred_variant;
+use langtag_fields::preferred_variant;
 use langtag_place::Variants;
 
 /// Returns whether none of these variants has a Preferred-Value.
-#[tactic(auto, using(crate::proofs::CanonicalVariants::variants_stay))]
+#[tactic(auto, using(crate::proofs::ReplacedSubtags::variants_stay))]
 pub(crate) fn are_canonical_variants(variants: Variants<'_>) -> bool
     ensures { (result ≡ true) ↔ (canonical_variants (subtags (variants_text variants.entry)) ≡ subtags (variants_text variants.entry)) }
 {

@@ -9,8 +9,8 @@ ghost use Rattle.langtag_registry.specs.Canonical as form;
 ghost use Rattle.langtag_registry.specs.Canonical.{IsExtlangForm, extlang_primary, extlang_extended, extlang_record};
 
 use crate::canonical_form::canonical;
-use crate::prefixes::prefix_of_language;
 use langtag::{LangTag, LangTagBuf, NormalLangTagBuf};
+use langtag_fields::prefix_of_language;
 use langtag_language::Language;
 use std::alloc::{AllocError, Global};
 

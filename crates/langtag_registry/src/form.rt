@@ -11,8 +11,8 @@ ghost use Rattle.langtag_registry.specs.declared.form.Form.TheVariants.{Same};
 use crate::canonical_language::is_canonical_language;
 use crate::canonical_variants::are_canonical_variants;
 use crate::extension_order::are_in_order;
-use crate::preferred::{preferred_region, preferred_tag};
 use langtag::{LangTag, NormalLangTag};
+use langtag_fields::{preferred_region, preferred_tag};
 use langtag_place::Region;
 
 /// How the canonical form of a tag is made.
@@ -47,7 +47,7 @@ pub(crate) fn form_of(tag: LangTag<'_>) -> Form<'_>
 }
 
 /// Returns whether all parts of a tag are in their canonical forms.
-#[tactic(auto, using(crate::proofs::CanonicalParts::parts_stay, crate::proofs::CanonicalParts::record_stays, crate::proofs::FaultLaws::language_spelled, langtag::proofs::PartsFound::variants_listed))]
+#[tactic(auto, using(crate::proofs::CanonicalParts::parts_stay, crate::proofs::CanonicalParts::record_stays, langtag::proofs::PartRules::language_spelled, langtag::proofs::PartRules::variants_listed))]
 fn has_canonical_parts(tag: NormalLangTag<'_>) -> bool
     ensures { EachRecord (normal_lang_tag_text tag.entry) (λ r. (result ≡ true) ↔ (canonical_record r ≡ r)) }
 {

@@ -25,38 +25,21 @@ mod canonical_form;
 mod canonical_language;
 mod canonical_parts;
 mod canonical_variants;
-mod deprecated;
 mod extension_order;
 mod extlang_forms;
 mod form;
 mod invalid_subtag;
-mod language_fields;
-mod languages;
 mod misplaced;
-mod preferred;
-mod prefixes;
-mod subtags;
-mod table;
-mod tables;
 mod validity;
 
 pub use canonical_form::{canonical, is_canonical, write_canonical};
-pub use deprecated::{
-    is_deprecated_extlang, is_deprecated_language, is_deprecated_region, is_deprecated_tag,
-    is_deprecated_variant,
-};
 pub use extlang_forms::extlang_form;
 pub use invalid_subtag::InvalidSubtag;
-pub use language_fields::{macrolanguage, preferred_language, suppress_script};
-pub use languages::is_registered_language;
-pub use misplaced::{misplaced_extlang, misplaced_variant};
-pub use preferred::{preferred_region, preferred_tag, preferred_variant};
-pub use prefixes::extlang_prefix;
-pub use subtags::{
-    is_registered_extlang, is_registered_region, is_registered_script, is_registered_variant,
+pub use langtag_fields::{
+    FILE_DATE, extlang_prefix, is_deprecated_extlang, is_deprecated_language, is_deprecated_region,
+    is_deprecated_tag, is_deprecated_variant, is_registered_extlang, is_registered_language,
+    is_registered_region, is_registered_script, is_registered_variant, macrolanguage,
+    preferred_language, preferred_region, preferred_tag, preferred_variant, suppress_script,
 };
-pub use tables::FILE_DATE;
+pub use misplaced::{misplaced_extlang, misplaced_variant};
 pub use validity::{fault_at, validate};
-
-// For langtag_locale.
-pub use extension_order::{SINGLETONS, singletons_of};

@@ -1,18 +1,15 @@
 //! Variants and extended languages that follow none of their prefixes (RFC 5646 section 3.1.8).
-ghost use Rattle.std.specs.Prelude.{◌≡◌, map};
+ghost use Rattle.std.specs.Prelude.{◌≡◌};
 ghost use Rattle.std.specs.Option.{option_map};
 ghost use Rattle.langtag_scan.specs.Record.{EachRecord};
 ghost use Rattle.langtag_language.specs.Text.{extended_lang_tag_text};
 ghost use Rattle.langtag_place.specs.Text.{variant_text};
 ghost use Rattle.langtag.specs.Text.{normal_lang_tag_text};
 ghost use Rattle.langtag_range.specs.Extended.{test_extended};
-ghost use Rattle.langtag_scan.specs.Case.{folded_number};
 ghost use Rattle.langtag_registry.specs.Prefix as spec;
-ghost use Rattle.langtag_registry.specs.Subtags as list;
 
-use crate::prefixes::extlang_prefix;
-use crate::tables::VARIANT_PREFIXES;
 use langtag::NormalLangTag;
+use langtag_fields::{extlang_prefix, variant_prefixes};
 use langtag_language::ExtendedLangTag;
 use langtag_place::Variant;
 use langtag_range::matches_extended;
@@ -95,11 +92,4 @@ fn matches_prefix(prefix: &str, before: &str) -> bool
     ensures { result ≡ test_extended prefix.now before.now }
 {
     matches_extended(prefix, before)
-}
-
-fn variant_prefixes() -> &'static [(u64, &'static str)]
-    ensures numbers { map (λ pair. pair.0) result.now ≡ map (λ entry. folded_number entry.subtag) list.variant_prefixes }
-    ensures values { map (λ pair. pair.1.now) result.now ≡ map (λ entry. entry.value) list.variant_prefixes }
-{
-    &VARIANT_PREFIXES
 }

@@ -15,12 +15,12 @@ ghost use Rattle.langtag_registry.specs.Valid.{IsValid};
 ghost use Rattle.langtag_registry.specs.declared.invalid_subtag.InvalidSubtag.{InvalidSubtag};
 
 use crate::invalid_subtag::InvalidSubtag;
-use crate::languages::is_registered_language;
-use crate::subtags::{
-    is_registered_extlang, is_registered_region, is_registered_script, is_registered_variant,
-};
 use langtag::{LangTag, NormalLangTag, is_among_first};
 use langtag_extension::Singleton;
+use langtag_fields::{
+    is_registered_extlang, is_registered_language, is_registered_region, is_registered_script,
+    is_registered_variant,
+};
 use langtag_language::Language;
 use langtag_place::{Region, Script, Variants};
 
@@ -68,7 +68,7 @@ pub fn validate<'a>(tag: LangTag<'a>) -> Result<(), InvalidSubtag<'a>>
 /// fault_at(LangTag::new("de-1996-1996")?).map(|(_, index)| index); // Some(1)
 /// fault_at(LangTag::new("de-1996")?).is_none(); // true
 /// ```
-#[tactic(auto, using(langtag::proofs::KeptFound::found_kept, crate::proofs::ValidLaws::valid_of_other, crate::proofs::ValidLaws::valid_of_none, crate::proofs::ValidLaws::valid_grandfathered))]
+#[tactic(auto, using(langtag::proofs::KeptFound::found_kept, crate::proofs::FaultLaws::valid_of_other, crate::proofs::FaultLaws::valid_of_none, crate::proofs::FaultLaws::valid_grandfathered))]
 pub fn fault_at<'a>(tag: LangTag<'a>) -> Option<(InvalidSubtag<'a>, usize)>
     ensures valid { IsNone result ↔ IsValid (lang_tag_text tag.entry) }
     // law: the first fault
@@ -85,7 +85,7 @@ pub fn fault_at<'a>(tag: LangTag<'a>) -> Option<(InvalidSubtag<'a>, usize)>
 }
 
 /// Returns the first fault of a normal tag. It does not check whether the tag is grandfathered.
-#[tactic(auto, using(crate::proofs::FaultLaws::first_fault, crate::proofs::FaultLaws::language_spelled, langtag::proofs::PartsFound::variants_listed, crate::proofs::FaultLaws::first_singleton))]
+#[tactic(auto, using(crate::proofs::FaultLaws::first_fault, langtag::proofs::PartRules::language_spelled, langtag::proofs::PartRules::variants_listed, crate::proofs::FaultLaws::first_singleton))]
 fn find_fault_of_normal<'a>(tag: NormalLangTag<'a>) -> Option<(InvalidSubtag<'a>, usize)>
     ensures first { EachRecord (normal_lang_tag_text tag.entry) (λ r. option_map (λ fault. told fault.0) result ≡ slice_get (faults r) 0) }
     ensures index { IfSome result (λ fault. EachRecord (normal_lang_tag_text tag.entry) (λ r. fault_index r (told fault.0) ≡ Some fault.1)) }

@@ -1,8 +1,5 @@
 -- What a test says that is true, and which of two values a choice has.
-use Rattle.std.proofs.Common.{◌≡◌, ℕ, ◌≤◌, Bool, true, false, cond, leb, ◌⊎◌, arith}
-use Rattle.std.specs.Int.{is_in_range}
-use Rattle.std.proofs.lemmas.Bool.{and_parts, leb-true}
-use Rattle.std.proofs.lemmas.Grind.{common_steps}
+use Rattle.langtag_scan.proofs.Prelude.{◌≡◌, ℕ, ◌≤◌, Bool, true, false, cond, leb, ◌⊎◌, arith, is_in_range, and_parts, leb-true, common_steps}
 
 pub between_true : (low high n : ℕ) → is_in_range low high n ≡ true → (low ≤ n) × (n ≤ high)
 between_true low high n within = let h = and_parts (leb low n) (leb n high) within in (leb-true low n h.0, leb-true n high h.1)

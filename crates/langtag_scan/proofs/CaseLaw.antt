@@ -1,21 +1,10 @@
 -- The case of letters changes no class, no segment and no stage; so it changes no kind of tag, no part and no end.
-use Rattle.std.proofs.Common.{rules, ◌≡◌, ℕ, Bool, false, eqb, List, [], ◌∷◌, ◌++◌, length, map, Option, inl, inr, refl, sym, ap, ◌∙◌, arith, IsTrue, IfSome}
-use Rattle.std.specs.List.{AllByRecursion, list_all, flat_map}
-use Rattle.std.specs.Option.{option_map, option_map_or}
-use Rattle.std.proofs.lemmas.Bool.Decides.{nat_tests}
-use Rattle.std.proofs.lemmas.List.{length-map, map-append}
-use Rattle.std.proofs.lemmas.Grind.{common_steps}
-use Rattle.langtag_scan.specs.Case.{fold_byte, fold_text, Alike}
-use Rattle.langtag_scan.specs.AlikeRecords.{fold_extension, fold_private_use, fold_record, AlikeRecords, IsSpelledAlike}
-use Rattle.langtag_scan.specs.Class.{is_letter, is_digit, is_alphanumeric, is_primary, is_extended, is_script, is_region, is_variant, is_extension_subtag, is_private_subtag, is_mark, is_singleton}
-use Rattle.langtag_scan.specs.Ends.{ends_of}
-use Rattle.langtag_scan.specs.Record.{Extension, PrivateUse, Record, IsWellFormedExtension, IsWellFormedPrivateUse, IsWellFormed, extension_flat, one_flat, private_part_flat, flat, spell, EachRecord}
-use Rattle.langtag_scan.specs.Stage.{Stage, Start, Classes, is_one, classes_of, next_stage}
-use Rattle.langtag_scan.specs.Subtags.{join, segments}
-use Rattle.langtag_scan.specs.Tag.{IsNormal, IsPrivate, IsIrregular, IsIrregularAt, IsTag}
-use Rattle.langtag_scan.proofs.NormalTexts.{normal_from_runs, runs_from_normal, spelled_once}
-use Rattle.langtag_scan.proofs.PrivateTexts.{runs_private, runs_from_private, private_from_runs}
-use Rattle.langtag_scan.proofs.Runs.{runs}
+use Rattle.langtag_scan.proofs.Prelude.{◌≡◌, ℕ, Bool, false, eqb, List, [], ◌∷◌, ◌++◌, length, map, Option, inl, inr, refl, sym, ap, ◌∙◌, arith, IsTrue, IfSome, AllByRecursion, list_all, flat_map, option_map_or, nat_tests, length-map, map-append, common_steps}
+use Rattle.std.specs.Option.{option_map}
+use Rattle.langtag_scan.proofs.Grammar.{fold_byte, fold_text, Alike, are_alike, fold_extension, fold_private_use, fold_record, AlikeRecords, is_letter, is_digit, is_alphanumeric, is_primary, is_extended, is_script, is_region, is_variant, is_extension_subtag, is_private_subtag, is_mark, is_singleton, ends_of, Extension, PrivateUse, Record, IsWellFormedExtension, IsWellFormedPrivateUse, IsWellFormed, extension_flat, one_flat, private_part_flat, flat, spell, EachRecord, Stage, Start, Classes, is_one, classes_of, next_stage, join, segments, subtags, IsNormal, IsPrivate, IsIrregular, IsIrregularAt, IsTag, are_alike-decides}
+use Rattle.langtag_scan.specs.AlikeRecords.{IsSpelledAlike}
+use Rattle.langtag_scan.proofs.NormalTexts.{normal_from_runs, runs_from_normal, spelled_once, runs_private, runs_from_private, private_from_runs}
+use Rattle.langtag_scan.proofs.StageLaws.{runs}
 
 -- ---- bytes
 
@@ -223,3 +212,51 @@ alike_parts t u alike r (fits, spells) =
     spell-fold r ∙ ap fold_text spells ∙ alike ∙ ap fold_text (sym other.1.1) ∙ sym (spell-fold q) in
     let same : AlikeRecords r q = spelled_once (fold_record r) (fold_record q) (well_formed-fold r fits) (well_formed-fold q other.1.0) spelled in
     (q, other.1, same, sym (ends-fold r) ∙ ap ends_of same ∙ ends-fold q)
+
+-- ---- texts that are equal, ignoring case, belong to the same classes of subtags, and their subtags pass the same tests
+
+alike-classes : (s t : List ℕ) → IsTrue (are_alike s t) → classes_of s ≡ classes_of t
+alike-classes s t alike = sym (classes-fold s) ∙ ap classes_of ((are_alike-decides s t).0 alike) ∙ classes-fold t
+
+-- ---- a text that is alike a subtag of a class is one, too
+
+pub alike_primary : (s t : List ℕ) → IsTrue (are_alike s t) → IsTrue (is_primary s) → IsTrue (is_primary t)
+alike_primary s t alike fits = sym (ap (λ c. c.primary) (alike-classes s t alike)) ∙ fits
+
+pub alike_extended : (s t : List ℕ) → IsTrue (are_alike s t) → IsTrue (is_extended s) → IsTrue (is_extended t)
+alike_extended s t alike fits = sym (ap (λ c. c.extended) (alike-classes s t alike)) ∙ fits
+
+pub alike_script : (s t : List ℕ) → IsTrue (are_alike s t) → IsTrue (is_script s) → IsTrue (is_script t)
+alike_script s t alike fits = sym (ap (λ c. c.script) (alike-classes s t alike)) ∙ fits
+
+pub alike_region : (s t : List ℕ) → IsTrue (are_alike s t) → IsTrue (is_region s) → IsTrue (is_region t)
+alike_region s t alike fits = sym (ap (λ c. c.region) (alike-classes s t alike)) ∙ fits
+
+pub alike_variant : (s t : List ℕ) → IsTrue (are_alike s t) → IsTrue (is_variant s) → IsTrue (is_variant t)
+alike_variant s t alike fits = sym (ap (λ c. c.variant) (alike-classes s t alike)) ∙ fits
+
+pub alike_extension_subtag : (s t : List ℕ) → IsTrue (are_alike s t) → IsTrue (is_extension_subtag s) → IsTrue (is_extension_subtag t)
+alike_extension_subtag s t alike fits = sym (ap (λ c. c.extension_subtag) (alike-classes s t alike)) ∙ fits
+
+pub alike_private_subtag : (s t : List ℕ) → IsTrue (are_alike s t) → IsTrue (is_private_subtag s) → IsTrue (is_private_subtag t)
+alike_private_subtag s t alike fits = sym (ap (λ c. c.private_subtag) (alike-classes s t alike)) ∙ fits
+
+-- ---- lists of subtags
+
+-- a test of subtags that the fold does not change, of each subtag in a list
+pub each_test-fold : (p : List ℕ → Bool) → ((s : List ℕ) → p (fold_text s) ≡ p s) → (ss : List (List ℕ)) → list_all p (map fold_text ss) ≡ list_all p ss
+each_test-fold p same [] = refl
+each_test-fold p same (s ∷ ss) = rw (same s, each_test-fold p same ss) refl
+
+subtags-fold : (t : List ℕ) → subtags (fold_text t) ≡ map fold_text (subtags t)
+subtags-fold [] = refl
+subtags-fold (b ∷ t) = segments-fold (b ∷ t)
+
+-- a test of lists of subtags that the fold does not change has the same result for the subtags of alike texts
+module _ (test : List (List ℕ) → Bool) (same : (ss : List (List ℕ)) → test (map fold_text ss) ≡ test ss) where
+  pub subtags_test-fold : (t : List ℕ) → test (subtags (fold_text t)) ≡ test (subtags t)
+  subtags_test-fold t = ap test (subtags-fold t) ∙ same (subtags t)
+
+  pub alike_subtags_test : (t u : List ℕ) → IsTrue (are_alike t u) → IsTrue (test (subtags t)) → IsTrue (test (subtags u))
+  alike_subtags_test t u alike pass =
+      sym (subtags_test-fold u) ∙ ap (λ v. test (subtags v)) (sym ((are_alike-decides t u).0 alike)) ∙ subtags_test-fold t ∙ pass

@@ -1,10 +1,8 @@
 -- How the order of texts without regard to case goes on from an index, and what it answers where a text has ended.
-use Rattle.std.proofs.Common.{◌≡◌, ℕ, suc, All, ◌+◌, ◌-◌, ◌<◌, min, true, false, cond, List, [], ◌∷◌, length, get_or, take, drop, refl, ◌∙◌, Fits, w8, arith, add-one, length-drop, Less, Greater, Ordering, get_or-drop}
-use Rattle.std.specs.Ordering.{nat_cmp, ordering_then, is_ne}
-use Rattle.std.proofs.Math.Facts.{Fits-of_lt}
+use Rattle.langtag_scan.proofs.Prelude.{◌≡◌, ℕ, suc, All, ◌+◌, ◌-◌, ◌<◌, min, true, false, cond, List, [], ◌∷◌, length, get_or, take, drop, refl, ◌∙◌, arith, add-one, Less, Greater, Ordering, nat_cmp, Fits-of_lt, drop-cons, common_steps}
+use Rattle.std.proofs.Common.{Fits, w8, length-drop, get_or-drop}
+use Rattle.std.specs.Ordering.{ordering_then, is_ne}
 use Rattle.std.proofs.Math.ListN.{get_or-eq_default}
-use Rattle.std.proofs.Math.Seq.{drop-cons}
-use Rattle.std.proofs.lemmas.Grind.{common_steps}
 use Rattle.langtag_scan.specs.Case.{fold_byte, Alike, case_cmp, EndsFirst}
 
 -- the order from an index on is that of the bytes there, and where they tie that of what follows

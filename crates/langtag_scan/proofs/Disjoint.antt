@@ -1,11 +1,9 @@
 -- The classes of subtags that may stand at one place have no member in common.
-use Rattle.std.proofs.Common.{◌≡◌, Some, ℕ, ◌≤◌, true, eqb, List, length, arith, ◌⊎◌}
-use Rattle.std.proofs.lemmas.Bool.{eqb-true, and_parts}
-use Rattle.std.proofs.lemmas.Bool.Decides.{nat_tests}
-use Rattle.std.proofs.lemmas.Grind.{common_steps}
+use Rattle.langtag_scan.proofs.Prelude.{◌≡◌, Some, ℕ, ◌≤◌, true, eqb, List, length, arith, ◌⊎◌, and_parts, nat_tests, common_steps}
+use Rattle.std.proofs.lemmas.Bool.{eqb-true}
 use Rattle.langtag_scan.specs.Class.{is_letter, is_digit, are_letters, are_digits, are_alphanumeric, starts_with_digit, is_extended, is_script, is_region, is_variant, is_extension_subtag, is_singleton}
 use Rattle.langtag_scan.specs.Stage.{Stage, classes_of, next_stage}
-use Rattle.langtag_scan.proofs.Steps.{leads_to, may_follow}
+use Rattle.langtag_scan.proofs.StageLaws.{leads_to, may_follow}
 
 pub letter_no_digit : (b : ℕ) → is_letter b ≡ true → is_digit b ≡ true → ⊥
 unfolding is_letter is_digit

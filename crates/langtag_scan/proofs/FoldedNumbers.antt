@@ -1,14 +1,8 @@
 -- The numbers of texts of letters and digits tell them apart but for case.
-use Rattle.std.proofs.Common.{◌≡◌, ℕ, ◌+◌, ◌*◌, ◌<◌, ◌≤◌, true, ◌==◌, List, [], ◌∷◌, Bool, refl, arith, rules, map}
-use Rattle.std.specs.List.{list_any, list_all, AllByRecursion}
-use Prim.Native.Nat.{◌^◌}
+use Rattle.langtag_scan.proofs.Prelude.{◌≡◌, ℕ, ◌+◌, ◌*◌, ◌<◌, ◌≤◌, true, ◌==◌, List, [], ◌∷◌, Bool, refl, arith, rules, map, list_any, list_all, AllByRecursion, ◌^◌, common_steps, and_parts, false_from_ne_true, eqb_tells, nat_tests, fold-map}
 use Rattle.std.proofs.Math.Nat.{pow-le-pow_right}
-use Rattle.std.proofs.lemmas.Grind.{pow_more, common_steps}
-use Rattle.std.proofs.lemmas.Bool.{and_parts, false_from_ne_true}
-use Rattle.std.proofs.lemmas.Bool.Decides.{eqb_tells, nat_tests}
-use Rattle.std.proofs.lemmas.List.Folds.{fold-map}
-use Rattle.langtag_scan.specs.Case.{fold_byte, fold_text, are_alike, folded_number}
-use Rattle.langtag_scan.specs.Class.{is_letter, is_digit, is_alphanumeric, are_alphanumeric}
+use Rattle.std.proofs.lemmas.Grind.{pow_more}
+use Rattle.langtag_scan.proofs.Grammar.{fold_byte, fold_text, are_alike, folded_number, is_letter, is_digit, is_alphanumeric, are_alphanumeric}
 use Rattle.langtag_scan.proofs.Digits.{IsBase, digits-same}
 
 record IsByte (d : ℕ) : Type 0 where

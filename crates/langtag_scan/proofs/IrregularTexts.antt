@@ -1,14 +1,13 @@
--- The irregular texts: which of them a text may still become, by its prefixes.
-use Rattle.std.proofs.Common.{◌≡◌, ℕ, ◌<◌, Bool, true, eqb, ◌&&◌, List, [], ◌∷◌, ◌++◌, length, get_or, drop, refl, sym, ◌∙◌, arith}
-use Rattle.std.proofs.lemmas.Bool.{eqb-true, eq-eqb, and_parts, and_from, agree_below, agree_below_at}
-use Rattle.std.proofs.lemmas.Bool.Decides.{nat_tests}
-use Rattle.std.proofs.lemmas.List.{map-append, drop-map, length-map, get_or-map}
-use Rattle.std.proofs.lemmas.Option.{slice_get-get_or, slice_get_within, get_or_from_slice_get}
-use Rattle.std.proofs.lemmas.Grind.{common_steps}
-use Rattle.langtag_scan.specs.Case.{fold_byte, fold_text}
-use Rattle.langtag_scan.specs.Grandfathered.{grandfathered_tags, irregular_texts}
-use Rattle.langtag_scan.specs.Irregular.{folded_texts, folded_at, is_prefix, has_at, is_possible}
-use Rattle.langtag_scan.specs.Tag.{IsIrregularAt}
+-- The irregular texts, and which of them a text may still become; no text is of two kinds of tags, and each grandfathered text is a tag.
+use Rattle.langtag_scan.proofs.Prelude.{◌≡◌, ℕ, ◌<◌, Bool, true, eqb, ◌&&◌, List, [], ◌∷◌, ◌++◌, length, get_or, drop, refl, sym, ◌∙◌, arith, false, map, ltb, ◌||◌, slice_get, None, Some, inl, inr, ap, eq-eqb, and_parts, and_from, agree_below, agree_below_at, both_ways, ltb-true, or_cases, nat_tests, map-append, drop-map, length-map, get_or-map, slice_get-get_or, slice_get_within, get_or_from_slice_get, common_steps, bytes_decides}
+use Rattle.std.proofs.Common.{bytes_eq}
+use Rattle.std.proofs.lemmas.Bool.{eqb-true}
+use Rattle.langtag_scan.proofs.Grammar.{fold_byte, fold_text, grandfathered_tags, irregular_texts, Grandfathered, folded_texts, folded_at, is_prefix, is_possible, IsIrregularAt, IsNormal, IsPrivate, IsIrregular, IsTag, is_letter, is_digit, is_primary, is_extended, is_script, is_region, is_variant, is_extension_subtag, is_private_subtag, is_mark, is_singleton, segments, Start}
+use Rattle.langtag_scan.specs.Irregular.{has_at}
+use Rattle.langtag_scan.proofs.NormalTexts.{runs_from_normal, runs_private, runs_from_private, one_no_primary, normal_from_runs}
+use Rattle.langtag_scan.proofs.CaseLaw.{runs-fold, runs_private-fold, segments_test-fold}
+use Rattle.langtag_scan.proofs.StageLaws.{runs}
+use Rattle.langtag_scan.proofs.TagLaws.{tag_normal, tag_irregular}
 
 -- ---- the table
 
@@ -85,3 +84,62 @@ possible_viable p k within h =
 pub possible_prefix : (p u : List ℕ) (k : ℕ) → IsIrregularAt k (p ++ u) → (k < 17) × (is_possible p k ≡ true)
 possible_prefix p u k irregular =
     grind (arith, common_steps, irregular_fold (p ++ u) k irregular, map-append fold_byte p u, is_prefix-append (fold_text p) (fold_text u))
+
+-- ---- no text is of two of the three cases of a tag
+
+-- no normal text is private
+pub normal_no_private : (t : List ℕ) → IsNormal t → IsPrivate t → ⊥
+unfolding runs
+normal_no_private t normal private = grind (arith, common_steps, runs_from_normal, runs_from_private, one_no_primary)
+
+-- where the fold changes nothing of a test of lists of subtags, and no text of the table passes it, no irregular text does
+irregular_fails :
+    (test : List (List ℕ) → Bool) → ((ss : List (List ℕ)) → test (map fold_text ss) ≡ test ss) →
+    ((k : ℕ) → k < 17 → test (segments (folded_at k)) ≡ false) → (t : List ℕ) → IsIrregular t → test (segments t) ≡ false
+unfolding IsIrregular
+irregular_fails test same none t (k, irregular) = grind (arith, common_steps, irregular_fold t k irregular, segments_test-fold test same t)
+
+-- no irregular text begins with a primary subtag that the rest may follow
+none_normal : (k : ℕ) → k < 17 → runs Start (segments (folded_at k)) ≡ false
+unfolding runs fold_byte folded_texts irregular_texts grandfathered_tags is_letter is_digit is_primary is_extended is_script is_region is_variant is_extension_subtag is_private_subtag is_mark is_singleton
+none_normal k within = agree_below_at (λ j. runs Start (segments (folded_at j))) (λ j. false) 17 k refl within
+
+-- and none with a mark
+none_private : (k : ℕ) → k < 17 → runs_private (segments (folded_at k)) ≡ false
+unfolding runs fold_byte folded_texts irregular_texts grandfathered_tags is_mark
+none_private k within = agree_below_at (λ j. runs_private (segments (folded_at j))) (λ j. false) 17 k refl within
+
+-- no normal text is irregular
+pub normal_no_irregular : (t : List ℕ) → IsNormal t → IsIrregular t → ⊥
+normal_no_irregular t normal irregular =
+    both_ways (runs Start (segments t)) (irregular_fails (runs Start) (runs-fold Start) none_normal t irregular) (runs_from_normal t normal)
+
+-- no private text is irregular
+pub private_no_irregular : (t : List ℕ) → IsPrivate t → IsIrregular t → ⊥
+private_no_irregular t private irregular =
+    both_ways (runs_private (segments t)) (irregular_fails runs_private runs_private-fold none_private t irregular) (runs_from_private t private)
+
+-- ---- each grandfathered text is a tag: the irregular ones by a rule of their own, and the regular ones as normal tags
+
+-- the text is alike the irregular one at this index, or its subtags may follow one another
+abbrev is_accepted : ℕ → List ℕ → Bool
+is_accepted k text = (ltb k 17 && bytes_eq (folded_at k) (fold_text text)) || runs Start (segments text)
+
+accepted_tag : (k : ℕ) (text : List ℕ) → is_accepted k text ≡ true → IsTag text
+accepted_tag k text accepted =
+    let irregular : Bool = ltb k 17 && bytes_eq (folded_at k) (fold_text text) in
+    elim (or_cases irregular (runs Start (segments text)) accepted) [
+      | inl there ↦
+          let parts = and_parts (ltb k 17) (bytes_eq (folded_at k) (fold_text text)) there in
+          let same = (bytes_decides (folded_at k) (fold_text text)).0 parts.1 in
+          tag_irregular text k (irregular_from_fold text k (ltb-true k 17 parts.0) same)
+      | inr run ↦ tag_normal text (normal_from_runs text run)
+    ]
+
+-- the text of each entry of the table is a tag
+pub registered_tag : (k : ℕ) (entry : Grandfathered) → slice_get grandfathered_tags k ≡ Some entry → IsTag entry.text
+unfolding fold_byte folded_texts grandfathered_tags irregular_texts runs is_letter is_digit is_primary is_extended is_script is_region is_variant is_mark is_singleton
+registered_tag k entry at =
+    let none : Grandfathered = record { text = []; language = None } in
+    let accepted = agree_below_at (λ j. is_accepted j (get_or grandfathered_tags j none).text) (λ j. true) 26 k refl (slice_get_within grandfathered_tags k entry at) in
+    accepted_tag k entry.text (ap (λ e. is_accepted k e.text) (sym (get_or_from_slice_get grandfathered_tags k entry none at)) ∙ accepted)

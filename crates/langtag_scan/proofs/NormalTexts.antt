@@ -1,19 +1,10 @@
--- A text is normal exactly where its segments may follow one another, and its record is the only one.
-use Rattle.std.proofs.Common.{◌≡◌, append-nil, ℕ, true, List, Some, sym, ap, ◌∙◌, ◌⊎◌, arith, rules}
-use Rattle.std.specs.List.{AllByRecursion}
-use Rattle.std.proofs.lemmas.Bool.{and_parts, both_ways}
-use Rattle.std.proofs.lemmas.List.Splits.{join_with_byte-slice_split}
-use Rattle.std.proofs.lemmas.Grind.{common_steps}
-use Rattle.langtag_scan.specs.Record.{Record, IsWellFormed, flat, spell}
-use Rattle.langtag_scan.specs.Stage.{Stage, Start, classes_of, after_stage}
-use Rattle.langtag_scan.specs.Subtags.{segments}
-use Rattle.langtag_scan.specs.Tag.{IsNormal}
-use Rattle.langtag_scan.proofs.Steps.{leads_to, after_class, next_step}
-use Rattle.langtag_scan.proofs.Decoding.{Read, Ready, FitParts, decode_sound, over_run}
-use Rattle.langtag_scan.proofs.Complete.{decode_complete, flat_once}
-use Rattle.langtag_scan.proofs.SubtagFacts.{IsSubtag, of_primary, of_extended, of_script, of_region, of_variant, of_extension_subtag, of_private_subtag, of_one, of_mark, singleton_alphanumeric}
-use Rattle.langtag_scan.proofs.SubtagLists.{segments-joined}
-use Rattle.langtag_scan.proofs.Runs.{runs}
+-- A text is normal or private exactly where its segments may follow one another, and a normal text has one record.
+use Rattle.langtag_scan.proofs.Prelude.{◌≡◌, append-nil, ℕ, true, List, Some, sym, ap, ◌∙◌, ◌⊎◌, arith, rules, Bool, false, ◌&&◌, [], ◌∷◌, refl, AllByRecursion, and_parts, both_ways, and_from, join_with_byte-slice_split, common_steps}
+use Rattle.langtag_scan.proofs.Grammar.{Record, IsWellFormed, flat, spell, Stage, Start, classes_of, after_stage, AfterMark, is_one, segments, join, IsNormal, IsPrivate, is_private_subtag, is_primary, is_mark}
+use Rattle.langtag_scan.proofs.StageLaws.{leads_to, after_class, next_step, runs}
+use Rattle.langtag_scan.proofs.Decoding.{Read, Ready, FitParts, decode_sound, over_run, decode, decode_complete, flat_once, after_mark}
+use Rattle.langtag_scan.proofs.SubtagFacts.{IsSubtag, of_primary, of_extended, of_script, of_region, of_variant, of_extension_subtag, of_private_subtag, of_one, of_mark, singleton_alphanumeric, mark_alphanumeric}
+use Rattle.langtag_scan.proofs.SubtagLists.{segments-joined, each_subtag}
 
 -- a subtag of a class has one to eight letters and digits
 of_class : (after : Stage) (s : List ℕ) → leads_to after (classes_of s) ≡ true → IsSubtag s
@@ -53,3 +44,42 @@ runs_from_normal t n = grind (arith, common_steps, spelled_segments n.0 n.1.0, d
 -- so a text is normal or not
 pub normal_or_not : (t : List ℕ) → IsNormal t ⊎ (IsNormal t → ⊥)
 normal_or_not t = grind (arith, common_steps, normal_from_runs t, both_ways, runs_from_normal t)
+
+-- ---- a private text is a mark, a hyphen, and subtags over which the stages run from after a mark; no other text is
+
+-- whether the subtags are a mark and what may follow it
+abbrev pub runs_private : List (List ℕ) → Bool
+runs_private [] = false
+runs_private (s ∷ ss) = is_one is_mark s && runs AfterMark ss
+
+-- the segments of a private text
+pub runs_from_private : (t : List ℕ) → IsPrivate t → runs_private (segments t) ≡ true
+unfolding IsPrivate
+runs_from_private t (p, fits, spells) =
+    let mark = of_one p.mark (mark_alphanumeric p.mark fits.mark) in
+    let split = segments-joined (p.mark ∷ []) p.subtags (mark, each_subtag is_private_subtag of_private_subtag p.subtags fits.subtags) in
+    ap (λ u. runs_private (segments u)) (sym spells) ∙ ap runs_private split
+    ∙ and_from (is_mark p.mark) (runs AfterMark p.subtags) fits.mark (after_mark p.subtags fits.some fits.subtags).run
+
+-- what such subtags spell is private
+private_from_subtags : (t : List ℕ) (ss : List (List ℕ)) → join ss ≡ t → runs_private ss ≡ true → IsPrivate t
+unfolding IsPrivate
+private_from_subtags t [] e h = absurd cc
+private_from_subtags t ([] ∷ ss) e h = absurd cc
+private_from_subtags t ((m ∷ c ∷ s) ∷ ss) e h = absurd cc
+private_from_subtags t ((m ∷ []) ∷ ss) e h =
+    let k = and_parts (is_mark m) (runs AfterMark ss) h in
+    let sound = decode_sound ss AfterMark k.1 in
+    let after : (decode AfterMark ss).after ≡ ss = simp append-nil at sound.spells in (
+      record { mark = m; subtags = (decode AfterMark ss).after },
+      record { mark = k.0; some = sound.ready.1; subtags = sound.ready.0 },
+      ap (λ (us : List (List ℕ)). join ((m ∷ []) ∷ us)) after ∙ e,
+    )
+
+-- and only a private text has such segments
+pub private_from_runs : (t : List ℕ) → runs_private (segments t) ≡ true → IsPrivate t
+private_from_runs t h = private_from_subtags t (segments t) (join_with_byte-slice_split 45 t) h
+
+pub one_no_primary : (m : ℕ) → is_primary (m ∷ []) ≡ false
+unfolding is_primary
+one_no_primary m = refl

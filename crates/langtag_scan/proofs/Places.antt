@@ -1,9 +1,6 @@
 -- Where an element of a list first passes a test.
-use Rattle.std.proofs.Common.{◌≡◌, ℕ, ◌<◌, Bool, true, false, not, List, length, arith, unwrap_or}
-use Rattle.std.specs.List.{list_any, position, position_or_len}
-use Rattle.std.proofs.lemmas.Bool.Decides.{nat_tests}
-use Rattle.std.proofs.lemmas.List.Folds.{list_any_at, list_any_none}
-use Rattle.std.proofs.lemmas.List.Sums.{fails_before_first, passes_at_first, prefix_len-le-length}
+use Rattle.langtag_scan.proofs.Prelude.{◌≡◌, ℕ, ◌<◌, Bool, true, false, not, List, length, arith, unwrap_or, list_any, position, position_or_len, nat_tests, list_any_at, list_any_none, fails_before_first, prefix_len-le-length}
+use Rattle.std.proofs.lemmas.List.Sums.{passes_at_first}
 
 module _ (p : ℕ → Bool) (text : List ℕ) where
   pub first_or_length : unwrap_or (position p text) (length text) ≡ position_or_len p text

@@ -1,15 +1,9 @@
 -- A normal text: its one record, the offsets where its parts end, and what a fact of which only the truth is known
 -- says of them.
-use Rattle.std.proofs.Common.{rules, ◌≡◌, ℕ, List, length, refl, sym, ◌∙◌, arith, IsAscii}
-use Rattle.std.proofs.Math.Logic.{∥∥₁_elim, ∥∥₁_prop}
-use Rattle.std.proofs.Props.{props}
-use Rattle.std.proofs.lemmas.Grind.{common_steps}
+use Rattle.langtag_scan.proofs.Prelude.{◌≡◌, ℕ, List, length, refl, sym, ◌∙◌, arith, IsAscii, ∥∥₁_elim, props, common_steps}
+use Rattle.std.proofs.Math.Logic.{∥∥₁_prop}
 use mathlib.Core.Bool.{Bool-set}
-use Rattle.langtag_scan.specs.Ends.{ends_of, HasEnds}
-use Rattle.langtag_scan.specs.Parts.{AreInOrder}
-use Rattle.langtag_scan.specs.Record.{EachRecord, flat}
-use Rattle.langtag_scan.specs.Subtags.{subtags}
-use Rattle.langtag_scan.specs.Tag.{IsNormal}
+use Rattle.langtag_scan.proofs.Grammar.{ends_of, HasEnds, AreInOrder, EachRecord, flat, subtags, IsNormal}
 use Rattle.langtag_scan.specs.declared.ends.Ends.{Ends}
 use Rattle.langtag_scan.proofs.Ascii.{IsAscii-normal}
 use Rattle.langtag_scan.proofs.PartOffsets.{ends_in_order}

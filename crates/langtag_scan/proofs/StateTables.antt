@@ -1,24 +1,17 @@
 -- What the tables say of the state of a position is what the grammar says of the position: by computation.
-use Rattle.std.proofs.Common.{◌≡◌, ℕ, ◌+◌, ◌-◌, ◌<◌, ◌≤◌, Bool, true, false, cond, eqb, eqb-true, eq-eqb, ne_eqb, ltb, leb, not, ◌&&◌, ◌||◌, List, [], ◌∷◌, ◌++◌, length, take, get_or, Option, Some, None, refl, ap, ◌∙◌, arith, zero, suc, drop, inl, inr, sym, subst, codes, fold, MatchOption}
-use Rattle.std.specs.List.{list_all}
-use Rattle.std.specs.Option.{option_map_or, option_map}
+use Rattle.langtag_scan.proofs.Prelude.{◌≡◌, ℕ, ◌+◌, ◌-◌, ◌<◌, ◌≤◌, Bool, true, false, cond, eqb, eqb-true, ltb, leb, not, ◌&&◌, ◌||◌, List, [], ◌∷◌, ◌++◌, length, take, get_or, Option, Some, None, refl, ap, ◌∙◌, arith, zero, suc, drop, inl, inr, sym, subst, codes, fold, MatchOption, list_all, option_map_or, take-append_seam, agree_below, agree_below_at, and_parts, or_cases, not-true, ltb-true, leb-true, lt-ltb, cases_lt, both_ways, get_or_past, position-Some, common_steps}
+use Rattle.std.proofs.Common.{eq-eqb, ne_eqb}
+use Rattle.std.specs.Option.{option_map}
 use Rattle.std.specs.Cmp.{booleans_Decides}
 use Rattle.std.proofs.Math.Bool.{beq}
-use Rattle.std.proofs.Math.Seq.{take-append_seam}
-use Rattle.std.proofs.lemmas.Bool.{agree_below, agree_below_at, and_parts, or_cases, not-true, ltb-true, leb-true, lt-ltb, le-ltb, cases_lt, both_ways}
-use Rattle.std.proofs.lemmas.List.{length-append, get_or_past}
-use Rattle.std.proofs.lemmas.List.Quantifiers.{position-Some}
+use Rattle.std.proofs.lemmas.Bool.{le-ltb}
+use Rattle.std.proofs.lemmas.List.{length-append}
 use Rattle.std.proofs.lemmas.List.Sums.{AllPass-from_list_all}
-use Rattle.std.proofs.lemmas.Grind.{common_steps}
-use Rattle.langtag_scan.specs.Case.{fold_byte, fold_text}
-use Rattle.langtag_scan.specs.Class.{is_letter, is_digit, is_mark}
-use Rattle.langtag_scan.specs.Grandfathered.{grandfathered_tags, irregular_texts}
-use Rattle.langtag_scan.specs.Irregular.{folded_texts, folded_at, is_possible, is_prefix}
-use Rattle.langtag_scan.specs.Kind.{Kind, Empty, Mark, Letters, Digits, LetterFirst, DigitFirst}
-use Rattle.langtag_scan.specs.Position.{Begun, Position, possible_index, irregular_after, position_after, position_of, part_before, ending_of, is_dead, nothing_read}
-use Rattle.langtag_scan.specs.Stage.{Stage, Start, Language, Extended, AfterScript, AfterRegion, AfterVariant, AfterSingleton, InExtension, AfterMark, InPrivate, AfterFirstMark, InPrivateTag}
+use Rattle.langtag_scan.proofs.Grammar.{fold_byte, fold_text, is_letter, is_digit, is_mark, grandfathered_tags, irregular_texts, folded_texts, folded_at, is_possible, is_prefix, Kind, Empty, Begun, possible_index, irregular_after, position_after, position_of, part_before, ending_of, is_dead, nothing_read, Stage, Start, Language, Extended, AfterScript, AfterRegion, AfterVariant, AfterSingleton, InExtension, AfterMark, InPrivate, AfterFirstMark, InPrivateTag, Stands}
+use Rattle.langtag_scan.specs.Kind.{Mark, Letters, Digits, LetterFirst, DigitFirst}
+use Rattle.langtag_scan.specs.Position.{Position}
 use Rattle.langtag_scan.specs.States.{states_of, states_along}
-use Rattle.langtag_scan.specs.Tracking.{Stands, next_number, is_reached, state_of, begun_number}
+use Rattle.langtag_scan.specs.Tracking.{next_number, is_reached, state_of, begun_number}
 use Rattle.langtag_scan.specs.declared.state.Ending.{Ending}
 use Rattle.langtag_scan.specs.declared.state.State.{State}
 use Rattle.langtag_scan.specs.declared.state.Ending.TheVariants.{NoTag, Normal, PrivateUse, Irregular}

@@ -1,17 +1,11 @@
 -- Texts and the lists of subtags that stand between their hyphens: joining and splitting undo one another, and a list of
 -- members of a class is found again in its join.
-use Rattle.std.proofs.Common.{◌≡◌, ℕ, ◌<◌, ◌≤◌, ◌+◌, List, length, drop, length-drop, arith, Bool, true, false, [], ◌∷◌, ◌++◌, refl, ap, ◌∙◌, Option, Bor, MatchOption, All, IsTrue, get_or, slice_range}
-use Rattle.std.proofs.lemmas.Bool.{and_parts}
-use Rattle.std.proofs.lemmas.List.{take-append-drop, drop_more}
-use Rattle.std.specs.List.{onto_first, AllByRecursion, list_all}
-use Rattle.std.proofs.lemmas.List.Splits.{slice_split-cons_yes, slice_split-cons_no, slice_split_none, slice_split_at, length-slice_split, join_with_byte-slice_split}
-use Rattle.std.proofs.lemmas.List.Elements.{All-nil, All-cons, All-head, All-tail, All-from_recursion, All-weaker}
-use Rattle.std.proofs.lemmas.List.Sums.{count_by-le-length}
-use Rattle.std.proofs.lemmas.Grind.{common_steps}
+use Rattle.langtag_scan.proofs.Prelude.{◌≡◌, ℕ, ◌<◌, ◌≤◌, ◌+◌, List, length, drop, arith, Bool, true, false, [], ◌∷◌, ◌++◌, refl, ap, ◌∙◌, Option, Bor, MatchOption, All, IsTrue, get_or, and_parts, take-append-drop, drop_more, onto_first, AllByRecursion, list_all, slice_split-cons_yes, slice_split-cons_no, slice_split_none, slice_split_at, length-slice_split, join_with_byte-slice_split, All-nil, All-cons, All-head, All-tail, All-from_recursion, count_by-le-length, common_steps, IsCharBoundary-after_ascii}
+use Rattle.std.proofs.Common.{length-drop, slice_range}
+use Rattle.std.proofs.lemmas.List.Elements.{All-weaker}
 use Rattle.langtag_scan.specs.Subtags.{is_hyphen, IsHyphenFree, join, segments, subtags, segments_left}
 use Rattle.langtag_scan.proofs.Joins.{length-join}
 use Rattle.langtag_scan.proofs.SubtagFacts.{IsSubtag, no_hyphen}
-use Rattle.std.proofs.lemmas.Str.{IsCharBoundary-after_ascii}
 
 -- ---- the first and the last segment
 

@@ -25,7 +25,7 @@ use crate::state::{Ending, State};
 /// recognise(&mut Metered::new("zh_TW")).is_none(); // true
 /// ```
 #[inline(always)]
-#[tactic(auto, using(crate::proofs::OneKind::normal_no_private, crate::proofs::OneKind::normal_no_irregular, crate::proofs::OneKind::private_no_irregular, crate::proofs::IrregularTexts::irregular_once, crate::proofs::FillLaw::viable_fill))]
+#[tactic(auto, using(crate::proofs::IrregularTexts::normal_no_private, crate::proofs::IrregularTexts::normal_no_irregular, crate::proofs::IrregularTexts::private_no_irregular, crate::proofs::IrregularTexts::irregular_once, crate::proofs::ReadingLaws::viable_fill))]
 pub fn recognise<S: ByteSource>(source: &mut S) -> Option<Found>
     requires { S.reads source.old ≤ 2 ^ 126 }
     ensures found { MatchOption result (IsTag (S.bytes source.old) → ⊥) (λ found. IsFoundOf (S.bytes source.old) (finding found)) }
@@ -56,7 +56,7 @@ pub fn recognise<S: ByteSource>(source: &mut S) -> Option<Found>
 /// Reads a source up to the first byte that makes a tag impossible. Returns what the whole string is or, if it is not a
 /// tag, the length of the longest prefix with which some tag begins.
 #[inline(always)]
-#[tactic(auto, using(crate::proofs::RecogniserLaws::whole_stop, crate::proofs::RecogniserLaws::viable_nothing))]
+#[tactic(auto, using(crate::proofs::PositionLaws::whole_stop, crate::proofs::PositionLaws::viable_nothing))]
 pub(crate) fn read<S: ByteSource>(source: &mut S) -> Result<Found, usize>
     requires { S.reads source.old ≤ 2 ^ 126 }
     ensures found { MatchResult result (λ found. IsFoundOf (S.bytes source.old) (finding found)) (λ viable. IsTag (S.bytes source.old) → ⊥) }

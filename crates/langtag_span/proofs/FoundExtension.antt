@@ -1,9 +1,5 @@
 -- The first extension of a singleton, by where it stands in a tag.
-use Rattle.langtag_keyword.proofs.Common.{◌≡◌, ◌+◌, ◌-◌, ◌≤◌, ℕ, Bool, List, [], length, unwrap_or, arith, ◌<◌, ◌∷◌, take, drop, map, find, Option, None, Some}
-use Rattle.langtag_keyword.proofs.Common.{refl, ap, sym, subst, ◌∙◌, position_or_len, eqb_tells, nat_tests, length-drop, take_all, drop-drop, drop-take}
-use Rattle.langtag_keyword.proofs.Common.{option_map_or, fold_byte, length-slice_split, is_extension_subtag, ends_of, EachRecord, Extension, Record}
-use Rattle.langtag_keyword.proofs.Common.{IsWellFormed, is_hyphen, subtags, of_extension_subtag, each_subtag, extension_texts, IsExtension, SpellsExtensions}
-use Rattle.langtag_keyword.proofs.Common.{extension_spelling, find_extension, extension_found, option_map}
+use Rattle.langtag_keyword.proofs.Common.{◌≡◌, ◌+◌, ◌-◌, ◌≤◌, ℕ, Bool, List, [], length, unwrap_or, arith, ◌<◌, ◌∷◌, take, drop, map, find, Option, None, Some, refl, ap, sym, subst, ◌∙◌, position_or_len, eqb_tells, nat_tests, length-drop, take_all, drop-drop, drop-take, option_map_or, fold_byte, length-slice_split, is_extension_subtag, ends_of, EachRecord, Extension, Record, IsWellFormed, is_hyphen, subtags, of_extension_subtag, each_subtag, extension_texts, IsExtension, SpellsExtensions, extension_spelling, find_extension, extension_found, option_map}
 use Rattle.std.proofs.Common.{eqb, slice_index, slice_index_or, Bor}
 use Rattle.std.specs.List.{after_first}
 use Rattle.std.proofs.lemmas.List.{drop_min}
@@ -19,7 +15,7 @@ use Rattle.langtag_extension.specs.ExtensionTexts.{IsFirstExtension}
 use Rattle.langtag_extension.specs.Spelling.{IsExtensions}
 use Rattle.langtag_extension.proofs.ExtensionLookUp.{find_spellings, subtags_found, subtags_not_found}
 use Rattle.langtag_extension.proofs.Rules.{extension_texts_spelled}
-use Rattle.langtag.proofs.PartsFound.{extensions_found}
+use Rattle.langtag.proofs.PartRules.{extensions_found}
 use Rattle.langtag_keyword.proofs.SubtagTexts.{subtags-after_singleton}
 use Rattle.langtag_span.specs.Keywords.{subtags_in}
 use Rattle.langtag_span.specs.declared.span.Span.{Span}

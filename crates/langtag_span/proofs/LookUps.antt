@@ -1,9 +1,6 @@
 -- What a walk over the elements of a header finds is what lookup finds first among the acceptable ones, the heaviest
 -- first.
-use Rattle.langtag_keyword.proofs.Common.{filter, list_all, and_parts, take_all, ◌≡◌, ℕ, ◌+◌, ◌-◌, ◌<◌, ◌≤◌, Bool, true, false, not, nat_lt, cond, List, []}
-use Rattle.langtag_keyword.proofs.Common.{◌∷◌, ◌++◌, map, length, take, get_or, Option, None, Some, unwrap_or, ap, refl, sym, subst, ◌∙◌, arith, rules, suc}
-use Rattle.langtag_keyword.proofs.Common.{zero, position_or_len, sum_by, AllByRecursion, option_map_or, nat_tests, length-map, take_more, common_steps}
-use Rattle.langtag_keyword.proofs.Common.{are_alike, length-slice_split, is_some, slice_get, option_map}
+use Rattle.langtag_keyword.proofs.Common.{filter, list_all, and_parts, take_all, ◌≡◌, ℕ, ◌+◌, ◌-◌, ◌<◌, ◌≤◌, Bool, true, false, not, nat_lt, cond, List, [], ◌∷◌, ◌++◌, map, length, take, get_or, Option, None, Some, unwrap_or, ap, refl, sym, subst, ◌∙◌, arith, rules, suc, zero, position_or_len, sum_by, AllByRecursion, option_map_or, nat_tests, length-map, take_more, common_steps, are_alike, length-slice_split, is_some, slice_get, option_map}
 use Rattle.langtag_span.proofs.FoundExtension.{nothing-in}
 use Rattle.langtag_span.specs.Negotiation.{filled_items}
 use Rattle.langtag_range.specs.Element.{element, from_first, is_ows, is_space, Element, is_comma, items}

@@ -1,8 +1,5 @@
 -- What a span of a span has.
-use Rattle.langtag_keyword.proofs.Common.{◌≡◌, ℕ, ◌+◌, ◌-◌, ◌≤◌, List, length, take, drop, ap, ◌∙◌, arith, zero, suc, [], ◌∷◌, ◌++◌, map, slice_get, Option}
-use Rattle.langtag_keyword.proofs.Common.{Some, refl, sym, append_assoc, drop-drop, drop-take, take-take, length-take, length-append, nat_tests, common_steps}
-use Rattle.langtag_keyword.proofs.Common.{flat_map, sum_by, slice_get-map, ends_of, to_variants, Record, Extension, IsWellFormed, extension_flat, join}
-use Rattle.langtag_keyword.proofs.Common.{hyphenated, SpellsExtensions, extension_spelling, is_some, option_map}
+use Rattle.langtag_keyword.proofs.Common.{◌≡◌, ℕ, ◌+◌, ◌-◌, ◌≤◌, List, length, take, drop, ap, ◌∙◌, arith, zero, suc, [], ◌∷◌, ◌++◌, map, slice_get, Option, Some, refl, sym, append_assoc, drop-drop, drop-take, take-take, length-take, length-append, nat_tests, common_steps, flat_map, sum_by, slice_get-map, ends_of, to_variants, Record, Extension, IsWellFormed, extension_flat, join, hyphenated, SpellsExtensions, extension_spelling, is_some, option_map}
 use Rattle.langtag_span.specs.Spans.{end_of, span_text}
 use Rattle.langtag_span.specs.declared.span.Span.{Span}
 use Rattle.std.specs.List.{scan}

@@ -1,14 +1,12 @@
 -- No tag is empty.
-use Rattle.langtag_keyword.proofs.Common.{◌≡◌, ℕ, ◌≤◌, true, false, List, [], ◌∷◌, drop, length, inl, inr, arith, Option, None, Some, unwrap_or, refl}
-use Rattle.langtag_keyword.proofs.Common.{nat_tests, extension_flat, length-join, of_primary, IsSubtag, of_variant, AllByRecursion, flat_map, IsUtf8}
-use Rattle.langtag_keyword.proofs.Common.{common_steps, is_extended, is_variant, join, each_subtag, option_map}
+use Rattle.langtag_keyword.proofs.Common.{◌≡◌, ℕ, ◌≤◌, true, false, List, [], ◌∷◌, drop, length, inl, inr, arith, Option, None, Some, unwrap_or, refl, nat_tests, extension_flat, length-join, of_primary, IsSubtag, of_variant, AllByRecursion, flat_map, IsUtf8, common_steps, is_extended, is_variant, join, each_subtag, option_map}
 use Rattle.std.proofs.Common.{MatchOption}
 use Rattle.langtag_scan.specs.Grandfathered.{grandfathered_tags, irregular_texts}
 use Rattle.langtag_scan.specs.Record.{flat}
 use Rattle.langtag_scan.specs.Tag.{IsNormal, IsTag}
 use Rattle.langtag_scan.proofs.SubtagFacts.{of_extended, of_region, of_script}
 use Rattle.langtag_private.proofs.Rules.{is_private_use-from_rule, IsPrivate-from_test}
-use Rattle.langtag.proofs.IrregularTests.{alike_some}
+use Rattle.langtag.proofs.RegisteredLaws.{alike_some}
 use Rattle.std.proofs.lemmas.Str.{IsUtf8-from_ascii}
 use Rattle.langtag_scan.proofs.Ascii.{IsAscii-private, IsAscii-spelled}
 use Rattle.langtag_extension.proofs.Rules.{all_subtags-flat}

@@ -1,6 +1,5 @@
 -- What spans of a text are: tags, where the test says so.
-use Rattle.langtag_keyword.proofs.Common.{◌≡◌, ℕ, zero, suc, ◌+◌, ◌<◌, Bool, true, false, List, [], ◌∷◌, Some, length, take, refl, cond, arith, ◌&&◌, get_or}
-use Rattle.langtag_keyword.proofs.Common.{Option, None, ◌≤◌, sum_by, length-map, length-slice_split, common_steps, and_parts, false_from_ne_true, nat_tests}
+use Rattle.langtag_keyword.proofs.Common.{◌≡◌, ℕ, zero, suc, ◌+◌, ◌<◌, Bool, true, false, List, [], ◌∷◌, Some, length, take, refl, cond, arith, ◌&&◌, get_or, Option, None, ◌≤◌, sum_by, length-map, length-slice_split, common_steps, and_parts, false_from_ne_true, nat_tests}
 use Rattle.std.proofs.Common.{ltb}
 use Rattle.std.specs.List.{onto_first, slice_get, slice_split}
 use Rattle.std.proofs.lemmas.List.{nil_from_length, get_or-map}
@@ -17,7 +16,7 @@ use Rattle.langtag_private.proofs.Rules.{IsPrivate-from_test, is_private_use-fro
 use Rattle.langtag_span.specs.Spanned.{AreTagsAt, HasTag, IsTagAt, range_at, ranges_at}
 use Rattle.langtag_span.specs.Spans.{HasBytes, empty_at, end_of, has_bytes, span_text}
 use Rattle.langtag_span.specs.TagsAt.{is_tag, tag_at, tags_at}
-use Rattle.langtag.proofs.IrregularTests.{alike_some}
+use Rattle.langtag.proofs.RegisteredLaws.{alike_some}
 use Rattle.langtag_span.specs.declared.span.Span.{Span}
 use Rattle.langtag_range.specs.Listed.{listed}
 

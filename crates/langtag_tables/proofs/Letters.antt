@@ -1,12 +1,7 @@
 -- The numbers of texts of letters tell them apart but for case.
-use Rattle.std.proofs.Common.{◌≡◌, ℕ, zero, suc, ◌+◌, ◌*◌, ◌-◌, ◌<◌, ◌≤◌, true, ◌==◌, List, [], ◌∷◌, length, get_or, map, refl, ap, sym, ◌∙◌, arith}
-use Rattle.std.specs.List.{fold, AllByRecursion}
-use Rattle.std.proofs.lemmas.Bool.{and_parts, false_from_ne_true}
-use Rattle.std.proofs.lemmas.Bool.Decides.{eqb_tells, nat_tests}
-use Rattle.std.proofs.lemmas.List.Folds.{fold-map}
-use Rattle.langtag_scan.specs.Case.{fold_byte, fold_text, are_alike}
-use Rattle.langtag_scan.specs.CaseLaws.{are_alike-decides}
-use Rattle.langtag_scan.specs.Class.{is_letter, are_letters, has_length, is_primary, is_extended}
+use Rattle.langtag_scan.proofs.Prelude.{◌≡◌, ℕ, zero, suc, ◌+◌, ◌*◌, ◌-◌, ◌<◌, ◌≤◌, true, ◌==◌, List, [], ◌∷◌, length, get_or, map, refl, ap, sym, ◌∙◌, arith, AllByRecursion, and_parts, false_from_ne_true, eqb_tells, nat_tests, fold-map}
+use Rattle.std.specs.List.{fold}
+use Rattle.langtag_scan.proofs.Grammar.{fold_byte, fold_text, are_alike, are_alike-decides, is_letter, are_letters, has_length, is_primary, is_extended}
 use Rattle.langtag_tables.specs.Numbers.{letter, letter_number}
 use Rattle.langtag_scan.proofs.Digits.{IsBase, digits-same}
 

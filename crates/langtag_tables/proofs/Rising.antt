@@ -1,10 +1,6 @@
 -- Numbers that rise, and what a search among them finds.
-use Rattle.std.proofs.lemmas.Grind.{common_steps}
-use Rattle.std.proofs.Common.{◌≡◌, ◌≢◌, ℕ, zero, suc, ◌<◌, ◌≤◌, true, false, ◌==◌, Bool, leb, ltb, List, [], ◌∷◌, length, get_or, inl, inr, refl, sym, arith}
-use Rattle.std.specs.Prelude.{◌&&◌, MatchResult, Result, Ok, Err, is_ok}
-use Rattle.std.specs.List.{list_any}
-use Rattle.std.proofs.lemmas.Bool.{and_parts, leb-true, le-leb, ltb-true, eq-eqb, ne_eqb, cases_lt}
-use Rattle.std.proofs.Math.Bool.{or-true}
+use Rattle.langtag_scan.proofs.Prelude.{common_steps, ◌≡◌, ◌≢◌, ℕ, zero, suc, ◌<◌, ◌≤◌, true, false, ◌==◌, Bool, leb, ltb, List, [], ◌∷◌, length, get_or, inl, inr, refl, sym, arith, Result, list_any, and_parts, leb-true, le-leb, ltb-true, eq-eqb, ne_eqb, cases_lt, or-true}
+use Rattle.std.specs.Prelude.{◌&&◌, MatchResult, Ok, Err, is_ok}
 use Rattle.langtag_tables.specs.Numbers.{climbs_from}
 
 -- each number is at least the one before it

@@ -1,25 +1,16 @@
 -- The extension `u` in canonical form stays in that form when a canonical keyword is set, or a key is removed.
-use Rattle.langtag_keyword.proofs.Common.{rules, ◌≡◌, ℕ, ◌==◌, ◌&&◌, Bool, true, false, cond, List, [], ◌∷◌, ◌++◌, map, find, Option, None, Some, option_map}
-use Rattle.langtag_keyword.proofs.Common.{unwrap_or, refl, sym, ap, subst, ◌∙◌, arith, ◌≤◌, ◌||◌, not, length, append-nil, append_assoc, common_steps}
-use Rattle.langtag_keyword.proofs.Common.{flat_map-append, and_parts, false≢true, nat_tests, AllByRecursion, filter, is_some, option_map_or, fold_text-twice}
-use Rattle.langtag_keyword.proofs.Common.{length-fold, of_extension_subtag, each_subtag, subtags-joined, are_alike, fold_text, are_alphanumeric, join, subtags}
-use Rattle.langtag_keyword.proofs.Common.{is_this_key, is_type, is_unicode_key, keyword_error, with_keyword, without_keyword, without_within, changed_from}
-use Rattle.langtag_keyword.proofs.Common.{extension_of, in_alphabet, put_among, unicode_form, unicode_value, extension_form, forms_after, is_of, is_transform}
-use Rattle.langtag_keyword.proofs.Common.{before_key, is_key, value_of, find_extension, Extension, IsWellFormed, IsWellFormedExtension, Record, IsTrue}
+use Rattle.langtag_keyword.proofs.Common.{rules, ◌≡◌, ℕ, ◌==◌, ◌&&◌, Bool, true, false, cond, List, [], ◌∷◌, ◌++◌, map, find, Option, None, Some, option_map, unwrap_or, refl, sym, ap, subst, ◌∙◌, arith, ◌≤◌, ◌||◌, not, length, append-nil, append_assoc, common_steps, flat_map-append, and_parts, false≢true, nat_tests, AllByRecursion, filter, is_some, option_map_or, fold_text-twice, length-fold, of_extension_subtag, each_subtag, subtags-joined, are_alike, fold_text, are_alphanumeric, join, subtags, is_this_key, is_type, is_unicode_key, keyword_error, with_keyword, without_keyword, without_within, changed_from, extension_of, in_alphabet, put_among, unicode_form, unicode_value, extension_form, forms_after, is_of, is_transform, before_key, is_key, value_of, find_extension, Extension, IsWellFormed, IsWellFormedExtension, Record, IsTrue}
 use Rattle.langtag.proofs.Alike.{alike_length}
 use Rattle.langtag_scan.proofs.CaseLaw.{is_digit-fold, is_letter-fold}
 use Rattle.langtag_scan.specs.Case.{fold_byte}
 use Rattle.langtag_scan.specs.Class.{has_length, is_extension_subtag}
 use Rattle.langtag_keyword.specs.Edit.{IsCanonicalKeyword, edited_record}
 use Rattle.langtag_keyword.specs.Form.{keys_in_order, extensions_record}
-use Rattle.langtag_keyword.proofs.AlphabetLaws.{each-alphabet, KeySplit, among, among-put, key-split, lower-put, same-risen, Rise, rise-in_alphabet, rise-put}
-use Rattle.langtag_keyword.proofs.AlphabetLaws.{AreLower, lower-in_alphabet}
+use Rattle.langtag_keyword.proofs.AlphabetLaws.{each-alphabet, KeySplit, among, among-put, key-split, lower-put, same-risen, Rise, rise-in_alphabet, rise-put, AreLower, lower-in_alphabet}
 use Rattle.langtag_unicode.proofs.FormRecords.{Good, good-value, types-unicode}
-use Rattle.langtag_keyword.proofs.KeywordBlocks.{AreValues, block, blocks, find-among, find-passed, put-among, put-passed, removed-among, without-passed}
-use Rattle.langtag_keyword.proofs.KeywordBlocks.{extension-some, find_u, some-put, u_is_u}
+use Rattle.langtag_keyword.proofs.KeywordBlocks.{AreValues, block, blocks, find-among, find-passed, put-among, put-passed, removed-among, without-passed, extension-some, find_u, some-put, u_is_u}
 use Rattle.langtag_keyword.proofs.KeywordsInForm.{blocks-put, flat-same, keys-have, plain-before}
-use Rattle.langtag_keyword.proofs.KeywordLaws.{AreNoKeys, alike-itself, before-kept, before-put, fits_from, none_after_removal, others_after_removal}
-use Rattle.langtag_keyword.proofs.KeywordLaws.{others_after_set, read_after_set, standing-this, type-no_key, form_by, form_tested}
+use Rattle.langtag_keyword.proofs.KeywordLaws.{AreNoKeys, alike-itself, before-kept, before-put, fits_from, none_after_removal, others_after_removal, others_after_set, read_after_set, standing-this, type-no_key, form_by, form_tested}
 use Rattle.langtag_keyword.specs.Form as form
 use Rattle.langtag_keyword.proofs.KeywordsInForm as in_form
 

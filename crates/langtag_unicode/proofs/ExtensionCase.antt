@@ -1,9 +1,5 @@
 -- The case of letters changes nothing in the forms of extensions but case.
-use Rattle.langtag_keyword.proofs.Common.{common_steps, ◌≡◌, ℕ, Bool, false, ◌||◌, ◌==◌, List, [], ◌∷◌, ◌++◌, map, Option, None, Some, option_map, unwrap_or}
-use Rattle.langtag_keyword.proofs.Common.{refl, ap, ◌∙◌, arith, list_any, nat_tests, classes-fold, fold_text-twice, length-fold, AlikeRecords, Alike, are_alike}
-use Rattle.langtag_keyword.proofs.Common.{fold_text, is_region, is_script, is_variant, Extension, Record, Classes, join, subtags, type_alias_for, after_one}
-use Rattle.langtag_keyword.proofs.Common.{are_different_variants, are_fields, extension_form, forms_after, in_alphabet, language_form, is_language_or_none}
-use Rattle.langtag_keyword.proofs.Common.{is_of, is_transform, one_of, transform_form, unicode_form, unicode_value, before_key, is_key, value_of, is_field_key}
+use Rattle.langtag_keyword.proofs.Common.{common_steps, ◌≡◌, ℕ, Bool, false, ◌||◌, ◌==◌, List, [], ◌∷◌, ◌++◌, map, Option, None, Some, option_map, unwrap_or, refl, ap, ◌∙◌, arith, list_any, nat_tests, classes-fold, fold_text-twice, length-fold, AlikeRecords, Alike, are_alike, fold_text, is_region, is_script, is_variant, Extension, Record, Classes, join, subtags, type_alias_for, after_one, are_different_variants, are_fields, extension_form, forms_after, in_alphabet, language_form, is_language_or_none, is_of, is_transform, one_of, transform_form, unicode_form, unicode_value, before_key, is_key, value_of, is_field_key}
 use Rattle.langtag.proofs.Alike.{AlikeFields}
 use Rattle.langtag.proofs.FormLaws.{alike_forms}
 use Rattle.langtag.specs.Form.{IsAlikeForm}

@@ -1,12 +1,5 @@
 -- The form of a tag is a tag: its extensions are well-formed.
-use Rattle.langtag_keyword.proofs.Common.{common_steps, ◌≡◌, ℕ, ◌≤◌, ◌&&◌, ◌||◌, not, Bool, true, false, List, [], ◌∷◌, ◌++◌, length, map, Some, unwrap_or}
-use Rattle.langtag_keyword.proofs.Common.{refl, sym, ap, subst, ◌∙◌, arith, find, Option, None, and_parts, false≢true, nat_tests, AllByRecursion, filter}
-use Rattle.langtag_keyword.proofs.Common.{flat_map, list_all, is_some, classes-fold, of_extension_subtag, each_from_test, each_subtag, subtags-joined}
-use Rattle.langtag_keyword.proofs.Common.{each-append, fold_text, is_alphanumeric, Extension, IsWellFormed, IsWellFormedExtension, Record, join, subtags, Alias}
-use Rattle.langtag_keyword.proofs.Common.{TypeAlias, alias_for, type_alias_for, is_type, at_place, changed_from, edited, extension_of, is_this_key}
-use Rattle.langtag_keyword.proofs.Common.{is_unicode_key, keyword_error, put_keyword, without_within, extension_form, forms_after, in_alphabet, is_of}
-use Rattle.langtag_keyword.proofs.Common.{is_transform, transform_form, unicode_form, unicode_value, before_key, is_key, value_of, is_field_key, Classes}
-use Rattle.langtag_keyword.proofs.Common.{IsTrue}
+use Rattle.langtag_keyword.proofs.Common.{common_steps, ◌≡◌, ℕ, ◌≤◌, ◌&&◌, ◌||◌, not, Bool, true, false, List, [], ◌∷◌, ◌++◌, length, map, Some, unwrap_or, refl, sym, ap, subst, ◌∙◌, arith, find, Option, None, and_parts, false≢true, nat_tests, AllByRecursion, filter, flat_map, list_all, is_some, classes-fold, of_extension_subtag, each_from_test, each_subtag, subtags-joined, each-append, fold_text, is_alphanumeric, Extension, IsWellFormed, IsWellFormedExtension, Record, join, subtags, Alias, TypeAlias, alias_for, type_alias_for, is_type, at_place, changed_from, edited, extension_of, is_this_key, is_unicode_key, keyword_error, put_keyword, without_within, extension_form, forms_after, in_alphabet, is_of, is_transform, transform_form, unicode_form, unicode_value, before_key, is_key, value_of, is_field_key, Classes, IsTrue}
 use Rattle.std.proofs.Common.{length-append}
 use Rattle.langtag_scan.specs.Class.{is_digit, is_extension_subtag, is_letter, is_mark, is_singleton}
 use Rattle.langtag_keyword.specs.Aliases.{subdivision_aliases, transform_type_aliases, unicode_type_aliases}

@@ -1,10 +1,5 @@
 -- The form of the extension `u`, and of `t`, is its own form.
-use Rattle.langtag_keyword.proofs.Common.{common_steps, arith, ◌≡◌, ℕ, Bool, true, false, not, ◌&&◌, ◌==◌, List, [], ◌∷◌, ◌++◌, length, map, refl, sym, ap}
-use Rattle.langtag_keyword.proofs.Common.{subst, ◌∙◌, ◌||◌, classes-fold, fold_text-twice, length-fold, fold_text, is_primary, is_variant, one_flat, Extension}
-use Rattle.langtag_keyword.proofs.Common.{IsWellFormed, IsWellFormedExtension, Record, Classes, subtags, are_different_variants, are_fields, in_alphabet}
-use Rattle.langtag_keyword.proofs.Common.{is_language_or_none, is_transform, is_unicode_language, language_form, one_of, transform_form, transform_value}
-use Rattle.langtag_keyword.proofs.Common.{unicode_form, unicode_value, extension_form, forms_after, is_of, before_key, is_key, is_field_key, both}
-use Rattle.langtag_keyword.proofs.Common.{AllByRecursion}
+use Rattle.langtag_keyword.proofs.Common.{common_steps, arith, ◌≡◌, ℕ, Bool, true, false, not, ◌&&◌, ◌==◌, List, [], ◌∷◌, ◌++◌, length, map, refl, sym, ap, subst, ◌∙◌, ◌||◌, classes-fold, fold_text-twice, length-fold, fold_text, is_primary, is_variant, one_flat, Extension, IsWellFormed, IsWellFormedExtension, Record, Classes, subtags, are_different_variants, are_fields, in_alphabet, is_language_or_none, is_transform, is_unicode_language, language_form, one_of, transform_form, transform_value, unicode_form, unicode_value, extension_form, forms_after, is_of, before_key, is_key, is_field_key, both, AllByRecursion}
 use Rattle.langtag.specs.FieldClasses.{is_region_field, is_script_field}
 use Rattle.langtag.specs.Fields.{Fields, subtag_of}
 use Rattle.langtag_scan.specs.Case.{fold_byte}
@@ -17,8 +12,7 @@ use Rattle.langtag_keyword.proofs.CanonicalValues.{transform-settled, unicode-se
 use Rattle.langtag_unicode.proofs.FormRecords.{Good, form_well_formed}
 use Rattle.langtag_unicode.proofs.IdentifierParts.{AreSubtags, AreVariants, different_variants, fields_good, alphabet-apart}
 use Rattle.langtag_keyword.proofs.KeywordsInForm.{Plain, front-again, keywords-again, plain-before}
-use Rattle.langtag_unicode.proofs.TransformParts.{AreNoFields, after_region, after_script, are-fields, field_values, identifier-no_field, identifier-variants}
-use Rattle.langtag_unicode.proofs.TransformParts.{variant-no_region, variant-no_script, region-no_script}
+use Rattle.langtag_unicode.proofs.TransformParts.{AreNoFields, after_region, after_script, are-fields, field_values, identifier-no_field, identifier-variants, variant-no_region, variant-no_script, region-no_script}
 use Rattle.langtag.proofs.FormLaws.{composed}
 use Rattle.langtag_unicode.specs.ExtensionsForm.{IsExtensionsForm}
 use Rattle.langtag_keyword.proofs.KeywordLaws.{form_by, form_tested, forms-next}

@@ -1,7 +1,5 @@
 -- The parts of a language identifier are subtags of their classes.
-use Rattle.langtag_keyword.proofs.Common.{common_steps, arith, ◌≡◌, ℕ, Bool, true, false, ◌||◌, List, [], ◌∷◌, ◌++◌, None, refl, ap, ◌∙◌, ◌&&◌, ◌==◌, not}
-use Rattle.langtag_keyword.proofs.Common.{length, list_any-append, IsTrue, AllByRecursion, list_any, is_none, are_alike, fold_text, in_alphabet}
-use Rattle.langtag_keyword.proofs.Common.{is_unicode_language, are_different_variants, one_of, is_primary, is_variant, both, nat_tests, slice_get}
+use Rattle.langtag_keyword.proofs.Common.{common_steps, arith, ◌≡◌, ℕ, Bool, true, false, ◌||◌, List, [], ◌∷◌, ◌++◌, None, refl, ap, ◌∙◌, ◌&&◌, ◌==◌, not, length, list_any-append, IsTrue, AllByRecursion, list_any, is_none, are_alike, fold_text, in_alphabet, is_unicode_language, are_different_variants, one_of, is_primary, is_variant, both, nat_tests, slice_get}
 use Rattle.std.specs.Option.{option_and_then}
 use Rattle.langtag.specs.Repeat.{repeat, repeat_index_after}
 use Rattle.langtag_keyword.proofs.AlphabetLaws.{Rise, rise-in_alphabet, lower-in_alphabet, after-apart, under-each}

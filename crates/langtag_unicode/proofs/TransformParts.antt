@@ -1,10 +1,5 @@
 -- The parts of `t`: a language identifier whose parts are found again, and fields that have values.
-use Rattle.langtag_keyword.proofs.Common.{IsTrue, each-weaker, ◌≡◌, ℕ, ◌≤◌, Bool, true, false, ◌&&◌, ◌||◌, List, [], ◌∷◌, ◌++◌, length, map, find, Option, Some}
-use Rattle.langtag_keyword.proofs.Common.{None, option_map, unwrap_or, refl, sym, ap, subst, ◌∙◌, append-nil, append_assoc, arith, false≢true, AllByRecursion}
-use Rattle.langtag_keyword.proofs.Common.{flat_map, list_all, list_any, nat_tests, length-fold, of_extension_subtag, each-append, each_from_test, each_subtag}
-use Rattle.langtag_keyword.proofs.Common.{subtags-joined, are_alike, fold_text, are_alike-decides, is_extension_subtag, is_region, is_script, is_variant}
-use Rattle.langtag_keyword.proofs.Common.{one_flat, join, subtags, TypeAlias, after_one, are_different_variants, are_fields, before_key, value_of, is_field_key}
-use Rattle.langtag_keyword.proofs.Common.{both, found_has}
+use Rattle.langtag_keyword.proofs.Common.{IsTrue, each-weaker, ◌≡◌, ℕ, ◌≤◌, Bool, true, false, ◌&&◌, ◌||◌, List, [], ◌∷◌, ◌++◌, length, map, find, Option, Some, None, option_map, unwrap_or, refl, sym, ap, subst, ◌∙◌, append-nil, append_assoc, arith, false≢true, AllByRecursion, flat_map, list_all, list_any, nat_tests, length-fold, of_extension_subtag, each-append, each_from_test, each_subtag, subtags-joined, are_alike, fold_text, are_alike-decides, is_extension_subtag, is_region, is_script, is_variant, one_flat, join, subtags, TypeAlias, after_one, are_different_variants, are_fields, before_key, value_of, is_field_key, both, found_has}
 use Rattle.std.proofs.Common.{leb}
 use Rattle.std.proofs.lemmas.Bool.{leb-true}
 use Rattle.langtag.specs.FieldClasses.{is_region_field, is_script_field}

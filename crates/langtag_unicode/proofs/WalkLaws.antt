@@ -1,7 +1,5 @@
 -- What a lookup and a walk have in common.
-use Rattle.langtag_keyword.proofs.Common.{rules, common_steps, ◌≡◌, ℕ, Bool, true, false, cond, ◌&&◌, ◌==◌, not, List, [], ◌∷◌, ◌++◌, length, Option, Some}
-use Rattle.langtag_keyword.proofs.Common.{refl, ap, sym, ◌∙◌, arith, list_any, nat_tests, list_any-append, fold_text, are_alike, Alike, join, length-fold}
-use Rattle.langtag_keyword.proofs.Common.{before_key, value_of, is_key, keywords_after, is_field_key, option_map}
+use Rattle.langtag_keyword.proofs.Common.{rules, common_steps, ◌≡◌, ℕ, Bool, true, false, cond, ◌&&◌, ◌==◌, not, List, [], ◌∷◌, ◌++◌, length, Option, Some, refl, ap, sym, ◌∙◌, arith, list_any, nat_tests, list_any-append, fold_text, are_alike, Alike, join, length-fold, before_key, value_of, is_key, keywords_after, is_field_key, option_map}
 use Rattle.std.proofs.lemmas.Map.Steps.{list_any_congr}
 use Rattle.langtag_scan.proofs.CaseLaw.{is_letter-fold, is_digit-fold}
 use Rattle.langtag_keyword.specs.Keywords.{Keyword, value_among, keywords_of}

@@ -6,6 +6,8 @@ pub mod case;
 pub mod choice;
 #[path = "../../src/erased/extension/mod.rs"]
 pub mod extension;
+#[path = "../../src/erased/fields/mod.rs"]
+pub mod fields;
 #[path = "../../src/erased/keyword/mod.rs"]
 pub mod keyword;
 #[path = "../../src/erased/language/mod.rs"]

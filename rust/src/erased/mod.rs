@@ -7,6 +7,8 @@ pub mod case;
 pub mod choice;
 pub mod extension;
 #[cfg(feature = "data")]
+pub mod fields;
+#[cfg(feature = "data")]
 pub mod keyword;
 pub mod language;
 #[cfg(feature = "data")]

@@ -19,6 +19,7 @@ mod extension_subtag;
 mod extension_texts;
 mod extensions;
 mod extensions_iter;
+mod noted;
 mod singleton;
 
 #[cfg(feature = "alloc")]
@@ -34,3 +35,6 @@ pub use extensions::ExtensionsBuf;
 pub use extensions::{Extensions, InvalidExtensions};
 pub use extensions_iter::ExtensionsIter;
 pub use singleton::{InvalidSingleton, Singleton};
+
+// For langtag_registry and langtag_locale.
+pub(crate) use noted::{folded_singleton, singletons_of, SINGLETONS};

@@ -2,6 +2,7 @@
 
 //! The extensions in the form of a Unicode locale identifier (UTS #35, part 1, Annex C).
 
+use crate::erased::extension::{singletons_of, SINGLETONS};
 use crate::erased::keyword::{
     is_of, preceding, push_keywords, push_unicode, split_first, subtags_of, take_region,
     take_script, Keys,
@@ -10,7 +11,6 @@ use crate::erased::likely::{language_replaced, TagFields};
 use crate::erased::locale::locale_fields::identifier_form;
 use crate::erased::locale::locale_variants::push_variants;
 use crate::erased::output::Output;
-use crate::erased::registry::{singletons_of, SINGLETONS};
 use crate::erased::tag::{into_smallcase, Extension, Extensions, Singleton};
 
 /// Appends the extensions in their forms, in the order of their singletons.

@@ -2,8 +2,8 @@
 
 //! The Unicode locale identifier whose form is the form of a tag (UTS #35, part 1, Annex C).
 
+use crate::erased::fields::{is_registered_extlang, preferred_tag};
 use crate::erased::locale::locale::is_locale_record;
-use crate::erased::registry::{is_registered_extlang, preferred_tag};
 use crate::erased::tag::{ExtendedLangTag, LangTag, NormalLangTag};
 
 /// Returns the Unicode locale identifier whose form is the form of a tag: the tag itself, its

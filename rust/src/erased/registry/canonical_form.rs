@@ -2,10 +2,10 @@
 
 //! The canonical form of a tag (RFC 5646 section 4.5).
 
+use crate::erased::fields::preferred_for;
 use crate::erased::output::write_text;
 use crate::erased::registry::canonical_parts::put_canonical_parts;
 use crate::erased::registry::form::{form_of, Form};
-use crate::erased::registry::preferred::preferred_for;
 #[cfg(feature = "alloc")]
 use crate::erased::tag::{tag_of, LangTagBuf};
 use crate::erased::tag::{LangTag, NormalLangTag};

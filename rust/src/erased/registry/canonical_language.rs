@@ -2,9 +2,8 @@
 
 //! Whether a language with its extended subtags is its own canonical form (RFC 5646 section 4.5).
 
+use crate::erased::fields::{is_registered_extlang, preferred_language};
 use crate::erased::language::Language;
-use crate::erased::registry::language_fields::preferred_language;
-use crate::erased::registry::subtags::is_registered_extlang;
 
 /// Returns whether a language is its own canonical form: `true` for `he`, `zh-fra` and
 /// `zh-cmn-yue`, `false` for `iw`, `iw-fra` and `zh-yue`.

@@ -3,14 +3,14 @@
 //! The canonical forms of a tag's parts (RFC 5646 section 4.5), written to an output in their
 //! order.
 
-use crate::erased::extension::Extensions;
+use crate::erased::extension::{folded_singleton, singletons_of, Extensions};
+use crate::erased::fields::{
+    is_registered_extlang, preferred_language, preferred_region, preferred_variant,
+};
 use crate::erased::language::{ExtendedLangTag, Language, PrimaryLanguage};
 use crate::erased::output::Output;
 use crate::erased::place::{Region, Script, Variants};
-use crate::erased::registry::extension_order::{are_in_order, folded_singleton, singletons_of};
-use crate::erased::registry::language_fields::preferred_language;
-use crate::erased::registry::preferred::{preferred_region, preferred_variant};
-use crate::erased::registry::subtags::is_registered_extlang;
+use crate::erased::registry::extension_order::are_in_order;
 use crate::erased::tag::{push_private_use, NormalLangTag};
 
 /// Writes a tag with its parts in their canonical forms into a buffer, as far as it fits, and

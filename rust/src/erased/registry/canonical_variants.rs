@@ -2,8 +2,8 @@
 
 //! Whether variants are their own canonical forms (RFC 5646 section 4.5).
 
+use crate::erased::fields::preferred_variant;
 use crate::erased::place::Variants;
-use crate::erased::registry::preferred::preferred_variant;
 
 /// Returns whether none of these variants has a Preferred-Value.
 #[inline]

@@ -2,10 +2,10 @@
 
 //! The extlang form of a tag (RFC 5646 section 4.5).
 
+use crate::erased::fields::prefix_of_language;
 use crate::erased::language::Language;
 #[cfg(feature = "alloc")]
 use crate::erased::registry::canonical_form::canonical;
-use crate::erased::registry::prefixes::prefix_of_language;
 use crate::erased::tag::LangTag;
 #[cfg(feature = "alloc")]
 use crate::erased::tag::{LangTagBuf, NormalLangTagBuf};

@@ -2,11 +2,11 @@
 
 //! How the canonical form of a tag is made (RFC 5646 section 4.5).
 
+use crate::erased::fields::{preferred_region, preferred_tag};
 use crate::erased::place::Region;
 use crate::erased::registry::canonical_language::is_canonical_language;
 use crate::erased::registry::canonical_variants::are_canonical_variants;
 use crate::erased::registry::extension_order::are_in_order;
-use crate::erased::registry::preferred::{preferred_region, preferred_tag};
 use crate::erased::tag::{LangTag, NormalLangTag};
 
 /// How the canonical form of a tag is made.

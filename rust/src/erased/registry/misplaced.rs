@@ -2,11 +2,10 @@
 
 //! Variants and extended languages that follow none of their prefixes (RFC 5646 section 3.1.8).
 
+use crate::erased::fields::{extlang_prefix, variant_prefixes};
 use crate::erased::language::ExtendedLangTag;
 use crate::erased::place::Variant;
 use crate::erased::range::matches_extended;
-use crate::erased::registry::prefixes::extlang_prefix;
-use crate::erased::registry::tables::VARIANT_PREFIXES;
 use crate::erased::scan::folded_number;
 use crate::erased::tag::NormalLangTag;
 
@@ -100,9 +99,4 @@ fn fits_after(before: &str, variant: Variant<'_>) -> bool {
 #[inline]
 fn matches_prefix(prefix: &str, before: &str) -> bool {
     matches_extended(prefix, before)
-}
-
-#[inline]
-fn variant_prefixes() -> &'static [(u64, &'static str)] {
-    &VARIANT_PREFIXES
 }

@@ -33,41 +33,25 @@ mod canonical_form;
 mod canonical_language;
 mod canonical_parts;
 mod canonical_variants;
-mod deprecated;
 mod extension_order;
 mod extlang_forms;
 mod form;
 mod invalid_subtag;
-mod language_fields;
-mod languages;
 mod misplaced;
-mod preferred;
-mod prefixes;
-mod subtags;
-mod table;
-mod tables;
 mod validity;
 
+pub use crate::erased::fields::{
+    extlang_prefix, is_deprecated_extlang, is_deprecated_language, is_deprecated_region,
+    is_deprecated_tag, is_deprecated_variant, is_registered_extlang, is_registered_language,
+    is_registered_region, is_registered_script, is_registered_variant, macrolanguage,
+    preferred_language, preferred_region, preferred_tag, preferred_variant, suppress_script,
+    FILE_DATE,
+};
 #[cfg(feature = "alloc")]
 pub use canonical_form::canonical;
 pub use canonical_form::{is_canonical, write_canonical};
-pub use deprecated::{
-    is_deprecated_extlang, is_deprecated_language, is_deprecated_region, is_deprecated_tag,
-    is_deprecated_variant,
-};
 #[cfg(feature = "alloc")]
 pub use extlang_forms::extlang_form;
 pub use invalid_subtag::InvalidSubtag;
-pub use language_fields::{macrolanguage, preferred_language, suppress_script};
-pub use languages::is_registered_language;
 pub use misplaced::{misplaced_extlang, misplaced_variant};
-pub use preferred::{preferred_region, preferred_tag, preferred_variant};
-pub use prefixes::extlang_prefix;
-pub use subtags::{
-    is_registered_extlang, is_registered_region, is_registered_script, is_registered_variant,
-};
-pub use tables::FILE_DATE;
 pub use validity::{fault_at, validate};
-
-// For langtag_locale.
-pub(crate) use extension_order::{singletons_of, SINGLETONS};

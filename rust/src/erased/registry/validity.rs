@@ -3,13 +3,13 @@
 //! Valid tags (RFC 5646 section 2.2.9).
 
 use crate::erased::extension::Singleton;
+use crate::erased::fields::{
+    is_registered_extlang, is_registered_language, is_registered_region, is_registered_script,
+    is_registered_variant,
+};
 use crate::erased::language::Language;
 use crate::erased::place::{Region, Script, Variants};
 use crate::erased::registry::invalid_subtag::InvalidSubtag;
-use crate::erased::registry::languages::is_registered_language;
-use crate::erased::registry::subtags::{
-    is_registered_extlang, is_registered_region, is_registered_script, is_registered_variant,
-};
 use crate::erased::tag::{is_among_first, LangTag, NormalLangTag};
 
 /// Checks whether a tag is valid by the registry ([RFC 5646 section 2.2.9]). All its subtags must

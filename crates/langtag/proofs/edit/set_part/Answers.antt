@@ -1,8 +1,7 @@
-use Rattle.std.proofs.Common.{◌≡◌, ◌+◌, length, refl, ap, sym, ◌∙◌, arith, length-append}
-use Rattle.std.proofs.lemmas.Grind.{common_steps}
+use Rattle.langtag_scan.proofs.Prelude.{◌≡◌, ◌+◌, length, refl, ap, sym, ◌∙◌, arith, length-append, common_steps}
 use Rattle.langtag_scan.proofs.SpelledTexts.{ends_had, ends_whole}
 use Rattle.langtag.specs.PartPlaces.{put_text}
-use Rattle.langtag.proofs.PartLaws.{part_order, part_set, part_kept}
+use Rattle.langtag.proofs.EditLaws.{part_order, part_set, part_kept}
 use Rattle.langtag.proofs.edit.set_part.Goals as goal
 
 pub replace-requires-clause-order : goal.replace-requires-clause-order

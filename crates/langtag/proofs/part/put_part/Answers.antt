@@ -1,9 +1,7 @@
-use Rattle.std.proofs.Common.{◌++◌, refl, arith}
-use Rattle.std.specs.List.{replace_range}
-use Rattle.std.proofs.lemmas.Grind.{common_steps}
+use Rattle.langtag_scan.proofs.Prelude.{◌++◌, refl, arith, replace_range, common_steps}
 use Rattle.langtag_scan.proofs.SpelledTexts.{normal_from_ends}
 use Rattle.langtag.specs.Text.{normal_lang_tag_text}
-use Rattle.langtag.proofs.PartLaws.{ends_of_tag, part_order, part_within, part_set, part_kept}
+use Rattle.langtag.proofs.EditLaws.{ends_of_tag, part_order, part_within, part_set, part_kept}
 use Rattle.langtag.proofs.part.put_part.Goals as goal
 
 pub returns-clause-order : goal.returns-clause-order

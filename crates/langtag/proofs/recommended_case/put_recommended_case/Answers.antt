@@ -1,7 +1,5 @@
-use Rattle.std.proofs.Common.{arith}
-use Rattle.std.proofs.lemmas.Grind.{common_steps}
+use Rattle.langtag_scan.proofs.Prelude.{arith, common_steps, IsUtf8-from_ascii}
 use Rattle.std.proofs.lemmas.List.{with_items_is}
-use Rattle.std.proofs.lemmas.Str.{IsUtf8-from_ascii}
 use Rattle.langtag_case.proofs.RecommendedLaws.{recommended-ascii}
 use Rattle.langtag.proofs.recommended_case.put_recommended_case.Goals as goal
 

@@ -1,6 +1,4 @@
-use Rattle.std.proofs.Common.{◌≡◌, true, false, take, length, arith, refl, sym, ap, ◌∙◌, rules}
-use Rattle.std.specs.List.{list_any}
-use Rattle.std.proofs.lemmas.List.{get_or-replicate, length-set}
+use Rattle.langtag_scan.proofs.Prelude.{◌≡◌, true, false, take, length, arith, refl, sym, ap, ◌∙◌, rules, list_any, get_or-replicate, length-set}
 use Rattle.langtag_extension.specs.Text.{singleton_byte}
 use Rattle.langtag_place.specs.Repeat.{are_alike_bytes}
 use Rattle.langtag_place.proofs.RepeatLaws.{IsAt-drop, repeat-found, repeat-later}

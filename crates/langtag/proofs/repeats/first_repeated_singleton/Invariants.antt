@@ -1,5 +1,4 @@
-use Rattle.std.proofs.Common.{◌≡◌, ◌+◌, ◌<◌, List, drop, take, length, map}
-use Prim.Native.Nat.{◌^◌}
+use Rattle.langtag_scan.proofs.Prelude.{◌≡◌, ◌+◌, ◌<◌, List, drop, take, length, map, ◌^◌}
 use Rattle.langtag_scan.specs.Record.{Extension}
 use Rattle.langtag_extension.specs.Spelling.{SpellsExtensions, extension_spelling}
 use Rattle.langtag_extension.specs.Text.{extensions_left, extensions_text}

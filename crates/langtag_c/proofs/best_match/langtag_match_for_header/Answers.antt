@@ -1,8 +1,6 @@
-use Rattle.std.proofs.Common.{None, Some, refl, arith}
-use Rattle.std.proofs.lemmas.Bool.Decides.{nat_tests}
+use Rattle.langtag_scan.proofs.Prelude.{None, Some, refl, arith, nat_tests}
 use Rattle.langtag_range.specs.Wanted.{wanted_elements}
-use Rattle.langtag_c.proofs.ChoiceLaws.{is_match_at, no_match_at}
-use Rattle.langtag_c.proofs.ChoiceLaws.{is_best, within_spans}
+use Rattle.langtag_c.proofs.ChoiceLaws.{is_match_at, no_match_at, is_best, within_spans}
 use Rattle.langtag_c.proofs.best_match.langtag_match_for_header.Goals as goal
 
 pub returns-in_default-clause-found : goal.returns-in_default-clause-found

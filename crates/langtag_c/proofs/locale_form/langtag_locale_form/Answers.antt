@@ -1,4 +1,4 @@
-use Rattle.langtag_c.proofs.LikelyForms.{locale_none}
+use Rattle.langtag_c.proofs.WrittenTexts.{locale_none}
 use Rattle.langtag_c.proofs.locale_form.langtag_locale_form.Goals as goal
 
 pub returns-in-Some-clause-none : goal.returns-in-Some-clause-none

@@ -1,5 +1,4 @@
-use Rattle.std.proofs.Common.{arith}
-use Rattle.std.proofs.lemmas.Bool.Decides.{nat_tests}
+use Rattle.langtag_scan.proofs.Prelude.{arith, nat_tests}
 use Rattle.langtag_span.proofs.LookUps.{not_good}
 use Rattle.langtag_c.proofs.look_up.langtag_tag_for_header.Goals as goal
 

@@ -1,4 +1,4 @@
-use Rattle.langtag_c.proofs.ParentLaws.{parent_of_no_tag}
+use Rattle.langtag_c.proofs.WrittenTexts.{parent_of_no_tag}
 use Rattle.langtag_c.proofs.parent.parent_of.Goals as goal
 
 -- src/parent.rt:29:1

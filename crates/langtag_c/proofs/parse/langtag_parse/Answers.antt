@@ -1,5 +1,5 @@
 use Rattle.langtag_scan.proofs.FoundLaws.{found_ends}
-use Rattle.langtag_c.proofs.PartSpanLaws.{spans_parts}
+use Rattle.langtag_c.proofs.KindLaws.{spans_parts}
 use Rattle.langtag_c.proofs.parse.langtag_parse.Goals as goal
 
 pub returns-in-Some-ends-clause-parts : goal.returns-in-Some-ends-clause-parts

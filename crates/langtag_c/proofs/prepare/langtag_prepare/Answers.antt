@@ -1,4 +1,4 @@
-use Rattle.langtag_c.proofs.SiteLaws.{prepared_current}
+use Rattle.langtag_c.proofs.ChoiceLaws.{prepared_current}
 use Rattle.langtag_c.proofs.prepare.langtag_prepare.Goals as goal
 
 pub returns-clause-prepared : goal.returns-clause-prepared

@@ -1,6 +1,6 @@
 use Rattle.std.proofs.Common.{rules}
 use Rattle.langtag_range.specs.Wanted.{wanted_elements}
-use Rattle.langtag_c.proofs.SiteLaws.{site_best, site_current, site_within}
+use Rattle.langtag_c.proofs.ChoiceLaws.{site_best, site_current, site_within}
 use Rattle.langtag_c.proofs.site.langtag_site_best_for_header.Goals as goal
 
 pub returns-clause-best : goal.returns-clause-best

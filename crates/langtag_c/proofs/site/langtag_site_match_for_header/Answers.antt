@@ -1,10 +1,8 @@
-use Rattle.std.proofs.Common.{None, Some, refl, sym, subst, arith}
-use Rattle.std.proofs.lemmas.Bool.Decides.{nat_tests}
+use Rattle.langtag_scan.proofs.Prelude.{None, Some, refl, sym, subst, arith, nat_tests}
 use Rattle.langtag_range.specs.Wanted.{wanted_elements}
 use Rattle.langtag_choice.specs.Best.{IsMatchOf, Pair}
 use Rattle.langtag_c.specs.Site.{spans_of}
-use Rattle.langtag_c.proofs.ChoiceLaws.{is_match_at, no_match_at}
-use Rattle.langtag_c.proofs.SiteLaws.{all_current, site_current, site_within, span_count}
+use Rattle.langtag_c.proofs.ChoiceLaws.{is_match_at, no_match_at, all_current, site_current, site_within, span_count}
 use Rattle.langtag_c.proofs.site.langtag_site_match_for_header.Goals as goal
 
 pub returns-in_default-clause-found : goal.returns-in_default-clause-found

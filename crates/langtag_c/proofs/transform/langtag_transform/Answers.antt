@@ -1,5 +1,4 @@
-use Rattle.std.proofs.Common.{arith}
-use Rattle.std.proofs.lemmas.Bool.Decides.{nat_tests}
+use Rattle.langtag_scan.proofs.Prelude.{arith, nat_tests}
 use Rattle.langtag_span.proofs.FoundExtension.{found-none, found-some, nothing-in, some-in}
 use Rattle.langtag_c.proofs.transform.langtag_transform.Goals as goal
 

@@ -1,9 +1,8 @@
-use Rattle.std.proofs.Common.{◌≡◌, ◌∙◌, ap, refl, bytes_eq, nat_cmp, is_eq}
+use Rattle.langtag_scan.proofs.Prelude.{◌≡◌, ◌∙◌, ap, refl, YieldsList-from_first, is_eq-slice_cmp, bytes_eq-Decides}
+use Rattle.std.proofs.Common.{bytes_eq, nat_cmp, is_eq}
 use Rattle.std.proofs.lemmas.Iterator.{YieldsList-from_slice}
-use Rattle.std.proofs.lemmas.Iterator.Consumers.{YieldsList-from_copied, YieldsList-from_first}
+use Rattle.std.proofs.lemmas.Iterator.Consumers.{YieldsList-from_copied}
 use Rattle.std.proofs.lemmas.Iterator.Search.{cmp_from_yields_List}
-use Rattle.std.proofs.lemmas.Map.Text.{is_eq-slice_cmp}
-use Rattle.std.proofs.lemmas.Slice.Eq.{bytes_eq-Decides}
 use Rattle.langtag_case.specs.RecommendedCase.{recommended_text}
 use Rattle.langtag_case.proofs.recommended_case.is_in_recommended_case.Goals as goal
 

@@ -1,8 +1,7 @@
 use Rattle.std.proofs.Common.{ap, ◌∙◌}
 use Rattle.langtag_scan.specs.Case.{fold_byte}
 use Rattle.langtag_case.specs.RecommendedCase.{recommended_text}
-use Rattle.langtag_case.proofs.RecommendedLaws.{recommended-fold, recommended_alike, alike_recommended, recommended_twice, recommended_each}
-use Rattle.langtag_case.proofs.RecordLaw.{recommended_spelled}
+use Rattle.langtag_case.proofs.RecommendedLaws.{recommended-fold, recommended_alike, alike_recommended, recommended_twice, recommended_each, recommended_spelled}
 use Rattle.langtag_case.proofs.recommended_case.make_recommended_case.Goals as goal
 use Rattle.langtag_scan.proofs.CaseLaw.{fold_text-twice}
 

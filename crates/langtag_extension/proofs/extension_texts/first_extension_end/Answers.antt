@@ -1,7 +1,5 @@
-use Rattle.std.proofs.Common.{◌+◌, arith, drop}
-use Rattle.std.proofs.lemmas.Grind.{common_steps}
-use Rattle.langtag_extension.proofs.WalkLemmas.{list_all-next_subtag, opens-one}
-use Rattle.std.proofs.lemmas.List.Splits.{slice_split_none}
+use Rattle.langtag_scan.proofs.Prelude.{◌+◌, arith, drop, common_steps, slice_split_none}
+use Rattle.langtag_extension.proofs.ExtensionLookUp.{list_all-next_subtag, opens-one}
 use Rattle.langtag_extension.proofs.extension_texts.first_extension_end.Goals as goal
 
 pub loop-end-init : goal.loop-end-init

@@ -1,5 +1,4 @@
-use Rattle.std.proofs.Common.{◌≡◌, ◌≤◌, ◌<◌, ◌-◌, length, drop, take, get_or, IsTrue}
-use Rattle.std.specs.List.{list_all}
+use Rattle.langtag_scan.proofs.Prelude.{◌≡◌, ◌≤◌, ◌<◌, ◌-◌, length, drop, take, get_or, IsTrue, list_all}
 use Rattle.langtag_scan.specs.Subtags.{segments}
 use Rattle.langtag_extension.specs.ExtensionTexts.{goes_on}
 use Rattle.langtag_extension.proofs.extension_texts.first_extension_end.Given as goal

@@ -1,5 +1,4 @@
-use Rattle.langtag_keyword.proofs.Common.{◌≡◌, ◌∷◌, ◌++◌, false, true, option_map, unwrap_or, sym, ap, ◌∙◌, is_some, pushes_both, pushes_next, pushes_same}
-use Rattle.langtag_keyword.proofs.Common.{segments_left, subtags, is_place, without_keyword}
+use Rattle.langtag_keyword.proofs.Common.{◌≡◌, ◌∷◌, ◌++◌, false, true, option_map, unwrap_or, sym, ap, ◌∙◌, is_some, pushes_both, pushes_next, pushes_same, segments_left, subtags, is_place, without_keyword}
 use Rattle.langtag_keyword.proofs.KeywordLaws.{put-here, put-later, put_at_standing, standing-some, standing-text}
 use Rattle.langtag_keyword.proofs.edited_subtags.push_with_keyword.Goals as goal
 

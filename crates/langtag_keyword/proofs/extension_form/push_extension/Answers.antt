@@ -1,5 +1,4 @@
-use Rattle.langtag_keyword.proofs.Common.{◌∷◌, [], true, false, refl, sym, ap, ◌∙◌, arith, pushes_joined, pushes_same, extension_flat, subtags, extension_form}
-use Rattle.langtag_keyword.proofs.Common.{transform_form, unicode_form}
+use Rattle.langtag_keyword.proofs.Common.{◌∷◌, [], true, false, refl, sym, ap, ◌∙◌, arith, pushes_joined, pushes_same, extension_flat, subtags, extension_form, transform_form, unicode_form}
 use Rattle.langtag_keyword.proofs.KeywordLaws.{form_tested}
 use Rattle.langtag_keyword.proofs.extension_form.push_extension.Goals as goal
 

@@ -1,5 +1,4 @@
-use Rattle.langtag_keyword.proofs.Common.{List, false, ap, ◌∙◌, flat_map, extension_text, extensions_left, Extension, extension_flat, extension_form}
-use Rattle.langtag_keyword.proofs.Common.{forms_after}
+use Rattle.langtag_keyword.proofs.Common.{List, false, ap, ◌∙◌, flat_map, extension_text, extensions_left, Extension, extension_flat, extension_form, forms_after}
 use Rattle.langtag_keyword.proofs.ExtensionsPut.{left-next, left-none}
 use Rattle.langtag_keyword.proofs.extension_form.push_extensions.Goals as goal
 

@@ -1,5 +1,4 @@
-use Rattle.langtag_keyword.proofs.Common.{◌∷◌, [], ap, subst, sym, pushes_both, pushes_same, AllByRecursion, IsSubtag, segments_left, subtags, in_alphabet}
-use Rattle.langtag_keyword.proofs.Common.{keywords_form, unicode_form, unicode_value, before_key, is_key}
+use Rattle.langtag_keyword.proofs.Common.{◌∷◌, [], ap, subst, sym, pushes_both, pushes_same, AllByRecursion, IsSubtag, segments_left, subtags, in_alphabet, keywords_form, unicode_form, unicode_value, before_key, is_key}
 use Rattle.langtag_keyword.proofs.SubtagTexts.{fits-before_key}
 use Rattle.langtag_keyword.proofs.extension_form.push_unicode.Goals as goal
 

@@ -1,5 +1,4 @@
-use Rattle.langtag_keyword.proofs.Common.{List, ◌++◌, sym, ◌∙◌, flat_map, extension_text, extensions_left, pushes_both, pushes_same, Extension, extension_flat}
-use Rattle.langtag_keyword.proofs.Common.{at_place, changed_from, with_changed_u}
+use Rattle.langtag_keyword.proofs.Common.{List, ◌++◌, sym, ◌∙◌, flat_map, extension_text, extensions_left, pushes_both, pushes_same, Extension, extension_flat, at_place, changed_from, with_changed_u}
 use Rattle.langtag_keyword.specs.EditText.{edited_by, replaces}
 use Rattle.langtag_keyword.proofs.ExtensionsPut.{extension-pushed, left-next, left-none, left-opens, ArePut}
 use Rattle.langtag_keyword.proofs.KeywordLaws.{u-here, u-later}

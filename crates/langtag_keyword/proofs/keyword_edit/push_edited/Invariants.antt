@@ -1,5 +1,4 @@
-use Rattle.langtag_keyword.proofs.Common.{List, length, flat_map, SpellsExtensions, extensions_left, extensions_text, Extension, extension_flat, changed_from}
-use Rattle.langtag_keyword.proofs.Common.{with_changed_u}
+use Rattle.langtag_keyword.proofs.Common.{List, length, flat_map, SpellsExtensions, extensions_left, extensions_text, Extension, extension_flat, changed_from, with_changed_u}
 use Rattle.langtag_keyword.specs.EditText.{edited_by, replaces}
 use Rattle.langtag_keyword.proofs.ExtensionsPut.{AreLeft, ArePut}
 use Rattle.langtag_keyword.proofs.keyword_edit.push_edited.Given as goal

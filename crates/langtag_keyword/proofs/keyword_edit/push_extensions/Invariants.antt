@@ -1,5 +1,4 @@
-use Rattle.langtag_keyword.proofs.Common.{◌≡◌, List, map, AllByRecursion, flat_map, extension_spelling, extensions_left, Extension, IsWellFormedExtension}
-use Rattle.langtag_keyword.proofs.Common.{extension_flat}
+use Rattle.langtag_keyword.proofs.Common.{◌≡◌, List, map, AllByRecursion, flat_map, extension_spelling, extensions_left, Extension, IsWellFormedExtension, extension_flat}
 use Rattle.langtag_keyword.proofs.ExtensionsPut.{AreLeft, ArePut}
 use Rattle.langtag_keyword.proofs.keyword_edit.push_extensions.Given as goal
 

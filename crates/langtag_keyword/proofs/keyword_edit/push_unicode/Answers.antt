@@ -1,5 +1,4 @@
-use Rattle.langtag_keyword.proofs.Common.{[], ◌∷◌, List, ℕ, Option, option_map, refl, sym, ap, ◌∙◌, flat_map, pushes_next, pushes_same, extension_flat, subtags}
-use Rattle.langtag_keyword.proofs.Common.{edited, extension_of, with_keyword}
+use Rattle.langtag_keyword.proofs.Common.{[], ◌∷◌, List, ℕ, Option, option_map, refl, sym, ap, ◌∙◌, flat_map, pushes_next, pushes_same, extension_flat, subtags, edited, extension_of, with_keyword}
 use Rattle.std.specs.Borrow.{Bor}
 use Rattle.langtag_keyword.proofs.KeywordBlocks.{extension-flat, some-put}
 use Rattle.langtag_keyword.proofs.keyword_edit.push_unicode.Goals as goal

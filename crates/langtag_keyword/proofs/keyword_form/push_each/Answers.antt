@@ -1,5 +1,4 @@
-use Rattle.langtag_keyword.proofs.Common.{ap, arith, flat_map, drop_all, pushes_ended, pushes_same, subtags, keyword_form, canonical_value_of, opens_keyword}
-use Rattle.langtag_keyword.proofs.Common.{key_of}
+use Rattle.langtag_keyword.proofs.Common.{ap, arith, flat_map, drop_all, pushes_ended, pushes_same, subtags, keyword_form, canonical_value_of, opens_keyword, key_of}
 use Rattle.langtag_keyword.proofs.LeastTexts.{put_more}
 use Rattle.langtag_keyword.proofs.keyword_form.push_each.Goals as goal
 

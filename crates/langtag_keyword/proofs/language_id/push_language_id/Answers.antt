@@ -1,5 +1,4 @@
-use Rattle.langtag_keyword.proofs.Common.{◌∷◌, ◌++◌, [], map, sym, ap, ◌∙◌, pushes_both, pushes_same, fold_text, is_region, is_script, segments, segments_left}
-use Rattle.langtag_keyword.proofs.Common.{after_one, in_alphabet, language_form, one_of}
+use Rattle.langtag_keyword.proofs.Common.{◌∷◌, ◌++◌, [], map, sym, ap, ◌∙◌, pushes_both, pushes_same, fold_text, is_region, is_script, segments, segments_left, after_one, in_alphabet, language_form, one_of}
 use Rattle.langtag_keyword.proofs.language_id.push_language_id.Goals as goal
 
 pub returns : goal.returns

@@ -1,5 +1,4 @@
-use Rattle.langtag_keyword.proofs.Common.{[], ◌<◌, ◌+◌, ◌++◌, take, not, ◌==◌, sym, ap, subst, ◌∙◌, arith, append-nil, length, filter, take_all, HasText}
-use Rattle.langtag_keyword.proofs.Common.{with_subtag, number_text}
+use Rattle.langtag_keyword.proofs.Common.{[], ◌<◌, ◌+◌, ◌++◌, take, not, ◌==◌, sym, ap, subst, ◌∙◌, arith, append-nil, length, filter, take_all, HasText, with_subtag, number_text}
 use Rattle.langtag_keyword.proofs.LeastTexts.{after-hyphen, digit_put, zero_passed}
 use Rattle.langtag_keyword.proofs.least_numbers.push_number.Goals.{then-byte-gt0, else-byte-gt0}
 use Rattle.langtag_keyword.proofs.least_numbers.push_number.Goals as goal

@@ -1,5 +1,4 @@
-use Rattle.langtag_keyword.proofs.Common.{sym, ap, subst, ◌∙◌, pushes_ended, pushes_same, AllByRecursion, IsSubtag, is_field_key, segments_left, subtags}
-use Rattle.langtag_keyword.proofs.Common.{language_form}
+use Rattle.langtag_keyword.proofs.Common.{sym, ap, subst, ◌∙◌, pushes_ended, pushes_same, AllByRecursion, IsSubtag, is_field_key, segments_left, subtags, language_form}
 use Rattle.langtag_keyword.proofs.SubtagTexts.{fits-before_key}
 use Rattle.langtag_keyword.proofs.transform_form.push_language.Goals as goal
 

@@ -1,5 +1,4 @@
-use Rattle.langtag_keyword.proofs.Common.{◌∷◌, [], pushes_both, subtags, keywords_form, language_form, transform_form, transform_value, before_key}
-use Rattle.langtag_keyword.proofs.Common.{is_field_key}
+use Rattle.langtag_keyword.proofs.Common.{◌∷◌, [], pushes_both, subtags, keywords_form, language_form, transform_form, transform_value, before_key, is_field_key}
 use Rattle.langtag_keyword.proofs.transform_form.push_transform.Goals as goal
 
 pub returns : goal.returns

@@ -1,5 +1,4 @@
-use Rattle.langtag_keyword.proofs.Common.{◌∷◌, [], true, false, refl, sym, ap, ◌∙◌, arith, pushes_joined, pushes_same, extension_flat, subtags, is_of}
-use Rattle.langtag_keyword.proofs.Common.{is_transform, unicode_form}
+use Rattle.langtag_keyword.proofs.Common.{◌∷◌, [], true, false, refl, sym, ap, ◌∙◌, arith, pushes_joined, pushes_same, extension_flat, subtags, is_of, is_transform, unicode_form}
 use Rattle.langtag_locale.specs.LocaleForm.{locale_extension_form, locale_transform_form}
 use Rattle.langtag_locale.proofs.LocaleRecords.{locale_form_tested, transform_allowed}
 use Rattle.langtag_locale.proofs.locale_extensions.push_extension.Goals as goal

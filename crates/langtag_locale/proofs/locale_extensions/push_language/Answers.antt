@@ -1,5 +1,4 @@
-use Rattle.langtag_keyword.proofs.Common.{false, sym, ap, ◌∙◌, pushes_ended, pushes_same, segments_left, subtags, are_fields, is_language_or_none, before_key}
-use Rattle.langtag_keyword.proofs.Common.{is_field_key, both}
+use Rattle.langtag_keyword.proofs.Common.{false, sym, ap, ◌∙◌, pushes_ended, pushes_same, segments_left, subtags, are_fields, is_language_or_none, before_key, is_field_key, both}
 use Rattle.langtag_locale.specs.LocaleForm.{transform_language_form}
 use Rattle.langtag_keyword.proofs.KeywordLaws.{language-some}
 use Rattle.langtag_locale.proofs.locale_extensions.push_language.Goals as goal

@@ -1,7 +1,6 @@
-use Rattle.langtag_keyword.proofs.Common.{ℕ, List, ◌+◌, ◌++◌, false, drop, get_or, sym, ap, ◌∙◌, eqb-true, at_drop_more, flat_map, pushes_both, pushes_ended}
-use Rattle.langtag_keyword.proofs.Common.{pushes_same, fold_byte, extension_flat}
+use Rattle.langtag_keyword.proofs.Common.{ℕ, List, ◌+◌, ◌++◌, false, drop, get_or, sym, ap, ◌∙◌, eqb-true, at_drop_more, flat_map, pushes_both, pushes_ended, pushes_same, fold_byte, extension_flat}
 use Rattle.std.proofs.lemmas.List.{at_drop_all, nil_from_length}
-use Rattle.langtag_registry.specs.Canonical.{singletons}
+use Rattle.langtag_extension.specs.Noted.{singletons}
 use Rattle.langtag_locale.specs.LocaleForm.{extension_at, extensions_in_order}
 use Rattle.langtag_locale.proofs.LocaleRecords.{at_nothing, each_singleton, flat_of_each, none_spelled, not_noted}
 use Rattle.langtag_locale.proofs.locale_extensions.push_locale_extensions.Goals as goal

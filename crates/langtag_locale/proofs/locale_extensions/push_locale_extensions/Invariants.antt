@@ -1,6 +1,6 @@
 use Rattle.langtag_keyword.proofs.Common.{List, drop, flat_map, SpellsExtensions, extensions_text, Output, Pushes}
 use Rattle.langtag_scan.specs.Record as model
-use Rattle.langtag_registry.specs.Canonical.{singletons}
+use Rattle.langtag_extension.specs.Noted.{singletons}
 use Rattle.langtag_locale.specs.LocaleForm.{extension_at}
 use Rattle.langtag_locale.proofs.locale_extensions.push_locale_extensions.Given as goal
 

@@ -1,6 +1,6 @@
 use Rattle.langtag_keyword.proofs.Common.{◌≡◌, inl, sym, ap, ◌∙◌, arith, common_steps, is_extended}
 use Rattle.langtag_language.specs.Text.{extended_lang_tag_text}
-use Rattle.langtag_registry.proofs.FaultLaws.{language_spelled}
+use Rattle.langtag.proofs.PartRules.{language_spelled}
 use Rattle.langtag_scan.specs.Tag.{IsNormal, IsTag}
 use Rattle.langtag_locale.specs.LocaleForm.{extlang_replaced}
 use Rattle.langtag_locale.proofs.WholeLaws.{rest_boundary, rest_spelled}

@@ -1,5 +1,4 @@
-use Rattle.langtag_keyword.proofs.Common.{map, rules, sym, ap, subst, ◌∙◌, AllByRecursion, IsSubtag, of_variant, one_flat, segments_left, IsOffered}
-use Rattle.langtag_keyword.proofs.Common.{order_number}
+use Rattle.langtag_keyword.proofs.Common.{map, rules, sym, ap, subst, ◌∙◌, AllByRecursion, IsSubtag, of_variant, one_flat, segments_left, IsOffered, order_number}
 use Rattle.langtag.specs.Fields.{subtag_of}
 use Rattle.langtag_locale.specs.LocaleForm.{variant_form}
 use Rattle.langtag_locale.proofs.KeptVariants.{kept_number}

@@ -1,7 +1,7 @@
 use Rattle.std.proofs.Common.{arith}
 use Rattle.std.proofs.lemmas.Str.{IsCharBoundary-from_ascii}
 use Rattle.std.proofs.lemmas.Grind.{common_steps}
-use Rattle.langtag_range.proofs.AsciiRanges.{IsAscii-language_range}
+use Rattle.langtag_range.proofs.BasicForms.{IsAscii-language_range}
 use Rattle.langtag_match.proofs.fallbacks.shortened.Goals as goal
 
 pub range-requires-clause-end_boundary : goal.range-requires-clause-end_boundary

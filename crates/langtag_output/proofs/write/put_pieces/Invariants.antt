@@ -1,5 +1,4 @@
-use Rattle.std.proofs.Common.{take}
-use Rattle.std.specs.List.{flat_map}
+use Rattle.langtag_scan.proofs.Prelude.{take, flat_map}
 use Rattle.langtag_output.specs.Output.{HasText}
 use Rattle.langtag_output.proofs.write.put_pieces.Given as goal
 

@@ -1,8 +1,5 @@
-use Rattle.std.proofs.Common.{arith}
-use Rattle.std.proofs.lemmas.List.{length-drop, take_more_set}
-use Rattle.std.proofs.lemmas.Grind.{common_steps}
-use Rattle.langtag_place.proofs.RepeatLaws.{IsAt-drop}
-use Rattle.langtag_place.proofs.VariantBlockLaws.{numbers-more}
+use Rattle.langtag_scan.proofs.Prelude.{arith, length-drop, take_more_set, common_steps}
+use Rattle.langtag_place.proofs.RepeatLaws.{IsAt-drop, numbers-more}
 use Rattle.langtag_place.proofs.variant_blocks.fill.Goals.{in-Some, in_default}
 use Rattle.langtag_place.proofs.variant_blocks.fill.Goals as goal
 

@@ -1,12 +1,8 @@
-use Rattle.std.proofs.Common.{false, ◌&&◌, ◌==◌, [], ◌∷◌, ◌++◌, length, take, map, arith, sym, ap, subst, ◌∙◌, rules}
-use Rattle.std.specs.List.{list_any}
-use Rattle.std.proofs.lemmas.List.{get_or-replicate, length-replicate}
-use Rattle.langtag_scan.specs.Subtags.{subtags}
+use Rattle.langtag_scan.proofs.Prelude.{false, ◌&&◌, ◌==◌, [], ◌∷◌, ◌++◌, length, take, map, arith, sym, ap, subst, ◌∙◌, rules, list_any, get_or-replicate, length-replicate}
+use Rattle.langtag_scan.proofs.Grammar.{subtags, folded_number}
 use Rattle.langtag_place.specs.Text.{variant_text, variants_text}
-use Rattle.langtag_scan.specs.Case.{folded_number}
 use Rattle.langtag_place.specs.VariantBlocks.{AreMet}
-use Rattle.langtag_place.proofs.VariantBlockLaws.{numbers-more, new-here, met-again, repeat-at, HasNoRepeatBefore-more}
-use Rattle.langtag_place.proofs.RepeatLaws.{IsAt-drop}
+use Rattle.langtag_place.proofs.RepeatLaws.{numbers-more, new-here, met-again, repeat-at, HasNoRepeatBefore-more, IsAt-drop}
 use Rattle.langtag_place.proofs.variant_blocks.first_met_again.Goals as goal
 
 pub loop-index-init : goal.loop-index-init

@@ -1,9 +1,8 @@
-use Rattle.std.proofs.Common.{arith, sym}
-use Rattle.std.proofs.lemmas.Iterator.Consumers.{YieldsList-from_first, count_from_yields_List}
-use Rattle.std.proofs.lemmas.List.Sorted.{IsNonDecreasingBy-from_sort}
+use Rattle.langtag_scan.proofs.Prelude.{arith, sym, YieldsList-from_first, IsNonDecreasingBy-from_sort}
+use Rattle.std.proofs.lemmas.Iterator.Consumers.{count_from_yields_List}
 use Rattle.langtag_scan.specs.Subtags.{subtags}
 use Rattle.langtag_place.specs.Text.{variant_text, variants_text, variants_left}
-use Rattle.langtag_place.proofs.VariantBlockLaws.{repeat-past}
+use Rattle.langtag_place.proofs.RepeatLaws.{repeat-past}
 use Rattle.langtag_place.proofs.variant_blocks.first_repeated_of_many.Goals as goal
 
 pub first_met_again-repeated-requires-clause-rises : goal.first_met_again-repeated-requires-clause-rises

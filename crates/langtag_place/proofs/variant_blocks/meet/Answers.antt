@@ -1,6 +1,5 @@
-use Rattle.std.proofs.Common.{arith, refl}
-use Rattle.std.proofs.lemmas.Grind.{common_steps}
-use Rattle.langtag_place.proofs.VariantBlockLaws.{IsAbsent-place, AreMet-absent, AreMet-present, again-absent}
+use Rattle.langtag_scan.proofs.Prelude.{arith, refl, common_steps}
+use Rattle.langtag_place.proofs.RepeatLaws.{IsAbsent-place, AreMet-absent, AreMet-present, again-absent}
 use Rattle.langtag_place.proofs.variant_blocks.meet.Goals.{then-place-block-via-then-place-block, then-place-block-via-else-place-block+then-block-place}
 use Rattle.langtag_place.proofs.variant_blocks.meet.Goals as goal
 

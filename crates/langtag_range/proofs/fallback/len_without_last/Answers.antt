@@ -1,6 +1,5 @@
-use Rattle.std.proofs.Common.{arith}
-use Rattle.std.proofs.lemmas.Grind.{common_steps}
-use Rattle.langtag_range.proofs.Hyphens.{before_hyphens-whole, before_hyphens-cut, is_language_range-cut}
+use Rattle.langtag_scan.proofs.Prelude.{arith, common_steps}
+use Rattle.langtag_range.proofs.Among.{before_hyphens-whole, before_hyphens-cut, is_language_range-cut}
 use Rattle.langtag_range.proofs.fallback.len_without_last.Goals as goal
 
 pub returns-then-start-eq0-clause-cut : goal.returns-then-start-eq0-clause-cut

@@ -1,6 +1,4 @@
-use Rattle.std.proofs.Common.{rules, tests}
-use Rattle.std.proofs.lemmas.Iterator.Search.{all_from_yields_List}
-use Rattle.std.proofs.lemmas.Iterator.Splits.{YieldsList-from_slice_split}
+use Rattle.langtag_scan.proofs.Prelude.{rules, tests, all_from_yields_List, YieldsList-from_slice_split}
 use Rattle.langtag_range.specs.Range.{is_range_subtag}
 use Rattle.langtag_range.specs.Wanted.{is_separator}
 use Rattle.langtag_range.proofs.listed.are_listed_subtags.Goals as goal

@@ -1,6 +1,4 @@
-use Rattle.std.proofs.Common.{eqb-true, arith}
-use Rattle.std.proofs.lemmas.List.{nil_from_length}
-use Rattle.std.proofs.lemmas.Grind.{common_steps}
+use Rattle.langtag_scan.proofs.Prelude.{eqb-true, arith, nil_from_length, common_steps}
 use Rattle.langtag_range.proofs.WantedTexts.{nothing_wanted}
 use Rattle.langtag_range.proofs.wanted.split_wanted.Goals as goal
 

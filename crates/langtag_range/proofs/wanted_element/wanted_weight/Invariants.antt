@@ -1,5 +1,4 @@
-use Rattle.std.proofs.Common.{◌≡◌, length}
-use Rattle.std.specs.List.{slice_split}
+use Rattle.langtag_scan.proofs.Prelude.{◌≡◌, length, slice_split}
 use Rattle.langtag_range.specs.Element.{is_semicolon, items}
 use Rattle.langtag_range.specs.Wanted.{digits_behind, wanted_weight}
 use Rattle.langtag_range.proofs.wanted_element.wanted_weight.Given as goal

@@ -1,5 +1,4 @@
-use Rattle.std.proofs.Common.{◌≡◌, ◌++◌, [], append-nil, drop, length, ap, ◌∙◌, arith}
-use Rattle.std.proofs.lemmas.List.{drop_all, take_at}
+use Rattle.langtag_scan.proofs.Prelude.{◌≡◌, ◌++◌, [], append-nil, drop, length, ap, ◌∙◌, arith, drop_all, take_at}
 use Rattle.langtag_registry.proofs.canonical_form.counted_bytes.Goals as goal
 
 -- the second call has just the room for the form

@@ -1,9 +1,7 @@
 use Rattle.std.proofs.Common.{◌∷◌, sym, ap, ◌∙◌}
 use Rattle.langtag_language.specs.Text.{primary_language_text, extended_lang_tag_text}
-use Rattle.langtag_registry.specs.Fields.{preferred_language}
-use Rattle.langtag_registry.proofs.CanonicalLanguages.{other_stays}
-use Rattle.langtag_registry.proofs.PreferredValues.{stays_without}
-use Rattle.langtag_registry.proofs.ReplacedSubtags.{language_settled}
+use Rattle.langtag_fields.specs.Fields.{preferred_language}
+use Rattle.langtag_registry.proofs.ReplacedSubtags.{other_stays, stays_without, language_settled}
 use Rattle.langtag_registry.proofs.canonical_language.is_canonical_language.Goals as goal
 
 pub returns : goal.returns

@@ -1,5 +1,4 @@
-use Rattle.std.proofs.Common.{arith}
-use Rattle.std.proofs.lemmas.Grind.{common_steps}
+use Rattle.langtag_scan.proofs.Prelude.{arith, common_steps}
 use Rattle.langtag_scan.proofs.CaseLaw.{fold_text-twice}
 use Rattle.langtag_tables.proofs.Letters.{extended_primary}
 use Rattle.langtag_output.proofs.Pushed.{pushes_same}

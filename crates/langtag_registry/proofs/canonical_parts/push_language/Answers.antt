@@ -2,9 +2,8 @@ use Rattle.std.proofs.Common.{◌≡◌, ◌∷◌, [], unwrap_or, refl, sym, ap
 use Rattle.langtag_language.specs.Text.{language_text, primary_language_text, extended_lang_tag_text}
 use Rattle.langtag_scan.specs.Case.{fold_text}
 use Rattle.langtag_registry.specs.Canonical.{canonical_language}
-use Rattle.langtag_registry.specs.Fields.{preferred_language}
-use Rattle.langtag_registry.proofs.CanonicalLanguages.{several_pushed, extlang_pushed, other_pushed}
-use Rattle.langtag_registry.proofs.CanonicalVariants.{view_of}
+use Rattle.langtag_fields.specs.Fields.{preferred_language}
+use Rattle.langtag_registry.proofs.ReplacedSubtags.{several_pushed, extlang_pushed, other_pushed, view_of}
 use Rattle.langtag_output.proofs.Pushed.{pushes_same}
 use Rattle.langtag_registry.proofs.canonical_parts.push_language.Goals as goal
 

@@ -1,8 +1,8 @@
 use Rattle.std.proofs.Common.{sym, ap}
 use Rattle.langtag_scan.specs.Record.{one_flat}
 use Rattle.langtag_registry.specs.Canonical.{canonical_record, canonical_region, canonical_variants}
-use Rattle.langtag_registry.proofs.FaultLaws.{language_spelled}
-use Rattle.langtag.proofs.PartsFound.{variants_listed}
+use Rattle.langtag.proofs.PartRules.{language_spelled}
+use Rattle.langtag.proofs.PartRules.{variants_listed}
 use Rattle.langtag_output.proofs.Pushed.{pushes_same, record_pushed}
 use Rattle.langtag_registry.proofs.canonical_parts.push_parts.Goals as goal
 

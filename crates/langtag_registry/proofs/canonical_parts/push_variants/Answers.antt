@@ -1,9 +1,8 @@
-use Rattle.std.proofs.Common.{sym, ap, unwrap_or, arith, ◌≡◌}
-use Rattle.std.proofs.lemmas.Grind.{common_steps}
+use Rattle.langtag_scan.proofs.Prelude.{sym, ap, unwrap_or, arith, ◌≡◌, common_steps}
 use Rattle.langtag_place.specs.Text.{variant_text, variants_left}
 use Rattle.langtag_registry.specs.Canonical.{canonical_variants}
-use Rattle.langtag_registry.specs.Fields.{preferred_variant}
-use Rattle.langtag_registry.proofs.CanonicalVariants.{view_of}
+use Rattle.langtag_fields.specs.Fields.{preferred_variant}
+use Rattle.langtag_registry.proofs.ReplacedSubtags.{view_of}
 use Rattle.langtag_output.proofs.Pushed.{pushes_same, pushes_next, pushes_ended}
 use Rattle.langtag_registry.proofs.canonical_parts.push_variants.Goals as goal
 

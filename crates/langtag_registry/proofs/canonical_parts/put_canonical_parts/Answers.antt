@@ -2,7 +2,7 @@ use Rattle.std.proofs.Common.{[], ◌∙◌, subst, rules}
 use Rattle.langtag_output.specs.Output.{HasText}
 use Rattle.langtag_output.proofs.Pushed.{record_joined}
 use Rattle.langtag_registry.specs.Canonical.{canonical_record}
-use Rattle.langtag_registry.proofs.WellFormedForms.{canonical_record_well_formed}
+use Rattle.langtag_registry.proofs.TwiceLaws.{canonical_record_well_formed}
 use Rattle.langtag_registry.proofs.canonical_parts.put_canonical_parts.Goals as goal
 
 pub returns : goal.returns

@@ -1,8 +1,7 @@
-use Rattle.std.proofs.Common.{◌≡◌}
-use Rattle.std.specs.List.{list_all}
+use Rattle.langtag_scan.proofs.Prelude.{◌≡◌, list_all}
 use Rattle.langtag_scan.specs.Subtags.{subtags}
 use Rattle.langtag_place.specs.Text.{variants_text, variants_left}
-use Rattle.langtag_registry.proofs.CanonicalVariants.{has_none}
+use Rattle.langtag_registry.proofs.ReplacedSubtags.{has_none}
 use Rattle.langtag_registry.proofs.canonical_variants.are_canonical_variants.Given as goal
 
 -- those before the rest have no Preferred-Value

@@ -1,11 +1,9 @@
-use Rattle.std.proofs.Common.{◌≡◌, Some, List, ℕ, refl, sym, ◌∙◌}
-use Rattle.std.proofs.lemmas.Bool.{both_ways}
-use Rattle.langtag_scan.specs.Record.{Spells}
-use Rattle.langtag_scan.specs.Tag.{IsNormal}
+use Rattle.langtag_scan.proofs.Prelude.{◌≡◌, Some, List, ℕ, refl, sym, ◌∙◌, both_ways}
+use Rattle.langtag_scan.proofs.Grammar.{Spells, IsNormal}
 use Rattle.langtag.specs.Registered.{IsGrandfathered}
 use Rattle.langtag.specs.Text.{lang_tag_text, normal_lang_tag_text}
 use Rattle.langtag_registry.specs.Canonical.{IsCanonicalForm, canonical_text}
-use Rattle.langtag_registry.specs.Fields.{preferred_tag}
+use Rattle.langtag_fields.specs.Fields.{preferred_tag}
 use Rattle.langtag_registry.proofs.CanonicalParts.{own_record, preferred_goes, record_form}
 use Rattle.langtag_registry.proofs.form.form_of.Goals as goal
 

@@ -1,7 +1,7 @@
 use Rattle.std.proofs.Common.{◌≡◌, ◌↔◌, true, option_map, sym, subst}
 use Rattle.langtag_place.specs.Text.{region_text}
 use Rattle.langtag_registry.specs.Canonical.{canonical_region}
-use Rattle.langtag_registry.proofs.PreferredValues.{region_stays}
+use Rattle.langtag_registry.proofs.ReplacedSubtags.{region_stays}
 use Rattle.langtag_registry.proofs.form.is_canonical_region.Goals as goal
 
 pub returns-in-Some : goal.returns-in-Some

@@ -1,15 +1,13 @@
-use Rattle.std.proofs.Common.{length, ap, sym, true, false, ◌∙◌, ◌<◌, get_or, arith, []}
-use Rattle.std.proofs.lemmas.Bool.{eq-eqb, ne_eqb}
-use Rattle.std.proofs.lemmas.Grind.{common_steps}
+use Rattle.langtag_scan.proofs.Prelude.{length, ap, sym, true, false, ◌∙◌, ◌<◌, get_or, arith, [], eq-eqb, ne_eqb, common_steps}
 use Rattle.langtag_scan.proofs.SubtagFacts.{of_variant}
 use Rattle.langtag_place.specs.Text.{variant_text}
 use Rattle.langtag_range.specs.Extended.{test_extended}
 use Rattle.langtag_scan.specs.Case.{folded_number}
-use Rattle.langtag_registry.specs.Subtags.{variant_prefixes}
-use Rattle.langtag_registry.proofs.PrefixLaws.{length-same, same_at, number_tells, left_first, left_matched, left_unmatched, left_other, left_ended}
+use Rattle.langtag_fields.specs.Subtags.{variant_prefixes}
+use Rattle.langtag_registry.proofs.MisplacedLaws.{length-same, same_at, number_tells, left_first, left_matched, left_unmatched, left_other, left_ended}
 use Rattle.langtag_tables.proofs.Elements.{list_all_get}
-use Rattle.langtag_registry.proofs.PrefixTables.{prefixed_alphanumeric}
-use Rattle.langtag_registry.proofs.Values.{no_entry}
+use Rattle.langtag_fields.proofs.FieldTables.{prefixed_alphanumeric}
+use Rattle.langtag_fields.proofs.Values.{no_entry}
 use Rattle.langtag_registry.proofs.misplaced.fits_after.Goals.{then-number-key+else-matches_prefix, else-number-key}
 use Rattle.langtag_registry.proofs.misplaced.fits_after.Goals as goal
 

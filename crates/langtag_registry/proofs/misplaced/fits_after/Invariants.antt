@@ -1,5 +1,5 @@
 use Rattle.langtag_place.specs.Text.{variant_text}
-use Rattle.langtag_registry.proofs.PrefixLaws.{IsLeft}
+use Rattle.langtag_registry.proofs.MisplacedLaws.{IsLeft}
 use Rattle.langtag_registry.proofs.misplaced.fits_after.Given as goal
 
 -- no prefix before this index matches, and there is none for the variant where that is remembered

@@ -1,10 +1,8 @@
-use Rattle.std.proofs.Common.{ap, sym, ◌∙◌, arith}
-use Rattle.std.proofs.lemmas.Str.{IsCharBoundary-from_ascii}
-use Rattle.std.proofs.lemmas.Grind.{common_steps}
+use Rattle.langtag_scan.proofs.Prelude.{ap, sym, ◌∙◌, arith, IsCharBoundary-from_ascii, common_steps}
 use Rattle.langtag_scan.proofs.Ascii.{IsAscii-normal}
 use Rattle.langtag_place.specs.Text.{variant_text}
 use Rattle.langtag_registry.specs.Prefix.{fits_after}
-use Rattle.langtag.proofs.PartsFound.{variants_listed}
+use Rattle.langtag.proofs.PartRules.{variants_listed}
 use Rattle.langtag_registry.proofs.MisplacedLaws.{walk_first, end_within, walk_stopped, walk_later, walk_ended, some_record, take_spelled}
 use Rattle.langtag_registry.proofs.misplaced.misplaced_variant.Goals as goal
 

@@ -1,5 +1,4 @@
-use Rattle.std.proofs.Common.{◌≡◌, sym, ◌∙◌}
-use Rattle.std.proofs.lemmas.List.{length_push}
+use Rattle.langtag_scan.proofs.Prelude.{◌≡◌, sym, ◌∙◌, length_push}
 use Rattle.std.proofs.lemmas.Slice.Zip.{zip_turn, zip_end}
 use Rattle.langtag_scan.specs.Case.{case_cmp}
 use Rattle.langtag_scan.proofs.CaseOrder.{case_cmp-tied, case_cmp-decided, case_cmp-ended, case_cmp-ends_first}

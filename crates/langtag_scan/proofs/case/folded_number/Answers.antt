@@ -1,6 +1,5 @@
-use Rattle.std.proofs.Common.{◌+◌, ◌*◌, arith, refl}
+use Rattle.langtag_scan.proofs.Prelude.{◌+◌, ◌*◌, arith, refl, common_steps}
 use Rattle.std.proofs.lemmas.List.Sums.{fold_more}
-use Rattle.std.proofs.lemmas.Grind.{common_steps}
 use Rattle.langtag_scan.specs.Case.{folded_number}
 use Rattle.langtag_scan.proofs.FoldedNumbers.{digit_fits, fits_64, folded_number-tells}
 use Rattle.langtag_scan.proofs.case.folded_number.Goals as goal

@@ -1,5 +1,4 @@
-use Rattle.std.proofs.Common.{◌≡◌, ◌<◌, take}
-use Prim.Native.Nat.{◌^◌}
+use Rattle.langtag_scan.proofs.Prelude.{◌≡◌, ◌<◌, take, ◌^◌}
 use Rattle.langtag_scan.specs.Case.{folded_number}
 use Rattle.langtag_scan.proofs.case.folded_number.Given as goal
 

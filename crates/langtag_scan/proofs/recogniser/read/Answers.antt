@@ -1,13 +1,9 @@
 use Rattle.std.proofs.Common.{arith, refl, ◌≡◌, ◌+◌, ◌<◌, [], ◌∷◌, ◌++◌, length, take, get_or, set, sym, ap, subst, ◌∙◌, replicate}
 use Rattle.langtag_scan.specs.declared.finding.Finding.TheVariants as finding
-use Rattle.langtag_scan.proofs.PositionLaws.{tracks_nothing, Tracks}
-use Rattle.langtag_scan.proofs.RecogniserLaws.{viable_nothing, alive_viable, next_prefix, tracks_first, tracks_next, dead_next, text_ended, whole_stop}
+use Rattle.langtag_scan.proofs.PositionLaws.{tracks_nothing, Tracks, viable_nothing, alive_viable, next_prefix, tracks_first, tracks_next, dead_next, text_ended, whole_stop}
 use Rattle.langtag_scan.proofs.TagLaws.{viable_whole}
 use Rattle.langtag_scan.proofs.StateTables.{stands_nothing, stands_ending}
-use Rattle.langtag_scan.specs.Machine.{ends_at}
-use Rattle.langtag_scan.specs.Found.{IsFoundOf}
-use Rattle.langtag_scan.specs.Position.{position_of, is_dead}
-use Rattle.langtag_scan.specs.Tracking.{Stands}
+use Rattle.langtag_scan.proofs.Grammar.{ends_at, IsFoundOf, position_of, is_dead, Stands}
 use Rattle.langtag_scan.specs.declared.state.Ending.TheVariants.{NoTag, Normal, PrivateUse, Irregular}
 use Rattle.langtag_scan.proofs.recogniser.read.Goals as goal
 

@@ -1,7 +1,5 @@
 use Rattle.std.proofs.Common.{◌≡◌, ◌+◌, ◌-◌, ◌≤◌, take, max}
-use Rattle.langtag_scan.specs.Position.{position_of}
-use Rattle.langtag_scan.specs.Tracking.{Stands}
-use Rattle.langtag_scan.specs.Viable.{IsViable}
+use Rattle.langtag_scan.proofs.Grammar.{position_of, Stands, IsViable}
 use Rattle.langtag_scan.proofs.PositionLaws.{Tracks}
 use Rattle.langtag_scan.proofs.recogniser.read.Given as goal
 

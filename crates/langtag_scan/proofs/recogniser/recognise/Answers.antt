@@ -1,8 +1,6 @@
-use Rattle.std.proofs.Common.{arith}
-use Rattle.std.proofs.lemmas.Grind.{common_steps}
-use Rattle.langtag_scan.proofs.FillLaw.{viable_fill}
-use Rattle.langtag_scan.proofs.IrregularTexts.{irregular_once}
-use Rattle.langtag_scan.proofs.OneKind.{normal_no_private, normal_no_irregular, private_no_irregular}
+use Rattle.langtag_scan.proofs.Prelude.{arith, common_steps}
+use Rattle.langtag_scan.proofs.ReadingLaws.{viable_fill}
+use Rattle.langtag_scan.proofs.IrregularTexts.{irregular_once, normal_no_private, normal_no_irregular, private_no_irregular}
 use Rattle.langtag_scan.proofs.recogniser.recognise.Goals as goal
 
 pub returns : goal.returns

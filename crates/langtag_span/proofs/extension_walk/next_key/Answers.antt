@@ -1,5 +1,4 @@
-use Rattle.langtag_keyword.proofs.Common.{◌≡◌, ◌≤◌, true, false, not, ◌&&◌, [], ◌∷◌, ◌++◌, take, refl, ap, sym, subst, ◌∙◌, arith, length-drop, nat_tests}
-use Rattle.langtag_keyword.proofs.Common.{HasKeys, opens_keyword, is_new_key, keywords_after}
+use Rattle.langtag_keyword.proofs.Common.{◌≡◌, ◌≤◌, true, false, not, ◌&&◌, [], ◌∷◌, ◌++◌, take, refl, ap, sym, subst, ◌∙◌, arith, length-drop, nat_tests, HasKeys, opens_keyword, is_new_key, keywords_after}
 use Rattle.std.proofs.Math.Bool.{and-false}
 use Rattle.langtag_keyword.specs.KeySets.{has_key}
 use Rattle.langtag_keyword.proofs.KeySetLaws.{is_new-met, met-more, met-none}

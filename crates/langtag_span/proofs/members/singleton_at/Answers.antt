@@ -1,5 +1,4 @@
-use Rattle.langtag_keyword.proofs.Common.{◌+◌, ◌<◌, ◌^◌, arith, length, map, take, slice_get, sym, ap, ◌∙◌, rules, sum_by, YieldsList-at, slice_get-map}
-use Rattle.langtag_keyword.proofs.Common.{ends_of, hyphenated, offsets_kept, extension_spelling, extension_text, extensions_left, option_map}
+use Rattle.langtag_keyword.proofs.Common.{◌+◌, ◌<◌, ◌^◌, arith, length, map, take, slice_get, sym, ap, ◌∙◌, rules, sum_by, YieldsList-at, slice_get-map, ends_of, hyphenated, offsets_kept, extension_spelling, extension_text, extensions_left, option_map}
 use Rattle.std.proofs.lemmas.Iterator.Adapters.{option_map_id, serves_from_total}
 use Rattle.std.proofs.lemmas.Iterator.Consumers.{YieldsList-from_first, YieldsList-from_scan, nth_from_yields_List}
 use Rattle.std.proofs.lemmas.List.{take-map}

@@ -1,5 +1,4 @@
-use Rattle.langtag_keyword.proofs.Common.{common_steps, ◌∷◌, ◌++◌, [], length, take, sym, ap, ◌∙◌, arith, length-take, pushes_joined, pushes_same, of_primary}
-use Rattle.langtag_keyword.proofs.Common.{one_flat, join, to_variants}
+use Rattle.langtag_keyword.proofs.Common.{common_steps, ◌∷◌, ◌++◌, [], length, take, sym, ap, ◌∙◌, arith, length-take, pushes_joined, pushes_same, of_primary, one_flat, join, to_variants}
 use Rattle.langtag_scan.specs.Tag.{IsNormal}
 use Rattle.langtag_keyword.proofs.KeywordLaws.{head-cut, head_inside}
 use Rattle.langtag_unicode.proofs.form.push_head.Goals as goal

@@ -1,5 +1,4 @@
-use Rattle.langtag_keyword.proofs.Common.{◌++◌, [], false, sym, subst, ◌∙◌, rules, flat_map, HasText, pushes_both, extension_flat, private_part_flat}
-use Rattle.langtag_keyword.proofs.Common.{forms_after, to_variants}
+use Rattle.langtag_keyword.proofs.Common.{◌++◌, [], false, sym, subst, ◌∙◌, rules, flat_map, HasText, pushes_both, extension_flat, private_part_flat, forms_after, to_variants}
 use Rattle.langtag_keyword.proofs.KeywordLaws.{form_joined}
 use Rattle.langtag_unicode.proofs.form.put_parts.Goals as goal
 

@@ -1,5 +1,4 @@
-use Rattle.langtag_keyword.proofs.Common.{◌++◌, [], sym, subst, ◌∙◌, rules, flat_map, HasText, pushes_both, extension_flat, private_part_flat, with_changed_u}
-use Rattle.langtag_keyword.proofs.Common.{to_variants}
+use Rattle.langtag_keyword.proofs.Common.{◌++◌, [], sym, subst, ◌∙◌, rules, flat_map, HasText, pushes_both, extension_flat, private_part_flat, with_changed_u, to_variants}
 use Rattle.langtag_keyword.specs.EditText.{edited_by, value_subtags}
 use Rattle.langtag_keyword.proofs.KeywordLaws.{edited_joined}
 use Rattle.langtag_unicode.proofs.keyword_setters.put_parts.Goals as goal

@@ -1,5 +1,4 @@
-use Rattle.std.proofs.Common.{arith}
-use Rattle.std.proofs.lemmas.Grind.{common_steps}
+use Rattle.langtag_scan.proofs.Prelude.{arith, common_steps}
 use Rattle.langtag_scan.specs.Grandfathered.{grandfathered_tags}
 use Rattle.langtag.proofs.RegisteredLaws.{language_registered, registered_primary}
 use Rattle.langtag.proofs.grandfathered.GrandfatheredLangTag.language.Goals as goal

@@ -1,6 +1,6 @@
 use Rattle.langtag_scan.proofs.NormalTexts.{spelled_once}
 use Rattle.langtag_scan.proofs.PartOffsets.{join-parts}
-use Rattle.langtag.proofs.PartsFound.{parts_stand}
+use Rattle.langtag.proofs.PartRules.{parts_stand}
 use Rattle.langtag.proofs.normal_lang_tag.NormalLangTag.new.Goals as goal
 
 pub returns-in_default-clause-one_record : goal.returns-in_default-clause-one_record

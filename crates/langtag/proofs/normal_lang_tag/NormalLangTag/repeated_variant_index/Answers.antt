@@ -1,7 +1,5 @@
 use Rattle.std.proofs.Common.{ap, ◌∙◌}
-use Rattle.langtag_scan.specs.Case.{are_alike}
-use Rattle.langtag_scan.specs.Class.{is_variant}
-use Rattle.langtag_scan.specs.Subtags.{subtags}
+use Rattle.langtag_scan.proofs.Grammar.{are_alike, is_variant, subtags}
 use Rattle.langtag_scan.proofs.SubtagFacts.{of_variant}
 use Rattle.langtag_scan.proofs.SubtagLists.{each_subtag, subtags-joined}
 use Rattle.langtag_place.specs.Repeat.{repeat_index}

@@ -1,8 +1,7 @@
 use Rattle.std.proofs.Common.{rules}
 use Rattle.langtag_scan.proofs.CaseLaw.{alike_parts}
-use Rattle.langtag_case.proofs.RecommendedLaws.{alike_of_recommended}
-use Rattle.langtag_case.proofs.RecordLaw.{spelled_in_case}
-use Rattle.langtag.proofs.AlikeFound.{ends_alike}
+use Rattle.langtag_case.proofs.RecommendedLaws.{alike_of_recommended, spelled_in_case}
+use Rattle.langtag.proofs.KeptFound.{ends_alike}
 use Rattle.langtag.proofs.normal_lang_tag_buf.NormalLangTagBuf.make_recommended_case.Goals as goal
 
 pub invariant_of-self : goal.invariant_of-self

@@ -1,6 +1,6 @@
 use Rattle.std.proofs.Common.{refl}
 use Rattle.langtag.specs.Edit.{with_extensions}
-use Rattle.langtag.proofs.SetBack.{same_text}
+use Rattle.langtag.proofs.EditLaws.{same_text}
 use Rattle.langtag.proofs.normal_lang_tag_buf.NormalLangTagBuf.set_extensions.Goals as goal
 
 pub returns-clause-set_back : goal.returns-clause-set_back

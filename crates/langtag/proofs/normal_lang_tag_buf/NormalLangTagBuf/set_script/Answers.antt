@@ -1,5 +1,5 @@
 use Rattle.langtag.specs.Edit.{with_script}
-use Rattle.langtag.proofs.SetBack.{same_text}
+use Rattle.langtag.proofs.EditLaws.{same_text}
 use Rattle.langtag.proofs.normal_lang_tag_buf.NormalLangTagBuf.set_script.Goals as goal
 
 pub returns-clause-set_back : goal.returns-clause-set_back

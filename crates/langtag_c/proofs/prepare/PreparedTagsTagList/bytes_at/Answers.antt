@@ -1,6 +1,5 @@
-use Rattle.std.proofs.Common.{sym, subst, ◌∙◌, ◌<◌}
-use Rattle.langtag_c.proofs.SiteLaws.{current_count, current_entry, entry_bytes, no_entry}
-use Rattle.std.proofs.Common.{get_or}
+use Rattle.langtag_scan.proofs.Prelude.{sym, subst, ◌∙◌, ◌<◌, get_or}
+use Rattle.langtag_c.proofs.ChoiceLaws.{current_count, current_entry, entry_bytes, no_entry}
 use Rattle.langtag_c.proofs.prepare.PreparedTagsTagList.bytes_at.Goals as goal
 
 pub returns : goal.returns

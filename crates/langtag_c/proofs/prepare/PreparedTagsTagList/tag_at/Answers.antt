@@ -1,5 +1,5 @@
 use Rattle.std.proofs.Common.{sym, subst, ◌∙◌, ◌<◌}
-use Rattle.langtag_c.proofs.SiteLaws.{current_count, current_entry, no_entry}
+use Rattle.langtag_c.proofs.ChoiceLaws.{current_count, current_entry, no_entry}
 use Rattle.langtag_c.proofs.prepare.PreparedTagsTagList.tag_at.Goals as goal
 
 pub returns : goal.returns

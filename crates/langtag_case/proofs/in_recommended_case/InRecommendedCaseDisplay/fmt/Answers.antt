@@ -1,7 +1,6 @@
-use Rattle.std.proofs.Common.{◌++◌, ◌∷◌, append_assoc, rules, subst, sym, ap, ◌∙◌, encode_utf8, arith, IsAscii}
+use Rattle.langtag_scan.proofs.Prelude.{◌++◌, ◌∷◌, append_assoc, rules, subst, sym, ap, ◌∙◌, encode_utf8, arith, IsAscii, encode_ascii, common_steps}
 use Rattle.std.proofs.Output.{has_written_append}
-use Rattle.std.proofs.lemmas.Str.{encode_ascii, IsAscii-drop}
-use Rattle.std.proofs.lemmas.Grind.{common_steps}
+use Rattle.std.proofs.lemmas.Str.{IsAscii-drop}
 use Rattle.langtag_case.proofs.RecommendedLaws.{recommended-ascii}
 use Rattle.langtag_case.proofs.in_recommended_case.InRecommendedCaseDisplay.fmt.Goals as goal
 

@@ -1,5 +1,4 @@
-use Rattle.std.proofs.Common.{arith}
-use Rattle.std.proofs.lemmas.Grind.{common_steps}
+use Rattle.langtag_scan.proofs.Prelude.{arith, common_steps}
 use Rattle.langtag_case.proofs.PieceLaws.{piece-single, piece-two, piece-four, piece-other}
 use Rattle.langtag_case.proofs.piece.Piece.later.Goals as goal
 

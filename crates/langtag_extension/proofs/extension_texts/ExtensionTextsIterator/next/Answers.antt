@@ -1,6 +1,6 @@
 use Rattle.std.proofs.Common.{rules, sym, ◌∙◌, ap}
 use Rattle.langtag_extension.specs.ExtensionTexts.{texts_left}
-use Rattle.langtag_extension.proofs.WalkLemmas.{group_texts-split}
+use Rattle.langtag_extension.proofs.ExtensionLookUp.{group_texts-split}
 use Rattle.langtag_extension.proofs.extension_texts.ExtensionTextsIterator.next.Goals as goal
 
 pub returns : goal.returns

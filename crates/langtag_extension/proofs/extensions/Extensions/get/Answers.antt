@@ -1,6 +1,5 @@
-use Rattle.std.proofs.Common.{◌∙◌, rules, map}
+use Rattle.langtag_scan.proofs.Prelude.{◌∙◌, rules, map, YieldsList-from_first}
 use Rattle.std.proofs.lemmas.Iterator.Search.{find_from_yields_List}
-use Rattle.std.proofs.lemmas.Iterator.Consumers.{YieldsList-from_first}
 use Rattle.langtag_extension.specs.Decided.{opens_alike}
 use Rattle.langtag_extension.specs.Spelling.{extension_spelling}
 use Rattle.langtag_extension.specs.Text.{extension_text, extensions_left}

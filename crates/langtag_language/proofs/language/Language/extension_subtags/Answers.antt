@@ -1,5 +1,4 @@
-use Rattle.std.proofs.Common.{arith}
-use Rattle.std.proofs.lemmas.Grind.{common_steps}
+use Rattle.langtag_scan.proofs.Prelude.{arith, common_steps}
 use Rattle.langtag_language.proofs.Members.{others_spelled}
 use Rattle.langtag_language.proofs.language.Language.extension_subtags.Goals as goal
 

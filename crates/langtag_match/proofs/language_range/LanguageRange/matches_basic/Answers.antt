@@ -1,7 +1,6 @@
 use Rattle.std.proofs.Common.{arith}
 use Rattle.std.proofs.lemmas.Grind.{common_steps}
-use Rattle.langtag_range.proofs.Prefixes.{test_basic-decides}
-use Rattle.langtag_range.proofs.Among.{same_test}
+use Rattle.langtag_range.proofs.Among.{test_basic-decides, same_test}
 use Rattle.langtag_match.proofs.language_range.LanguageRange.matches_basic.Goals as goal
 
 pub returns-clause-test : goal.returns-clause-test

@@ -1,5 +1,4 @@
-use Rattle.std.proofs.Common.{◌≡◌, ◌≤◌, ◌∷◌, ◌++◌, [], length, sym, ap, subst, ◌∙◌, arith, append_assoc}
-use Rattle.std.proofs.lemmas.List.{nil_from_length}
+use Rattle.langtag_scan.proofs.Prelude.{◌≡◌, ◌≤◌, ◌∷◌, ◌++◌, [], length, sym, ap, subst, ◌∙◌, arith, append_assoc, nil_from_length}
 use Rattle.langtag_output.specs.Output.{HasText}
 use Rattle.langtag_output.proofs.WithSubtag.{with_subtag-none, with_subtag-some}
 use Rattle.langtag_output.proofs.output.Output.push_subtag.Goals as goal

@@ -1,6 +1,4 @@
-use Rattle.std.proofs.Common.{◌≡◌, ℕ, ◌-◌, List, [], ◌∷◌, ◌++◌, length, Option, Some, MatchOption, refl, arith, slice_get, option_map}
-use Rattle.std.proofs.lemmas.List.{length_push}
-use Rattle.std.proofs.lemmas.Grind.{common_steps}
+use Rattle.langtag_scan.proofs.Prelude.{◌≡◌, ℕ, ◌-◌, List, [], ◌∷◌, ◌++◌, length, Option, Some, MatchOption, refl, arith, slice_get, option_map, length_push, common_steps}
 use Rattle.langtag_place.specs.declared.variant.Variant.{Variant}
 use Rattle.langtag_place.specs.Text.{variant_text, variants_text, variants_left}
 use Rattle.langtag_place.proofs.Rules.{subtags-spelled}

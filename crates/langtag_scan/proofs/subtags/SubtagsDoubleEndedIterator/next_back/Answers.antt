@@ -1,6 +1,4 @@
-use Rattle.std.proofs.Common.{arith}
-use Rattle.std.proofs.lemmas.List.{length_push}
-use Rattle.std.proofs.lemmas.Grind.{common_steps}
+use Rattle.langtag_scan.proofs.Prelude.{arith, length_push, common_steps}
 use Rattle.langtag_scan.specs.Subtags.{segments_left}
 use Rattle.langtag_scan.proofs.SubtagLists.{segments_left-last}
 use Rattle.langtag_scan.proofs.subtags.SubtagsDoubleEndedIterator.next_back.Goals as goal

@@ -1,0 +1,161 @@
+-- What is written for a caller: it is not empty where a text is due, and what is cut out of a text is UTF-8.
+use Rattle.langtag_scan.proofs.Prelude.{◌≡◌, ℕ, ◌+◌, ◌≤◌, true, List, [], ◌∷◌, leb, length, Option, None, refl, arith, ◌↔◌, Some, unwrap_or, sym, subst, ◌∙◌, inl, and_parts, false≢true, false_from_ne_true, IsUtf8-from_ascii, IsAscii-nil, IsAscii-cons, AllByRecursion, nat_tests}
+use Rattle.std.specs.Str.{IsUtf8}
+use Rattle.langtag.specs.Form.{IsForm}
+use Rattle.langtag_output.specs.Writes.{Writes}
+use Rattle.langtag_scan.proofs.Ascii.{alphanumeric_below, IsAscii-each}
+use Rattle.langtag_scan.proofs.Joins.{length-join}
+use Rattle.langtag_scan.proofs.SubtagFacts.{IsSubtag, of_extension_subtag, of_primary, of_region}
+use Rattle.langtag_scan.proofs.SubtagLists.{join-subtags}
+use Rattle.langtag_scan.proofs.TagLaws.{tag_normal}
+use Rattle.langtag_scan.proofs.Grammar.{is_alphanumeric, is_extension_subtag, is_letter, is_primary, is_region, subtags, IsNormal, IsTag}
+use Rattle.langtag_keyword.specs.Edit.{edited_record, invalid_type, invalid_type_from, is_unicode_key, keyword_error}
+use Rattle.langtag_span.proofs.TagLengths.{IsUtf8-joined, some_tag}
+use Rattle.std.specs.Prelude.{IfSome, MatchOption}
+use Rattle.langtag_output.specs.WritesWhole.{WritesWhole}
+use Rattle.langtag_registry.specs.Canonical.{IsCanonicalForm}
+use Rattle.langtag_likely.specs.Maximal.{IsMaximalForm, IsMinimalForm, maximal_record, minimal_record}
+use Rattle.langtag_range.specs.Locale.{locale_place}
+use Rattle.langtag_likely.specs.PlatformNames.{read_place}
+use Rattle.langtag_likely.specs.Posix.{IsTagOfName, NamesTag, with_said}
+use Rattle.langtag_likely.specs.ToPosix.{IsPosixName}
+use Rattle.langtag.proofs.FormLaws.{form_is_tag}
+use Rattle.langtag_likely.proofs.GoodForms.{maximal_well_formed, minimal_well_formed}
+use Rattle.langtag_likely.proofs.PosixLaws.{said_well_formed}
+use Rattle.langtag_likely.proofs.PosixNameRead.{one_name, some_name}
+use Rattle.langtag_unicode.proofs.FormRecords.{form_well_formed}
+use Rattle.langtag_locale.proofs.LocaleRecords.{locale_tag}
+use Rattle.langtag_locale.proofs.WholeLaws.{not_both, whole_of_record}
+use Rattle.langtag_keyword.specs.Form.{extensions_record}
+use Rattle.langtag_unicode.specs.ExtensionsForm.{IsExtensionsForm}
+use Rattle.langtag_locale.specs.LocaleForm.{IsWholeForm}
+use Rattle.langtag_likely.specs.Suggestion.{suggested_language, suggested_region}
+use Rattle.langtag_c.specs.Validity.{suggested}
+use Rattle.langtag_parent.specs.Parent.{IsParent}
+use Rattle.langtag_parent.proofs.Cuts.{other_parent}
+use Rattle.langtag_registry.proofs.CanonicalParts as canonical
+
+-- ---- a key and a value are UTF-8
+
+IsUtf8-key : (key : List ℕ) → is_unicode_key key ≡ true → IsUtf8 key
+IsUtf8-key [] is = absurd (false≢true is)
+IsUtf8-key (a ∷ []) is = absurd (false≢true is)
+IsUtf8-key (a ∷ b ∷ c ∷ key) is = absurd (false≢true is)
+IsUtf8-key (a ∷ b ∷ []) is =
+    let both = and_parts (is_alphanumeric a) (is_letter b) is in
+    IsUtf8-from_ascii (a ∷ b ∷ [])
+    (IsAscii-cons a (b ∷ []) (alphanumeric_below a both.0) (IsAscii-cons b [] (alphanumeric_below b (rw both.1 refl)) IsAscii-nil))
+
+types_subtags : (at : ℕ) (ss : List (List ℕ)) → invalid_type_from at ss ≡ None → AllByRecursion IsSubtag ss
+types_subtags at [] none = tt
+types_subtags at (s ∷ ss) none =
+    grind (arith, nat_tests, types_subtags (at + (length s + 1)) ss, of_extension_subtag s, and_parts (leb 3 (length s)) (is_extension_subtag s))
+
+accepted : (key : List ℕ) (value : List (List ℕ)) → keyword_error key value ≡ None → (is_unicode_key key ≡ true) × (invalid_type value ≡ None)
+accepted key value none = grind (arith, nat_tests)
+
+pub IsUtf8-keyword_key : (key : List ℕ) (value : List (List ℕ)) → keyword_error key value ≡ None → IsUtf8 key
+IsUtf8-keyword_key key value none = IsUtf8-key key (accepted key value none).0
+
+pub IsUtf8-removed_key : (key : List ℕ) → keyword_error key [] ≡ None → IsUtf8 key
+IsUtf8-removed_key key none = IsUtf8-keyword_key key [] none
+
+pub IsUtf8-keyword_value : (key value : List ℕ) → keyword_error key (subtags value) ≡ None → IsUtf8 value
+IsUtf8-keyword_value key value none =
+    IsUtf8-joined (subtags value) value (types_subtags 0 (subtags value) (accepted key (subtags value) none).1) (join-subtags value)
+
+-- ---- the tag is not empty
+
+pub some_edited : (key : List ℕ) (value : Option (List (List ℕ))) (old new : List ℕ) → IsNormal old → IsForm (edited_record key value) old new → 1 ≤ length new
+unfolding IsNormal edited_record
+some_edited key value old new (r, spells) is = grind (arith, nat_tests, length-join, of_primary)
+
+-- so its length is not 0
+pub some_written :
+    (key : List ℕ) (value : Option (List (List ℕ))) (old before after : List ℕ) (len : ℕ) →
+    Writes (IsForm (edited_record key value) old) before after len → IsNormal old → len ≡ 0 → ⊥
+some_written key value old before after len w normal zero = absurd (omega (arith, zero, w.whole, some_edited key value old w.text normal w.is_so))
+
+pub ruleset keyword_texts = (IsUtf8-keyword_key, IsUtf8-removed_key, IsUtf8-keyword_value, some_written, tag_normal)
+
+-- ---- the forms of a tag, and the tag of a name, are not empty
+
+pub some_canonical : (old new : List ℕ) → IsTag old → IsCanonicalForm old new → 1 ≤ length new
+some_canonical old new tag is = some_tag new (canonical.form_is_tag old new tag is)
+
+pub some_maximal : (old new : List ℕ) → IsTag old → IsMaximalForm old new → 1 ≤ length new
+some_maximal old new tag is = some_tag new (form_is_tag maximal_record maximal_well_formed old new tag is)
+
+pub some_minimal : (old new : List ℕ) → IsTag old → IsMinimalForm old new → 1 ≤ length new
+some_minimal old new tag is = some_tag new (form_is_tag minimal_record minimal_well_formed old new tag is)
+
+pub some_extensions : (old new : List ℕ) → IsTag old → IsExtensionsForm old new → 1 ≤ length new
+some_extensions old new tag is = some_tag new (form_is_tag extensions_record form_well_formed old new tag is)
+
+pub some_named : (name new : List ℕ) → NamesTag name → IsTagOfName name new → 1 ≤ length new
+some_named name new names is = some_tag new (form_is_tag (with_said name) (said_well_formed name) (read_place (locale_place name)) new names.tag is)
+
+pub some_locale : (old new : List ℕ) → IsWholeForm old (Some new) → 1 ≤ length new
+some_locale old new is = let (r, fits, locale, same) = whole_of_record old new is in some_tag new (subst IsTag (sym same) (locale_tag r fits locale))
+
+-- 0 bytes stand for no form
+pub locale_none :
+    (bytes text before after : List ℕ) (o : Option ℕ) (result : ℕ) → text ≡ bytes → IsTag bytes → result ≡ unwrap_or o 0 →
+    IfSome o (λ len. WritesWhole (λ form. IsWholeForm text (Some form)) before after len) → (o ≡ None → IsWholeForm text None) → (result ≡ 0) ↔ (IsTag bytes → IsWholeForm bytes None)
+locale_none bytes text before after None result same tag is written none = (λ _ _. subst (λ t. IsWholeForm t None) same (none refl), λ _. is)
+locale_none bytes text before after (Some len) result same tag is written none =
+    grind (arith, nat_tests, some_locale text written.text written.is_so, not_both text written.text written.is_so)
+
+-- 0 bytes stand for no name
+pub posix_none :
+    (bytes text before after : List ℕ) (o : Option ℕ) (result : ℕ) → text ≡ bytes → result ≡ unwrap_or o 0 →
+    MatchOption o (IsPosixName text None) (λ len. Writes (λ name. IsPosixName text (Some name)) before after len) → (result ≡ 0) ↔ IsPosixName bytes None
+posix_none bytes text before after None result same is none = (λ _. subst (λ t. IsPosixName t None) same none, λ _. is)
+posix_none bytes text before after (Some len) result same is w = (
+  λ zero. absurd (let some = some_name text w.text w.is_so in omega (arith, some, w.whole, is, zero)),
+  λ none. let no : Some w.text ≡ None = one_name text (Some w.text) None w.is_so (subst (λ t. IsPosixName t None) (sym same) none) in absurd cc,
+)
+
+pub posix_some :
+    (tag before after : List ℕ) (o : Option ℕ) → MatchOption o (IsPosixName tag None) (λ len. Writes (λ name. IsPosixName tag (Some name)) before after len) →
+    1 ≤ unwrap_or o 0 → Writes (λ name. IsPosixName tag (Some name)) before after (unwrap_or o 0)
+posix_some tag before after None is some = absurd (omega (arith, some))
+posix_some tag before after (Some len) w some = w
+
+-- ---- what is suggested for bytes: they are UTF-8, as a language and a region are
+
+IsUtf8-subtag : (s : List ℕ) → IsSubtag s → IsUtf8 s
+IsUtf8-subtag s is = IsUtf8-from_ascii s (IsAscii-each is_alphanumeric alphanumeric_below s is.alphanumeric)
+
+no_language : (s : List ℕ) → (IsUtf8 s → ⊥) → suggested_language s ≡ None
+unfolding suggested_language
+no_language s other = rw (false_from_ne_true (is_primary s) (λ is. other (IsUtf8-subtag s (of_primary s is)))) refl
+
+no_region : (s : List ℕ) → (IsUtf8 s → ⊥) → suggested_region s ≡ None
+unfolding suggested_region
+no_region s other = rw (false_from_ne_true (is_region s) (λ is. other (IsUtf8-subtag s (of_region s is)))) refl
+
+-- other bytes are no code
+pub none_suggested : (fault : ℕ) (s : List ℕ) → (IsUtf8 s → ⊥) → suggested fault s ≡ None
+none_suggested fault s other = grind (arith, nat_tests, no_language s other, no_region s other)
+
+pub ruleset utf8_suggested = (none_suggested)
+
+-- ---- what is written is the parent, and nothing is written where there is none
+
+pub parent_of_no_tag : (bytes : List ℕ) → (IsTag bytes → ⊥) → IsParent bytes None
+unfolding IsTag
+parent_of_no_tag bytes never = other_parent bytes (λ normal. never (inl normal))
+
+not-both : (tag parent : List ℕ) → IsParent tag (Some parent) → IsParent tag None → ⊥
+unfolding IsNormal
+not-both tag parent some none =
+    let is : Some parent ≡ None = some.absent (λ (r, spells). let same : Some parent ≡ None = some.part r spells ∙ sym (none.part r spells) in absurd cc) in absurd cc
+
+pub no_parent : (tag parent : List ℕ) (result : ℕ) → IsParent tag (Some parent) → 1 ≤ length parent → result ≡ length parent → (result ≡ 0) ↔ IsParent tag None
+no_parent tag parent result some long is = (λ zero. absurd (omega (arith, long, is, zero)), λ none. absurd (not-both tag parent some none))
+
+pub parent_written :
+    (tag parent before after : List ℕ) (len : ℕ) → IsParent tag (Some parent) → Writes (λ new. new ≡ parent) before after len →
+    Writes (λ parent. IsParent tag (Some parent)) before after len
+parent_written tag parent before after len some is = grind arith

@@ -1,0 +1,5 @@
+pub mod Entry
+pub mod Subtags
+pub mod Registered
+pub mod Fields
+pub mod Tables

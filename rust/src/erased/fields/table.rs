@@ -1,0 +1,24 @@
+// Made by rust/erase from crates/langtag_fields/src/table.rt. Change that file, not this one.
+
+//! Tables of subtags, which are searched for a string, ignoring case.
+
+use crate::erased::scan::folded_number;
+
+/// Returns whether a string is in a table, whose keys are the numbers of its strings.
+#[inline]
+pub(crate) fn is_among(keys: &[u64], text: &[u8]) -> bool {
+    keys.binary_search(&folded_number(text)).is_ok()
+}
+
+/// Returns the value for a string, which is at the same index as the string's key.
+#[inline]
+pub(crate) fn value_of(
+    keys: &[u64],
+    values: &'static [&'static str],
+    text: &[u8],
+) -> Option<&'static str> {
+    match keys.binary_search(&folded_number(text)) {
+        Ok(index) => Some(values[index]),
+        Err(_) => None,
+    }
+}
