@@ -145,16 +145,13 @@ class Values(unittest.TestCase):
                 call()
 
 
-#: Each way in which an argument is refused.
-REFUSALS = (
-    lambda text: Tag(text), lambda text: parse(text), lambda text: Range(text), lambda text: Tag.from_posix(text),
-    lambda text: Tag("de").replace(script=text), lambda text: Tag("de").replace(keywords={"ca": text}),
-    lambda text: Tag("de").replace(keywords={text: "roc"}), lambda text: Tag.from_parts(text), lambda text: Tag("x-a").replace(script="Latn"),
-    lambda text: AcceptLanguage(text), lambda text: tag_for_header("de, " + text, ["de"]),
-    lambda text: langtag.distance("de", text), lambda text: look_up([text], ["de"]),
-    lambda text: look_up(["de"], [text]), lambda text: langtag.best_for_header("de", [text]), lambda text: tag_for_header("de", [text]),
-    lambda text: tag_for_header_lenient("de", [text]), lambda text: langtag.best_for_ranges(["de"], [text]),
-)
+#: Each way in which a text is refused.
+REFUSALS = [
+    Tag, parse, Range, Tag.from_posix, Tag.from_parts, AcceptLanguage, *wrong_calls.ABOUT_TAG, *wrong_calls.SET_TEXT,
+    lambda text: Tag("de").replace(keywords={"ca": text}), lambda text: Tag("de").replace(keywords={text: "roc"}),
+    lambda text: Tag("x-a").replace(script="Latn"), lambda text: tag_for_header("de, " + text, ["de"]),
+    lambda text: look_up([text], ["de"]), *(lambda text, call=call: call([text]) for call in wrong_calls.AMONG),
+]
 
 
 def caught(call, text="de_"):
