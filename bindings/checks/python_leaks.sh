@@ -2,9 +2,9 @@
 # lost reference and a block that is not freed are planted, and have to be found. leaks_of NAME CFLAGS PYTHON COMMAND..: builds the
 # module in a copy of its own, and runs the command there.
 leaks_of() {
-    local folder=$work/leaks/$1 flags=$2 python=$3
+    local folder=$work/bindings/leaks-$1 flags=$2 python=$3
     shift 3
-    rm -rf "$folder" && mkdir -p "$work/leaks" && cp -r python "$folder" && cd "$folder" || return 1
+    rm -rf "$folder" && cp -r python "$folder" && cd "$folder" || return 1
     if [ -n "${PLANT:-}" ]; then sed -i "$PLANT" native/*.c; fi
     INCLUDE=$here/include CFLAGS=$flags native/compile "$archive" langtag/_native.abi3.so "$python" || return 1
     env -u LANGTAG_LIBRARY "$@"
@@ -18,7 +18,7 @@ by_references() { leaks_of references "${debug:+-DPy_DEBUG}" "$header" "${debug:
 sources=$(cd "$here/python/native" && printf '%s|' *.c)
 by_blocks() {
     PYTHONMALLOC=malloc leaks_of valgrind -g "$header" valgrind --leak-check=full --show-leak-kinds=definite --log-file=valgrind.log \
-        "$real" leaks.py 3 && ! grep -E "\\((${sources%|}):" "$work/leaks/valgrind/valgrind.log"
+        "$real" leaks.py 3 && ! grep -E "\\((${sources%|}):" "$work/bindings/leaks-valgrind/valgrind.log"
 }
 by_sanitizers() {
     local runtime

@@ -104,7 +104,7 @@ def growth(group, times):
     """Returns the least growth of four runs, since Python itself keeps something in some of them."""
     if times >= 100:  # a few calls show nothing, and are run under valgrind or sanitizers
         tracemalloc.start()
-    for _ in range(50):
+    for _ in range(min(times, 50)):
         group()
     found = [references()]
     for _ in range(4):
