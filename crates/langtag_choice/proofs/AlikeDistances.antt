@@ -12,14 +12,13 @@ use Rattle.langtag_range.specs.Listed.{basic_text}
 use Rattle.langtag_range.specs.Wanted.{hyphened}
 use Rattle.langtag_range.proofs.AlikeTexts.{hyphened-fold, is_star-fold, subtags-fold}
 use Rattle.langtag_range.proofs.BasicForms.{basic_text-alike}
-use Rattle.langtag_likely.specs.Likely.{are_alike_fields, language_alone, known, without_region}
+use Rattle.langtag_likely.specs.Likely.{are_alike_fields, known, without_region}
 use Rattle.langtag.specs.Fields.{Fields}
 use Rattle.langtag_likely.specs.Matching.{without_language, keeping_language, most_unknown, most_likely, matching_fields, matching_form}
 use Rattle.langtag_likely.specs.TextFields.{text_fields, fields_of_subtags, counted, counts, last_language, after_language, script_of, after_script, region_of}
 use Rattle.langtag_likely.proofs.AlikeFields.{AlikeOptions, fields-right, alone_alike, added-alike, by_options, language-alike, letters-alike, suffices-alike}
 use Rattle.langtag.proofs.Alike.{AlikeFields, are_alike-left, are_alike-right}
-use Rattle.langtag_choice.specs.Distance.{by_language, distance_of_forms, is_among, language_distance, region_distance, script_distance, DistanceIgnoresCase, distance_of_texts}
-use Rattle.langtag_choice.specs.MatchingData.{language_rules}
+use Rattle.langtag_choice.specs.Distance.{distance_of_forms, is_among, language_distance, region_distance, script_distance, DistanceIgnoresCase, distance_of_texts}
 use Rattle.langtag_choice.specs.Nearness.{unlikely, unlikely_of, unlikely_form}
 use Rattle.langtag_choice.specs.Rules.{Rule, fits, distance_by}
 

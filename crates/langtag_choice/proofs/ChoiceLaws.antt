@@ -21,7 +21,7 @@ use Rattle.langtag_range.specs.Range.{is_star}
 use Rattle.langtag_range.specs.Wanted.{folded, wanted_elements}
 use Rattle.langtag_range.proofs.AlikeTexts.{alike_headers, is_star-fold}
 use Rattle.langtag_range.proofs.Among.{length-alike}
-use Rattle.langtag_choice.specs.Best.{IsAtMost, IsChoice, Pair, rank, rank_of_pair, serves, reach, is_wish, is_excluded, is_refused, longest, matches}
+use Rattle.langtag_choice.specs.Best.{IsAtMost, IsChoice, Pair, rank, rank_of_pair, serves, reach, is_wish, is_excluded, is_refused, longest}
 use Rattle.langtag_choice.specs.ChoiceLaws.{IsOnlyChoice, AnswersLookUp, IsHeaviest, IsFirstAlike, AnswersEqual, IgnoresCase, IgnoresHeaderCase}
 use Rattle.langtag_choice.specs.Nearness.{kept, is_fallback}
 use Rattle.langtag_choice.proofs.AlikeDistances.{distance-none, unlikely-alike, distance-alike, both-alike}

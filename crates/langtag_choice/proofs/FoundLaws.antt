@@ -1,5 +1,5 @@
 -- What loops over ranges and over tags have found, and that it is the choice.
-use Rattle.std.proofs.Common.{◌≡◌, ℕ, true, List, get_or, Option, Some, None, option_map, ap, refl, sym, subst, ◌∙◌, ◌-◌, ◌==◌, ◌≤◌, false, not, ◌&&◌, ◌||◌, nat_lt, arith, Bool, [], ◌∷◌, ◌+◌, ◌<◌, zero, suc, length, min, inl, inr, true≢false, slice_get, replicate}
+use Rattle.std.proofs.Common.{◌≡◌, ℕ, true, List, get_or, Option, Some, None, option_map, ap, refl, sym, subst, ◌∙◌, ◌-◌, ◌==◌, ◌≤◌, false, not, ◌&&◌, ◌||◌, nat_lt, arith, Bool, [], ◌∷◌, ◌+◌, ◌<◌, zero, suc, length, min, inl, inr, slice_get, replicate}
 use Rattle.std.proofs.Math.Bool.{or-true}
 use Rattle.std.proofs.lemmas.Bool.Decides.{eqb_tells, nat_tests}
 use Rattle.std.proofs.lemmas.Bool.{and_parts, eq-eqb, eqb-true, ltb-false, ltb-true, not-true, or_cases, cases_lt}

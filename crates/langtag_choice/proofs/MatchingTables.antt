@@ -1,6 +1,6 @@
 -- The tables of language matching have the rows of the lists, by computation, and a rule is found by its number.
 -- The languages that are near another, by the keys of the rules.
-use Rattle.std.proofs.Common.{◌≡◌, ℕ, ◌<◌, true, false, ◌==◌, Bool, ltb, List, [], ◌∷◌, length, max, get_or, map, refl, arith, rules, ◌&&◌, is_some, ◌+◌, ◌*◌, ap, ◌∙◌, cond, Option, sym, ◌≢◌, zero, suc, ◌-◌, ◌≤◌, drop, inl, inr, length-drop, length-take, None, subst}
+use Rattle.std.proofs.Common.{◌≡◌, ℕ, ◌<◌, true, false, ◌==◌, Bool, ltb, List, [], ◌∷◌, length, max, get_or, map, refl, arith, rules, ◌&&◌, is_some, ◌+◌, ◌*◌, ap, ◌∙◌, cond, Option, sym, ◌≢◌, zero, suc, ◌-◌, ◌≤◌, length-drop, length-take, None, subst}
 use Rattle.std.proofs.lemmas.Bool.Decides.{nat_tests, eqb_tells}
 use Rattle.std.proofs.lemmas.Bool.{and_parts, ltb-true, eq-eqb, ne_eqb, both_ways, cases_lt, or_parts}
 use Rattle.std.proofs.lemmas.Grind.{common_steps}

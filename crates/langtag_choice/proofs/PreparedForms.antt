@@ -1,5 +1,5 @@
 -- What a prepared form says of the tag for which it was prepared.
-use Rattle.std.proofs.Common.{◌≡◌, ℕ, true, ◌==◌, ◌&&◌, List, inl, inr, Option, Some, None, refl, sym, ap, ◌∙◌, get_or, arith, bytes_eq, subst, ◌≤◌, length, ◌<◌, false}
+use Rattle.std.proofs.Common.{◌≡◌, ℕ, true, List, Option, Some, sym, ap, ◌∙◌, get_or, arith, bytes_eq, ◌≤◌, length, ◌<◌, false}
 use Rattle.std.proofs.lemmas.Bool.Decides.{nat_tests}
 use Rattle.std.proofs.lemmas.Bool.{and_parts, eqb-true, or_cases, false_from_ne_true}
 use Rattle.std.proofs.lemmas.Grind.{same_number_lists}
@@ -11,7 +11,7 @@ use Rattle.langtag_choice.specs.declared.nearness.Nearness.{Nearness}
 use Rattle.langtag.specs.Fields.{Fields}
 use Rattle.langtag_choice.specs.FirstLetters.{first_two}
 use Rattle.langtag_choice.specs.NearLanguages.{HasNumber}
-use Rattle.langtag_choice.specs.Prepared.{has_fields, has_head, is_prepared_for, keeps}
+use Rattle.langtag_choice.specs.Prepared.{has_fields, has_head, is_prepared_for}
 use Rattle.langtag_choice.specs.declared.prepared_form.PreparedForm.{PreparedForm}
 use Rattle.langtag_likely.specs.Matching.{matching_form}
 use Rattle.langtag_likely.specs.Numbers.{name_text}

@@ -14,7 +14,7 @@ use Rattle.langtag.specs.Fields.{Fields}
 use Rattle.langtag_tables.specs.Numbers.{letter_number}
 use Rattle.langtag_tables.proofs.Letters.{letter_number-tells}
 use Rattle.langtag_likely.specs.Aliases.{language_aliases, region_aliases}
-use Rattle.langtag_likely.specs.Likely.{Likely, add_likely, filled, known, known_fields, language_alone, likely_for, looked_up, or_other}
+use Rattle.langtag_likely.specs.Likely.{Likely, add_likely, filled, known_fields, language_alone, likely_for}
 use Rattle.langtag_likely.specs.LikelySubtags.{likely_subtags}
 use Rattle.langtag_likely.specs.Matching.{language_replaced, region_alone, region_replaced, with_language_from, with_region_from}
 use Rattle.langtag_likely.specs.Maximal.{add_likely_subtags, canonical_fields}

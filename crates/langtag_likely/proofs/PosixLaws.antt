@@ -5,14 +5,14 @@ use Rattle.std.proofs.lemmas.Bool.{and_parts, false_from_ne_true}
 use Rattle.langtag_scan.specs.Case.{are_alike, fold_byte}
 use Rattle.langtag_scan.specs.Class.{is_extension_subtag, is_mark, is_singleton, is_letter, is_digit, is_variant, is_script}
 use Rattle.langtag_scan.specs.Ends.{ends_of, to_region}
-use Rattle.langtag_scan.specs.Record.{Extension, Record, IsWellFormed, IsWellFormedExtension, extension_flat, private_part_flat, spell, EachRecord, Spells}
+use Rattle.langtag_scan.specs.Record.{Extension, Record, IsWellFormed, extension_flat, private_part_flat, spell, EachRecord, Spells}
 use Rattle.langtag_scan.specs.Subtags.{join}
 use Rattle.langtag_scan.specs.Tag.{IsNormal, IsTag}
 use Rattle.langtag_scan.proofs.PartOffsets.{ends_in_order, length-spell}
 use Rattle.langtag_scan.proofs.Joins.{hyphenated, hyphenated-append, join-hyphenated, length-join}
 use Rattle.langtag_scan.proofs.Disjoint.{variant_long, script_four}
 use Rattle.langtag.proofs.Alike.{alike_length}
-use Rattle.langtag_likely.specs.Posix.{IsAroundPosix, are_no_extensions, is_posix_alone, posix_extension, posix_replaced, modifier_of, said_script, script_behind, with_said, with_said_script, with_said_variant}
+use Rattle.langtag_likely.specs.Posix.{IsAroundPosix, is_posix_alone, posix_extension, posix_replaced, modifier_of, said_script, script_behind, with_said, with_said_script, with_said_variant}
 use Rattle.std.specs.Option.{option_map, option_or}
 use Rattle.std.proofs.lemmas.Str.{IsUtf8-from_ascii}
 use Rattle.std.proofs.lemmas.Grind.{common_steps}

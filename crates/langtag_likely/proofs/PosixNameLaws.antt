@@ -1,12 +1,12 @@
 -- The text of a name, and that it is read as it stands: neither Android nor .NET writes a tag so.
-use Rattle.std.proofs.Common.{◌≡◌, ℕ, ◌+◌, ◌≤◌, not, true, false, Bool, cond, suc, List, [], ◌∷◌, ◌++◌, length, drop, Option, IfSome, refl, sym, ap, ◌∙◌, arith, flat_map, append_assoc, append-nil, unwrap_or, ◌<◌, ◌==◌, ◌&&◌, inl, inr, Some, None, subst, ◌⊎◌, codes, length-append}
+use Rattle.std.proofs.Common.{◌≡◌, ℕ, ◌+◌, ◌≤◌, not, true, false, Bool, cond, suc, List, [], ◌∷◌, ◌++◌, length, drop, IfSome, refl, sym, ap, ◌∙◌, arith, flat_map, append_assoc, append-nil, unwrap_or, ◌<◌, ◌==◌, inl, inr, None, subst, ◌⊎◌, codes, length-append}
 use Rattle.std.specs.List.{AllByRecursion, after_first, before_first, list_any, position_or_len}
 use Rattle.std.proofs.lemmas.Bool.{and_parts, or_parts, false_from_ne_true}
 use Rattle.std.proofs.lemmas.Bool.Decides.{nat_tests}
 use Rattle.std.proofs.lemmas.List.{map-append}
 use Rattle.std.proofs.lemmas.List.Folds.{list_any-append}
 use Rattle.std.proofs.lemmas.List.Sums.{take_while-cons}
-use Rattle.langtag_scan.specs.Case.{Alike, fold_byte, fold_text, are_alike}
+use Rattle.langtag_scan.specs.Case.{Alike, fold_byte, are_alike}
 use Rattle.langtag_scan.specs.Class.{are_alphanumeric, is_alphanumeric, is_digit, is_letter, is_primary, is_region, is_script}
 use Rattle.langtag_scan.specs.Record.{Record, extension_flat, one_flat, private_part_flat, spell}
 use Rattle.langtag_scan.specs.Subtags.{join, is_hyphen}
@@ -19,7 +19,6 @@ use Rattle.langtag_scan.proofs.CaseLaw.{alike_region}
 use Rattle.langtag_scan.proofs.Disjoint.{region_short, script_four}
 use Rattle.langtag_scan.proofs.SubtagFacts.{of_region}
 use Rattle.langtag.proofs.Alike.{alike_is, alike_length}
-use Rattle.langtag_likely.specs.Likely.{or_else}
 use Rattle.langtag_likely.specs.PlatformNames.{is_plus, marked_region, platform_behind, platform_read, read_place, region_now}
 
 -- ---- marks

@@ -2,7 +2,7 @@
 -- of the lists: by computation.
 use Rattle.std.proofs.Common.{◌≡◌, ◌≢◌, ℕ, zero, suc, ◌<◌, true, ltb, List, [], ◌∷◌, length, get_or, None, Some, refl, sym, ap, ◌∙◌, arith, Bool, rules, Result, nat_cmp, map, ◌+◌, ◌*◌, ◌≤◌, ◌==◌, leb, ◌&&◌, false, cond, ◌++◌, Option, option_map, ◌-◌, ◌/◌, ◌%◌, ◌^◌, not, flat_map, ◌||◌, codes}
 use Rattle.std.proofs.lemmas.Bool.Decides.{nat_tests}
-use Rattle.std.proofs.lemmas.Bool.{ltb-true, eq-eqb, ne_eqb, true_from_ne_false, both_ways, and_parts}
+use Rattle.std.proofs.lemmas.Bool.{ltb-true, eq-eqb, ne_eqb, and_parts}
 use Rattle.langtag_tables.proofs.Elements.{list_all_get}
 use Rattle.std.proofs.lemmas.List.Sorted.{searched}
 use Rattle.std.proofs.lemmas.List.{get_or-map, length-map}

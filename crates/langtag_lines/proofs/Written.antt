@@ -1,5 +1,5 @@
 -- Lines of bytes, and how the answers that a writer holds grow as bytes are taken.
-use Rattle.std.proofs.Common.{◌≡◌, ◌∙◌, ℕ, ◌+◌, Bool, true, false, eqb-true, None, Some, List, [], ◌∷◌, ◌++◌, take, drop, get_or, refl, sym, ap, append_assoc, length-append, take-append-drop, get_or-take, arith, Result, Ok, Err, ◌-◌, Option, ◌<◌, ◌≤◌, length, length-drop, append-nil, subst, ◌≢◌}
+use Rattle.std.proofs.Common.{◌≡◌, ◌∙◌, ℕ, ◌+◌, Bool, true, false, eqb-true, None, Some, List, [], ◌∷◌, ◌++◌, take, drop, get_or, refl, sym, ap, append_assoc, length-append, take-append-drop, get_or-take, arith, Result, Err, ◌-◌, Option, ◌<◌, ◌≤◌, length, length-drop, append-nil, subst, ◌≢◌}
 use Rattle.std.specs.List.{flat_map, AllByRecursion, position}
 use Rattle.std.proofs.lemmas.Grind.{common_steps}
 use Rattle.std.proofs.lemmas.List.{take_at, get_or_at, take_more, take-append-le}

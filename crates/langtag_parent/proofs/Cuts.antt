@@ -1,12 +1,12 @@
 -- A text without its last subtag.
-use Rattle.std.proofs.Common.{◌≡◌, ℕ, Bool, true, false, ◌==◌, ◌&&◌, is_none, flat_map, suc, ◌+◌, ◌-◌, List, [], ◌∷◌, ◌++◌, length, take, take_at, Option, None, Some, append_assoc, append-nil, length-append, ap, sym, ◌∙◌, arith, subst, inl, slice_get, zero, refl}
+use Rattle.std.proofs.Common.{◌≡◌, ℕ, Bool, true, false, ◌==◌, is_none, flat_map, suc, ◌+◌, ◌-◌, List, [], ◌∷◌, ◌++◌, length, take, take_at, Option, None, Some, append_assoc, append-nil, length-append, ap, sym, ◌∙◌, arith, subst, inl, slice_get, zero, refl}
 use Rattle.std.specs.List.{AllByRecursion}
 use Rattle.std.proofs.lemmas.Bool.{and_parts}
 use Rattle.std.proofs.lemmas.Bool.Decides.{nat_tests}
 use Rattle.std.proofs.lemmas.Grind.{common_steps}
 use Rattle.langtag_scan.specs.Ends.{HasEnds, ends_of, to_variants}
 use Rattle.langtag_scan.specs.Parts.{language_part, variants_part}
-use Rattle.langtag_scan.specs.Record.{EachRecord, Extension, PrivateUse, Record, IsWellFormed, Spells, extension_flat, one_flat, private_part_flat, spell}
+use Rattle.langtag_scan.specs.Record.{EachRecord, Record, IsWellFormed, Spells, extension_flat, one_flat, private_part_flat, spell}
 use Rattle.langtag_scan.specs.declared.ends.Ends.{Ends}
 use Rattle.langtag_scan.specs.Subtags.{join}
 use Rattle.langtag_scan.specs.Tag.{IsNormal, IsTag}

@@ -1,6 +1,5 @@
 -- The tables have the rows of the lists, and a language that is written in another script in a region stands in the table with it.
-use Rattle.std.proofs.Common.{◌≡◌, ℕ, ◌<◌, true, false, Bool, cond, List, [], ◌∷◌, length, map, Option, None, Some, IsTrue, inl, refl, arith, ◌&&◌, ◌||◌, not, ap, sym, ◌∙◌, ◌≤◌, length-append, append-nil, ◌++◌, find}
-use Rattle.std.specs.Prelude.{IfSome}
+use Rattle.std.proofs.Common.{◌≡◌, ℕ, ◌<◌, true, false, Bool, cond, List, [], ◌∷◌, length, map, Option, None, Some, IsTrue, inl, refl, arith, ◌&&◌, ◌||◌, not, ap, sym, ◌∙◌, ◌≤◌, append-nil, ◌++◌, find}
 use Rattle.std.specs.List.{list_all}
 use Rattle.std.specs.Option.{option_map_or, option_map}
 use Rattle.std.specs.Str.{bytes_eq}
@@ -12,9 +11,8 @@ use Rattle.langtag_scan.specs.Class.{is_letter, is_digit, is_primary, is_script,
 use Rattle.langtag_scan.specs.Record.{Record, IsWellFormed, Spells, spell}
 use Rattle.langtag_scan.specs.Subtags.{subtags}
 use Rattle.langtag_scan.specs.Tag.{IsTag, IsNormal}
-use Rattle.langtag_likely.proofs.AddedTwice.{either_way, found_row}
+use Rattle.langtag_likely.proofs.AddedTwice.{found_row}
 use Rattle.langtag_parent.specs.ParentLocales.{parent_locales}
-use Rattle.langtag_parent.specs.Rows.{Row, row_for}
 use Rattle.langtag_parent.specs.declared.tables.TheConstants.{PARENT_LOCALES, SCRIPTED_LANGUAGES}
 use Rattle.std.proofs.lemmas.Bool.Decides.{nat_tests}
 use Rattle.std.proofs.lemmas.List.{map-append}

@@ -19,15 +19,13 @@ use Rattle.langtag_tables.proofs.Letters.{primary_length}
 use Rattle.langtag.specs.Edit.{base_record, with_region, with_script}
 use Rattle.langtag.specs.Fields.{Fields}
 use Rattle.langtag.proofs.Alike.{alike_is}
-use Rattle.langtag_likely.specs.Likely.{likely_for, or_else}
-use Rattle.langtag_likely.specs.LikelySubtags.{likely_subtags}
 use Rattle.langtag_parent.specs.Parent.{IsParent, fields_text, is_base, is_empty, is_likely_script, likely_of, other_script, parent_in_script, parent_of, parent_of_region, parent_of_script, plain_parent, stated_or, unless_alike, usual_parent, without_last_variant, stated}
 use Rattle.langtag_parent.specs.ParentLaws.{AddsNothing, IsInOneScript, IsKeptOrListed, IsListed, IsWrittenAs, script_of, EndsWithin}
 use Rattle.langtag_parent.specs.ParentLocales.{parent_locales}
 use Rattle.langtag_parent.specs.Plain.{IsPlain}
 use Rattle.langtag_parent.specs.Rows.{row_for}
 use Rattle.langtag_parent.proofs.Cuts.{base_parts, empty-nil, region_well, script_well, variant_well, plain_is}
-use Rattle.langtag_parent.proofs.OtherScript.{record_of, simple_spelled, Stands, in_region, listed, other_stands, region_two, scripted, is_simple, simple_record}
+use Rattle.langtag_parent.proofs.OtherScript.{record_of, simple_spelled, Stands, listed, other_stands, region_two, scripted, is_simple, simple_record}
 use Rattle.langtag_parent.proofs.ListedParents.{listed_parent, parents, is_one, no_other_script}
 use Rattle.std.specs.Option.{option_map_or}
 use Rattle.std.specs.Cmp.Lexicographic.{bytes_decides}
