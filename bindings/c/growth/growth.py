@@ -21,15 +21,13 @@ from typing import NamedTuple
 FEW = 5000  # instructions that a call may take for a text of any length
 MOST = 2.2
 TIMES = 3  # the factor by which a call may take more instructions for each byte than LIMITS has
-# The cases that are known and documented to be quadratic. They have more than 1,152 repeated variants, or variants with prefixes, or
-# variants, attributes of u or variants of t, which are sorted. Or many ranges of a header would find a tag that a range of weight 0
-# excludes.
+# The cases that are known and documented to be quadratic. They have more than 1,152 repeated variants, or variants, attributes of u or
+# variants of t, which are sorted. Or many ranges of a header would find a tag that a range of weight 0 excludes.
 SQUARES = {
     ("repeats", "variants"): 3,
     ("repeats", "many_variants"): 4.4,
     ("repeated_variant", "variants"): 3,
     ("repeated_variant", "many_variants"): 4.4,
-    ("misplaced_variant", "prefixed"): 4.4,
     ("best_for_header", "refused"): 4.4,
     ("extensions_form", "attributes"): 4.4,
     ("extensions_form", "transformed"): 4.4,

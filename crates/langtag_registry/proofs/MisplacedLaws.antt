@@ -1,10 +1,11 @@
 -- The walk over the variants of a tag and what stands before each, and the walk over the prefixes of a variant.
-use Rattle.langtag_scan.proofs.Prelude.{◌≡◌, ℕ, ◌+◌, ◌≤◌, true, false, cond, List, [], ◌∷◌, ◌++◌, length, take, None, Some, ap, sym, ◌∙◌, append_assoc, arith, ◌<◌, ◌==◌, Bool, get_or, map, drop, refl, flat_map, slice_range, list_any, length-map, get_or-map, at_drop_more, common_steps}
+use Rattle.langtag_scan.proofs.Prelude.{◌≡◌, ℕ, ◌+◌, ◌≤◌, true, false, cond, List, [], ◌∷◌, ◌++◌, length, take, None, Some, ap, sym, ◌∙◌, append_assoc, arith, ◌<◌, ◌==◌, Bool, get_or, map, drop, refl, flat_map, slice_range, list_any, length-map, get_or-map, replicate, zero, suc, at_drop_more, and_parts, common_steps}
 use Rattle.std.proofs.lemmas.List.{append-nil}
-use Rattle.langtag_scan.proofs.Grammar.{ends_of, Record, Spells, spell, one_flat, extension_flat, private_part_flat, join, IsNormal, are_alike, folded_number, are_alphanumeric}
-use Rattle.langtag_scan.proofs.Joins.{take-join, length-join-append}
+use Rattle.langtag_scan.proofs.Grammar.{ends_of, Record, Spells, spell, one_flat, extension_flat, private_part_flat, join, segments, subtags, IsNormal, are_alike, folded_number, are_alphanumeric}
+use Rattle.langtag_scan.proofs.Joins.{join-append, take-join, length-join-append}
+use Rattle.langtag_scan.proofs.SubtagLists.{slice_split-append}
 use Rattle.langtag_registry.specs.Prefix.{fits_after, up_to, misplaced, misplaced_after, some_matches}
-use Rattle.langtag_range.specs.Extended.{test_extended}
+use Rattle.langtag_range.specs.Extended.{match_subtags, stand_among, test_extended, without_stars}
 use Rattle.langtag_fields.specs.Entry.{Entry, values_for}
 use Rattle.langtag_fields.specs.Subtags.{variant_prefixes}
 use Rattle.langtag_scan.proofs.FoldedNumbers.{folded_number-tells}
@@ -56,14 +57,52 @@ module _ (r : Record) (end : ℕ) (left : List (List ℕ)) (walked : IsWalked r 
     pub walk_later : (text : List ℕ) → text ≡ v → fits_after (take end (spell r)) v ≡ true → IsWalked r (end + (1 + length text)) rest
     walk_later text same is = grind (arith, common_steps, turn, append_assoc walked.before (v ∷ []) rest, length-join-append, spell-up_to, append-nil)
 
+    -- the text before the next variant
+    pub text_later : (text : List ℕ) → text ≡ v → take (end + (1 + length text)) (spell r) ≡ take end (spell r) ++ 45 ∷ v
+    text_later text same =
+        let here = take-join r.primary (others r walked.before ++ v ∷ []) (rest_of r rest) in
+        grind (
+          arith,
+          common_steps,
+          text_here,
+          here,
+          spell-up_to r walked.before,
+          spell-cut r walked.before left walked.cut,
+          join-append r.primary (others r walked.before) (v ∷ []),
+          append_assoc (others r walked.before) (v ∷ []) (rest_of r rest),
+          append-nil,
+        )
+
+-- ---- what matches a text matches a longer one
+
+stand_among-more : (wanted subtags more : List (List ℕ)) → stand_among wanted subtags ≡ true → stand_among wanted (subtags ++ more) ≡ true
+stand_among-more [] subtags more stands = refl
+stand_among-more (w ∷ ws) [] more stands = absurd cc
+stand_among-more (w ∷ ws) (s ∷ ss) more stands = grind (arith, common_steps, stand_among-more ws ss more, stand_among-more (w ∷ ws) ss more)
+
+match_subtags-more : (range subtags more : List (List ℕ)) → match_subtags range subtags ≡ true → match_subtags range (subtags ++ more) ≡ true
+match_subtags-more [] subtags more matches = absurd cc
+match_subtags-more (first ∷ others) [] more matches = absurd cc
+match_subtags-more (first ∷ others) (s ∷ ss) more matches = grind (arith, common_steps, stand_among-more (without_stars others) ss more, and_parts)
+
+pub test_extended-more : (prefix text rest : List ℕ) → test_extended prefix text ≡ true → test_extended prefix (text ++ 45 ∷ rest) ≡ true
+test_extended-more prefix [] rest matches = match_subtags-more (subtags prefix) [] (subtags (45 ∷ rest)) matches
+test_extended-more prefix (b ∷ text) rest matches =
+    rw (slice_split-append (b ∷ text) rest) (match_subtags-more (subtags prefix) (segments (b ∷ text)) (segments rest) matches)
+
 -- ---- the text
 
 pub some_record : (text : List ℕ) → IsNormal text → (r : Record) × Spells r text
 unfolding IsNormal
 some_record text normal = normal
 
-pub take_spelled : (r : Record) (text cut : List ℕ) (end : ℕ) → spell r ≡ text → cut ≡ slice_range text 0 end → take end (spell r) ≡ cut
-take_spelled r text cut end spelled is = grind (arith, common_steps)
+pub take_sliced : (whole text cut : List ℕ) (end : ℕ) → whole ≡ text → cut ≡ slice_range text 0 end → take end whole ≡ cut
+take_sliced whole text cut end same is = grind (arith, common_steps)
+
+pub unmarked : (n index : ℕ) → get_or (replicate n false) index false ≡ false
+unmarked zero index = refl
+unmarked (suc n) zero = refl
+unmarked (suc n) (suc index) = unmarked n index
 
 -- ---- two lists of which something is the same
 

@@ -1,11 +1,12 @@
 //! Variants and extended languages that follow none of their prefixes (RFC 5646 section 3.1.8).
-ghost use Rattle.std.specs.Prelude.{◌≡◌};
+ghost use Rattle.std.specs.Prelude.{◌≡◌, [], get_or};
 ghost use Rattle.std.specs.Option.{option_map};
 ghost use Rattle.langtag_scan.specs.Record.{EachRecord};
 ghost use Rattle.langtag_language.specs.Text.{extended_lang_tag_text};
 ghost use Rattle.langtag_place.specs.Text.{variant_text};
 ghost use Rattle.langtag.specs.Text.{normal_lang_tag_text};
 ghost use Rattle.langtag_range.specs.Extended.{test_extended};
+ghost use Rattle.langtag_registry.specs.Matching.{AreMatching, prefixes};
 ghost use Rattle.langtag_registry.specs.Prefix as spec;
 
 use langtag::NormalLangTag;
@@ -15,13 +16,15 @@ use langtag_place::Variant;
 use langtag_range::matches_extended;
 use langtag_scan::folded_number;
 
+/// How many prefixes a walk over variants remembers, by their index: more than the registry has.
+const REMEMBERED: usize = 512;
+
 /// Returns the first variant of a tag that follows none of its prefixes (the field Prefix, RFC 5646 section 3.1.8).
 /// Such a variant is `nedis` in `fr-nedis`, because its prefix is `sl`, and `1994` in `sl-1994-rozaj`, because its
 /// prefix is `sl-rozaj`. Returns `None` for `sl-IT-nedis`, and for `fr-fonipa`, because `fonipa` has no prefix.
 ///
 /// A prefix is compared with the subtags before the variant by extended filtering (RFC 4647 section 3.3.2). The RFC
-/// only recommends prefixes, so a tag may be valid without them. It does not allocate. The time may be quadratic in the
-/// number of variants.
+/// only recommends prefixes, so a tag may be valid without them. It does not allocate.
 ///
 /// ```
 /// use langtag::NormalLangTag;
@@ -34,8 +37,9 @@ pub fn misplaced_variant<'a>(tag: NormalLangTag<'a>) -> Option<Variant<'a>>
     ensures { EachRecord (normal_lang_tag_text tag.entry) (λ r. option_map variant_text result ≡ spec.misplaced r) }
 {
     let mut end = tag.ends().region;
+    let mut matching = [false; REMEMBERED];
     for variant in tag.variants().iter() {
-        if !fits_after(&tag.as_str()[..end], variant) {
+        if !fits_after(&tag.as_str()[..end], variant, &mut matching) {
             return Some(variant);
         }
         end += 1 + variant.as_str().len();
@@ -70,21 +74,43 @@ pub fn misplaced_extlang<'a>(tag: NormalLangTag<'a>) -> Option<ExtendedLangTag<'
 }
 
 /// Returns whether a variant may follow the string before it: one of its prefixes matches this string, or it has no
-/// prefix.
-fn fits_after(before: &str, variant: Variant<'_>) -> bool
-    ensures { result ≡ spec.fits_after before.now (variant_text variant.entry) }
+/// prefix. `matching` says which prefixes are known to match it, by their index.
+fn fits_after(before: &str, variant: Variant<'_>, matching: &mut [bool]) -> bool
+    requires { AreMatching matching.old before.now }
+    ensures fits { result ≡ spec.fits_after before.now (variant_text variant.entry) }
+    ensures matching { AreMatching matching.new before.now }
 {
     let number = folded_number(variant.as_bytes());
+    let prefixes = variant_prefixes();
     let mut has_none = true;
-    for (key, prefix) in variant_prefixes() {
-        if number == *key {
-            if matches_prefix(prefix, before) {
+    let mut index = 0;
+    while index < prefixes.len() {
+        let (key, prefix) = prefixes[index];
+        if number == key {
+            if matches_at(index, prefix, before, matching) {
                 return true;
             }
             has_none = false;
         }
+        index += 1;
     }
     has_none
+}
+
+/// Returns whether the prefix at an index matches the string before a variant by extended filtering. A prefix that matches
+/// this string also matches a longer one, so a walk over variants remembers it, and asks long strings only a few times.
+fn matches_at(index: usize, prefix: &str, before: &str, matching: &mut [bool]) -> bool
+    requires prefix { prefix.now ≡ get_or prefixes index [] }
+    requires matching { AreMatching matching.old before.now }
+    ensures test { result ≡ test_extended prefix.now before.now }
+    ensures matching { AreMatching matching.new before.now }
+{
+    if index >= matching.len() {
+        return matches_prefix(prefix, before);
+    }
+    let is_matching = matching[index] || matches_prefix(prefix, before);
+    matching[index] = is_matching;
+    is_matching
 }
 
 /// Returns whether a prefix matches the string before a variant by extended filtering.

@@ -9,6 +9,9 @@ use crate::erased::range::matches_extended;
 use crate::erased::scan::folded_number;
 use crate::erased::tag::NormalLangTag;
 
+/// How many prefixes a walk over variants remembers, by their index: more than the registry has.
+const REMEMBERED: usize = 512;
+
 /// Returns the first variant of a tag that follows none of its prefixes (the field Prefix, [RFC
 /// 5646 section 3.1.8]). Such a variant is `nedis` in `fr-nedis`, because its prefix is `sl`, and
 /// `1994` in `sl-1994-rozaj`, because its prefix is `sl-rozaj`. Returns `None` for `sl-IT-nedis`,
@@ -16,7 +19,7 @@ use crate::erased::tag::NormalLangTag;
 ///
 /// A prefix is compared with the subtags before the variant by extended filtering ([RFC 4647
 /// section 3.3.2]). The RFC only recommends prefixes, so a tag may be valid without them. It does
-/// not allocate. The time may be quadratic in the number of variants.
+/// not allocate.
 ///
 /// ```
 /// # fn main() -> Result<(), Box<dyn std::error::Error>> {
@@ -37,8 +40,9 @@ use crate::erased::tag::NormalLangTag;
 #[must_use]
 pub fn misplaced_variant<'a>(tag: NormalLangTag<'a>) -> Option<Variant<'a>> {
     let mut end = tag.ends().region;
+    let mut matching = [false; REMEMBERED];
     for variant in tag.variants().iter() {
-        if !fits_after(&tag.as_str()[..end], variant) {
+        if !fits_after(&tag.as_str()[..end], variant, &mut matching) {
             return Some(variant);
         }
         end += 1 + variant.as_str().len();
@@ -80,19 +84,36 @@ pub fn misplaced_extlang<'a>(tag: NormalLangTag<'a>) -> Option<ExtendedLangTag<'
 }
 
 /// Returns whether a variant may follow the string before it: one of its prefixes matches this
-/// string, or it has no prefix.
-fn fits_after(before: &str, variant: Variant<'_>) -> bool {
+/// string, or it has no prefix. `matching` says which prefixes are known to match it, by their
+/// index.
+fn fits_after(before: &str, variant: Variant<'_>, matching: &mut [bool]) -> bool {
     let number = folded_number(variant.as_bytes());
+    let prefixes = variant_prefixes();
     let mut has_none = true;
-    for (key, prefix) in variant_prefixes() {
-        if number == *key {
-            if matches_prefix(prefix, before) {
+    let mut index = 0;
+    while index < prefixes.len() {
+        let (key, prefix) = prefixes[index];
+        if number == key {
+            if matches_at(index, prefix, before, matching) {
                 return true;
             }
             has_none = false;
         }
+        index += 1;
     }
     has_none
+}
+
+/// Returns whether the prefix at an index matches the string before a variant by extended
+/// filtering. A prefix that matches this string also matches a longer one, so a walk over variants
+/// remembers it, and asks long strings only a few times.
+fn matches_at(index: usize, prefix: &str, before: &str, matching: &mut [bool]) -> bool {
+    if index >= matching.len() {
+        return matches_prefix(prefix, before);
+    }
+    let is_matching = matching[index] || matches_prefix(prefix, before);
+    matching[index] = is_matching;
+    is_matching
 }
 
 /// Returns whether a prefix matches the string before a variant by extended filtering.
