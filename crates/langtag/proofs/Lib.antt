@@ -3,6 +3,7 @@ pub mod PartRules
 pub mod SingletonRepeats
 pub mod KeptFound
 pub mod RegisteredLaws
+pub mod OrderLaws
 mod RefusalLaws
 pub mod Alike
 pub mod FieldClasses

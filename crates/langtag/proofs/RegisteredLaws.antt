@@ -1,8 +1,8 @@
--- The variants of `GrandfatheredLangTag` and `GRANDFATHERED`, their order, and the irregular tags, beside the table of registered tags.
-use Rattle.langtag_scan.proofs.Prelude.{◌≡◌, ◌↔◌, ℕ, true, Bool, IsTrue, List, [], length, take, slice_get, Some, ap, ◌∙◌, arith, ◌<◌, ◌≤◌, false, cond, ltb, map, get_or, Option, None, refl, sym, subst, option_map, ◌==◌, list_any, position, position_or_len, Any-from_list_any, list_any_at, slice_get_read, slice_get_within, get_or_from_slice_get, slice_get-get_or, slice_get-map, common_steps, option_map_or, lt-ltb, cases_lt, both_ways, get_or-map, position-Some, fails_before_first, Fits-of_lt}
-use Rattle.std.proofs.Common.{Decides, zero-add, bytes_eq, nat_cmp}
+-- The variants of `GrandfatheredLangTag` and `GRANDFATHERED`, and the irregular tags, beside the table of registered tags.
+use Rattle.langtag_scan.proofs.Prelude.{◌≡◌, ◌↔◌, ℕ, true, Bool, IsTrue, List, [], length, take, slice_get, Some, ap, ◌∙◌, arith, ◌<◌, ◌≤◌, false, cond, ltb, map, get_or, Option, None, refl, sym, subst, option_map, list_any, position, position_or_len, Any-from_list_any, list_any_at, slice_get_read, slice_get_within, get_or_from_slice_get, slice_get-get_or, slice_get-map, common_steps, option_map_or, lt-ltb, cases_lt, both_ways, get_or-map, position-Some, fails_before_first}
+use Rattle.std.proofs.Common.{Decides, zero-add, bytes_eq}
 use Rattle.std.specs.List.{range_with_len}
-use Rattle.langtag_scan.proofs.Grammar.{Alike, are_alike, fold_byte, fold_text, EndsFirst, case_cmp, are_alike-decides, irregular_texts, Grandfathered, grandfathered_tags, IsIrregular, IsIrregularAt, IsNormal, IsTag, IsIrregularPrefix, is_letter, is_primary, EachRecord, segments}
+use Rattle.langtag_scan.proofs.Grammar.{Alike, are_alike, fold_byte, fold_text, are_alike-decides, irregular_texts, Grandfathered, grandfathered_tags, IsIrregular, IsIrregularAt, IsNormal, IsTag, IsIrregularPrefix, is_letter, is_primary, EachRecord, segments}
 use Rattle.std.proofs.lemmas.List.FromFn.{get_or-range_with_len}
 use Rattle.langtag_scan.proofs.CaseLaw.{alike_tag}
 use Rattle.langtag_scan.proofs.NormalTexts.{spelled_segments}
@@ -12,17 +12,6 @@ use Rattle.langtag.specs.declared.grandfathered.GrandfatheredLangTag.{Grandfathe
 use Rattle.langtag.specs.declared.grandfathered.GrandfatheredLangTag.TheVariants.{EnGbOed}
 use Rattle.langtag.specs.declared.grandfathered.TheConstants.{GRANDFATHERED}
 use Rattle.langtag.specs.Registered.{index_of, text_of, language_of, IsGrandfatheredAt, IsGrandfathered}
-use denote.Enum.Declared.{tag_of}
-use Rattle.std.specs.Hash.{usize}
-use Rattle.std.specs.declared.cmp.Ordering.TheVariants.{Greater}
-use Rattle.langtag_scan.proofs.Ascii.{IsAscii-tag}
-use Rattle.langtag_scan.proofs.CaseOrder.{case_cmp-ends_first}
-use Rattle.langtag_scan.proofs.TagLaws.{tag_normal}
-use Rattle.langtag.specs.contracts.grandfathered.GrandfatheredLangTag.{the_type}
-use Rattle.langtag.specs.Order.{TagsCompareByIndex}
-use Rattle.langtag.specs.contracts.grandfathered.GrandfatheredLangTagHash.TheImpl as tag_hash
-use Rattle.langtag.specs.contracts.grandfathered.GrandfatheredLangTagOrd.TheImpl as tag_order
-use Rattle.langtag.specs.contracts.grandfathered.GrandfatheredLangTagPartialEq.TheImpl as tag_equality
 
 -- some irregular tag has a property exactly where one passes the test that decides it
 module _ (test : List ℕ → Bool) (P : List ℕ → Type 0) (decides : (name : List ℕ) → Decides (test name) (P name)) where
@@ -189,29 +178,3 @@ registered_primary tag r spells = by_index (ltb (index_of tag) 17) (irregular_at
         language_of tag ≡ cond is_irregular None (first_subtag (text_of tag)) → language_of tag ≡ Some r.primary
     by_index true at language = absurd (normal_no_irregular (text_of tag) (r, spells) (index_of tag, (text_of tag, at, refl)))
     by_index false at language = language ∙ ap (λ ss. slice_get ss 0) (ap segments (sym spells.1) ∙ spelled_segments r spells.0)
-
--- ---- the derived comparisons of the grandfathered tags, and the order of tags of which one begins the other
-
--- what a derived comparison reads of a variant is its index
-tag_of-index : (tag : GrandfatheredLangTag) → tag_of the_type tag ≡ index_of tag
-tag_of-index tag = at_member (tag_of the_type) index_of GRANDFATHERED (index_of tag) tag (listed tag) refl
-
-pub equal : (a b : GrandfatheredLangTag) → tag_equality.eq-value.it a b ≡ (index_of a == index_of b)
-equal a b = ap (λ n. n == tag_of the_type b) (tag_of-index a) ∙ ap (λ n. index_of a == n) (tag_of-index b)
-
-ordered : (a b : GrandfatheredLangTag) → tag_order.cmp-value.it a b ≡ nat_cmp (index_of a) (index_of b)
-ordered a b = grind (arith, common_steps, at_member, listed)
-
--- and what it feeds to a hasher
-hashed : (tag : GrandfatheredLangTag) → tag_hash.hash_input-value.it tag ≡ usize (index_of tag)
-hashed tag = at_member tag_hash.hash_input-value.it (λ t. usize (index_of t)) GRANDFATHERED (index_of tag) tag (listed tag) refl
-
-pub tags_compare : TagsCompareByIndex
-tags_compare = record { equal = equal; ordered = ordered; hashed = hashed }
-
--- a tag that begins another, but for case, and ends first is the greater
-pub tag_ends_first : (t u : List ℕ) → IsTag u → EndsFirst t u → case_cmp t u ≡ Greater
-tag_ends_first t u tag ends = grind (arith, common_steps, IsAscii-tag u tag, case_cmp-ends_first t u, Fits-of_lt)
-
-pub normal_ends_first : (t u : List ℕ) → IsNormal u → EndsFirst t u → case_cmp t u ≡ Greater
-normal_ends_first t u normal ends = tag_ends_first t u (tag_normal u normal) ends

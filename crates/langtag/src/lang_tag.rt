@@ -222,7 +222,7 @@ impl<'a> LangTag<'a> {
     /// LangTag::new("zh-Hant")?.eq_str("ZH-hant"); // true
     /// LangTag::new("zh-Hant")?.eq_str("zh_Hant"); // false
     /// ```
-    #[tactic(auto, using(langtag_scan::proofs::CaseOrder::bytes_ends_first, crate::proofs::RegisteredLaws::tag_ends_first, crate::proofs::KeptFound::alike_laws))]
+    #[tactic(auto, using(langtag_scan::proofs::CaseOrder::bytes_ends_first, crate::proofs::OrderLaws::tag_ends_first, crate::proofs::KeptFound::alike_laws))]
     pub fn eq_str(&self, other: &str) -> bool
         ensures test { result ≡ are_alike (lang_tag_text self.now) other.now }
         // law: equal texts, ignoring case, are of the same kind

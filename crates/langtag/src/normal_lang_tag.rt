@@ -189,7 +189,7 @@ impl<'a> NormalLangTag<'a> {
     ///
     /// NormalLangTag::new("sl-IT")?.eq_str("SL-it"); // true
     /// ```
-    #[tactic(auto, using(langtag_scan::proofs::CaseOrder::bytes_ends_first, crate::proofs::RegisteredLaws::normal_ends_first, crate::proofs::KeptFound::alike_laws))]
+    #[tactic(auto, using(langtag_scan::proofs::CaseOrder::bytes_ends_first, crate::proofs::OrderLaws::normal_ends_first, crate::proofs::KeptFound::alike_laws))]
     pub fn eq_str(&self, other: &str) -> bool
         ensures test { result ≡ are_alike (normal_lang_tag_text self.now) other.now }
         // law: equal texts, ignoring case, have equal parts at the same offsets

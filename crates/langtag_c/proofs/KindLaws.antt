@@ -31,11 +31,6 @@ pub irregular_left : (t : List ℕ) → IsTag t → (IsNormal t → ⊥) → (Is
 unfolding IsTag
 irregular_left t tag no_normal no_private = grind (arith, nat_tests)
 
--- ---- what the recogniser's answer says of a text, for the functions that hand it on
-
-pub ruleset parse_laws =
-    (kind_none, kind_normal, kind_private, kind_irregular, irregular_left, spans_parts, tag_found, normal_found, private_found, tag_normal, tag_private, normal_spelled, normal_from_ends, ends_ordered, normal_no_private, ends_each, ends_whole)
-
 -- ---- the number that answers for the kind of a language range
 
 pub kind_no_range : (text : List ℕ) → is_language_range text ≡ false → IsRangeKind text 0
@@ -68,3 +63,8 @@ spans_parts text ends h r spells =
       extensions = between_text text ends.variants ends.extensions order.extensions ∙ extensions_found text ends h r spells;
       private_use = between_text text ends.extensions ends.whole order.private_use ∙ ap (λ o. unwrap_or o []) (private_use_found text ends h r spells);
     }
+
+-- ---- what the recogniser's answer says of a text, for the functions that hand it on
+
+pub ruleset parse_laws =
+    (kind_none, kind_normal, kind_private, kind_irregular, irregular_left, spans_parts, tag_found, normal_found, private_found, tag_normal, tag_private, normal_spelled, normal_from_ends, ends_ordered, normal_no_private, ends_each, ends_whole)

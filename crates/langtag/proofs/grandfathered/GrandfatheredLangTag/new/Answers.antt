@@ -1,6 +1,7 @@
 use Rattle.langtag_scan.proofs.Prelude.{arith, ◌∙◌, common_steps}
 use Rattle.langtag.specs.Registered.{IsGrandfathered}
-use Rattle.langtag.proofs.RegisteredLaws.{tags_compare, first_alike_found, grandfathered_tag, listed, none_alike, one_index}
+use Rattle.langtag.proofs.OrderLaws.{tags_compare}
+use Rattle.langtag.proofs.RegisteredLaws.{first_alike_found, grandfathered_tag, listed, none_alike, one_index}
 use Rattle.langtag.proofs.grandfathered.GrandfatheredLangTag.new.Goals as goal
 
 pub returns-in-Some : goal.returns-in-Some

@@ -1,7 +1,7 @@
 use Rattle.std.proofs.Common.{refl}
 use Rattle.langtag.specs.Compared.{TypedLangTagsCompareByKind}
 use Rattle.langtag.specs.declared.typed_lang_tag.TypedLangTag.TheVariants.{Normal, PrivateUse, Grandfathered}
-use Rattle.langtag.proofs.RegisteredLaws.{equal}
+use Rattle.langtag.proofs.OrderLaws.{equal}
 use Rattle.langtag.proofs.typed_lang_tag.TypedLangTag.kind.Goals as goal
 
 by_kind : TypedLangTagsCompareByKind
