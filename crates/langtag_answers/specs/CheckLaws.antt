@@ -9,7 +9,7 @@ use Rattle.langtag_scan.proofs.SpelledTexts.{normal_spelled}
 use Rattle.langtag_scan.proofs.TagLaws.{tag_normal}
 use Rattle.langtag_registry.specs.Fault.{Told, faults}
 use Rattle.langtag_registry.specs.Valid.{IsValid}
-use Rattle.langtag_registry.proofs.TwiceLaws.{one_form}
+use Rattle.langtag_registry.proofs.OneForm.{one_form}
 use Rattle.langtag_answers.specs.CheckAnswer.{fault_text, IsCheckAnswer, valid, invalid, refused}
 
 valid_tag : (line : List ℕ) → IsValid line → IsTag line

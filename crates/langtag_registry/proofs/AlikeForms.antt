@@ -7,7 +7,8 @@ use Rattle.langtag_registry.specs.Canonical.{in_order, canonical_primary, canoni
 use Rattle.langtag_fields.specs.Fields.{preferred_region, preferred_variant, preferred_tag}
 use Rattle.langtag_fields.specs.Subtags.{tag_preferred}
 use Rattle.langtag_registry.proofs.ReplacedSubtags.{replaced-alike, IgnoresCase, language-alike, region-alike, variant-alike, extlang-alike, replaced, IsSettled, language_settled, region_settled, variant_settled, extlang_cases}
-use Rattle.langtag_registry.proofs.TwiceLaws.{Way, as_whole, as_it_is, by_parts, way_of, itself}
+use Rattle.langtag_registry.proofs.OneForm.{Way, as_whole, as_it_is, by_parts, way_of}
+use Rattle.langtag_registry.proofs.TwiceLaws.{itself}
 use Rattle.langtag_registry.proofs.ExtensionOrder.{key, sorted_by-map, keys_of, in_order-risen, rises_from_in_order}
 use Rattle.langtag_registry.proofs.CanonicalParts.{record_stays, parts_stay, own_record, kept_form, preferred_goes}
 use Rattle.langtag_fields.proofs.Values.{value_for-alike, registered_extlang-alike, preferred_tag-alike}

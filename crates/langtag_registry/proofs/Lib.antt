@@ -1,4 +1,5 @@
 pub mod FaultLaws
+pub mod OneForm
 pub mod TwiceLaws
 pub mod ValidForms
 pub mod AlikeForms

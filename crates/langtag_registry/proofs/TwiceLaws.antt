@@ -1,16 +1,15 @@
 -- A text has one canonical form, which is well-formed and its own canonical form.
-use Rattle.langtag_scan.proofs.Prelude.{◌≡◌, ℕ, ◌≤◌, ◌⊎◌, List, [], length, IsTrue, arith, true, Bool, not, ◌&&◌, ◌∷◌, Option, None, Some, is_some, unwrap_or, inl, inr, refl, sym, ap, subst, ◌∙◌, rules, AllByRecursion, list_all, position, common_steps, option_map_or, and_parts}
-use Rattle.langtag_scan.proofs.Grammar.{is_primary, is_extended, Record, IsWellFormed, IsWellFormedExtension, Spells, spell, EachRecord, fold_byte, are_alike, IsNormal}
+use Rattle.langtag_scan.proofs.Prelude.{◌≡◌, ℕ, ◌≤◌, ◌⊎◌, List, [], length, IsTrue, arith, true, Bool, not, ◌&&◌, ◌∷◌, Option, None, Some, is_some, unwrap_or, refl, sym, ap, subst, ◌∙◌, rules, AllByRecursion, list_all, common_steps, option_map_or, and_parts}
+use Rattle.langtag_scan.proofs.Grammar.{is_primary, is_extended, Record, IsWellFormed, IsWellFormedExtension, Spells, spell, EachRecord, fold_byte, IsNormal}
+use Rattle.langtag_registry.proofs.OneForm.{Way, as_whole, as_it_is, by_parts, way_of}
 use Rattle.langtag_registry.specs.Canonical.{canonical_primary, canonical_extended, canonical_record, canonical_variants, IsCanonicalForm}
 use Rattle.langtag_fields.specs.Fields.{preferred_region, preferred_variant, preferred_language, preferred_tag}
 use Rattle.langtag_tables.proofs.Letters.{extended_primary}
 use Rattle.langtag_registry.proofs.ExtensionOrder.{in_order-each, in_order-twice, in_order-risen}
 use Rattle.langtag_fields.proofs.FieldTables.{preferred_good, regions_good, variants_good}
 use Rattle.langtag_registry.proofs.ReplacedSubtags.{replaced-holds, if_some-map, each-map, new_language_short, extlang_cases, new_extlang_extended, none_from_test, replaced-twice, language_settled, region_settled, variant_settled, variants_stay}
-use Rattle.langtag_scan.proofs.NormalTexts.{spelled_once, normal_or_not}
-use Rattle.langtag.specs.Registered.{IsGrandfathered, text_of}
-use Rattle.langtag.specs.declared.grandfathered.TheConstants.{GRANDFATHERED}
-use Rattle.langtag.proofs.RegisteredLaws.{first_alike_found, none_alike}
+use Rattle.langtag_scan.proofs.NormalTexts.{spelled_once}
+use Rattle.langtag.specs.Registered.{IsGrandfathered}
 use Rattle.langtag_fields.specs.Subtags.{language_preferred, region_preferred, variant_preferred, tag_preferred}
 use Rattle.langtag_fields.proofs.Values.{value_good}
 use Rattle.langtag_fields.proofs.WholeTags.{record_of, simple_record, preferred_spelled}
@@ -82,31 +81,7 @@ preferred_itself text new is = search (rules, itself, whole_settled, preferred_s
 
 -- ---- every text
 
-is_grandfathered : (text : List ℕ) → IsGrandfathered text ⊎ (IsGrandfathered text → ⊥)
-unfolding IsGrandfathered
-is_grandfathered text = by_option (position (λ tag. are_alike (text_of tag) text) GRANDFATHERED) refl
-  where
-    by_option : (o : Option ℕ) → position (λ tag. are_alike (text_of tag) text) GRANDFATHERED ≡ o → IsGrandfathered text ⊎ (IsGrandfathered text → ⊥)
-    by_option None none = inr (none_alike text none)
-    by_option (Some k) found = inl (k, first_alike_found text k found)
-
--- the ways to a canonical form
-pub data Way (old : List ℕ) : Type 0 where
-  as_whole : (w : List ℕ) → preferred_tag old ≡ Some w → Way old
-  as_it_is : preferred_tag old ≡ None → IsGrandfathered old ⊎ (IsNormal old → ⊥) → Way old
-  by_parts : preferred_tag old ≡ None → (IsGrandfathered old → ⊥) → (r : Record) → Spells r old → Way old
-
-pub way_of : (old : List ℕ) → Way old
-unfolding IsNormal
-way_of old = by_whole (preferred_tag old) refl (is_grandfathered old) (normal_or_not old)
-  where
-    by_whole : (o : Option (List ℕ)) → preferred_tag old ≡ o → IsGrandfathered old ⊎ (IsGrandfathered old → ⊥) → IsNormal old ⊎ (IsNormal old → ⊥) → Way old
-    by_whole (Some w) is old_one normal = as_whole w is
-    by_whole None none (inl is) normal = as_it_is none (inl is)
-    by_whole None none (inr new) (inl normal) = by_parts none new normal.0 normal.1
-    by_whole None none (inr new) (inr other) = as_it_is none (inr other)
-
--- and what the canonical form is by each: that of parts may have a Preferred-Value as a whole
+-- what the canonical form is by each way: that of parts may have a Preferred-Value as a whole
 pub data Form (old new : List ℕ) : Type 0 where
   whole_form : preferred_tag old ≡ Some new → Form old new
   own_form : preferred_tag old ≡ None → IsGrandfathered old ⊎ (IsNormal old → ⊥) → new ≡ old → Form old new
@@ -128,15 +103,6 @@ form_of old new p = by_way (way_of old)
 -- what holds of one record of a text holds of each
 pub each_from_one : (P : Record → Type 0) (text : List ℕ) (r : Record) → Spells r text → P r → EachRecord text P
 each_from_one P text r spells holds q other = subst P (spelled_once r q spells.0 other.0 (spells.1 ∙ sym other.1)) holds
-
--- two canonical forms of a text are equal
-pub one_form : (old new other : List ℕ) → IsCanonicalForm old new → IsCanonicalForm old other → new ≡ other
-one_form old new other p q = by_way (way_of old)
-  where
-    by_way : Way old → new ≡ other
-    by_way (as_whole w is) = p.whole w is ∙ sym (q.whole w is)
-    by_way (as_it_is none why) = p.kept none why ∙ sym (q.kept none why)
-    by_way (by_parts none new r spells) = p.parts none new r spells ∙ sym (q.parts none new r spells)
 
 -- a canonical form is its own
 pub form_twice : (old new : List ℕ) → IsCanonicalForm old new → IsCanonicalForm new new

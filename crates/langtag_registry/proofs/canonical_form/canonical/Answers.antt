@@ -2,7 +2,8 @@ use Rattle.std.proofs.lemmas.Result.{IfOk-weaker}
 use Rattle.langtag.specs.Text.{lang_tag_text, lang_tag_buf_text}
 use Rattle.langtag_registry.proofs.AlikeForms.{alike_forms}
 use Rattle.langtag_registry.proofs.ValidForms.{no_extlang_form, valid_form, apart_form}
-use Rattle.langtag_registry.proofs.TwiceLaws.{one_form, form_twice}
+use Rattle.langtag_registry.proofs.OneForm.{one_form}
+use Rattle.langtag_registry.proofs.TwiceLaws.{form_twice}
 use Rattle.langtag_registry.proofs.canonical_form.canonical.Goals as goal
 
 pub returns-clause-one : goal.returns-clause-one
