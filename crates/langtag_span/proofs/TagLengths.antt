@@ -1,4 +1,4 @@
--- No tag is empty.
+-- No tag is empty, so a part that is set is one by its text. The texts of parts are UTF-8.
 use Rattle.langtag_keyword.proofs.Common.{◌≡◌, ℕ, ◌≤◌, true, false, List, [], ◌∷◌, drop, length, inl, inr, arith, Option, None, Some, unwrap_or, refl, nat_tests, extension_flat, length-join, of_primary, IsSubtag, of_variant, AllByRecursion, flat_map, IsUtf8, common_steps, is_extended, is_variant, join, each_subtag, option_map}
 use Rattle.std.proofs.Common.{MatchOption}
 use Rattle.langtag_scan.specs.Grandfathered.{grandfathered_tags, irregular_texts}
