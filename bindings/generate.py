@@ -5,8 +5,9 @@
     rust/c/src/exports.rs                     the functions that cargo exports to C
     bindings/c/langtag_verified.map           what the shared library exports
     bindings/c/functions.h                    lists of the functions, for programs that call each of them
-    bindings/python/native/functions.h        the same
     bindings/python/langtag/_declarations.py  the functions and structs for ctypes
+    bindings/python/langtag/_calls.py         the functions in Python, over ctypes
+    bindings/python/native/calls.c            the same in C
     bindings/js/calls.js                      the functions in JavaScript, over the memory of the WebAssembly module
     docs/CALLS.md, README.md                  the calls of each language, by task, from bindings/calls.txt
 
@@ -25,6 +26,7 @@ import sys
 import calls_page
 import check_numbers
 import interface
+import python_calls
 from interface import Function, Interface, Parameter, Struct
 from javascript import javascript
 
@@ -230,8 +232,9 @@ FILES = {
     "rust/c/src/exports.rs": exports,
     "bindings/c/langtag_verified.map": script,
     "bindings/c/functions.h": functions_for_c,
-    "bindings/python/native/functions.h": functions_for_c,
     "bindings/python/langtag/_declarations.py": python,
+    "bindings/python/langtag/_calls.py": lambda it: python_calls.in_python(it, WRITTEN),
+    "bindings/python/native/calls.c": lambda it: python_calls.in_c(it, WRITTEN),
     "bindings/js/calls.js": lambda it: javascript(it, WRITTEN),
 }
 

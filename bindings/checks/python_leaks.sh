@@ -9,9 +9,9 @@ leaks_of() {
     INCLUDE=$here/include CFLAGS=$flags native/compile "$archive" langtag/_native.abi3.so "$python" || return 1
     env -u LANGTAG_LIBRARY "$@"
 }
-lost='s/^    Py_DECREF(it.value.owner);$//'
-unfreed='s/^    if (offered->text != offered->little) PyMem_Free(offered->text);$//'
-unreleased='s/^    Py_XDECREF(pair);$//'
+lost='s/^    Py_XDECREF(text.owner);$//'
+unfreed='s/^    if (list->text != list->little) PyMem_Free(list->text);$//'
+unreleased='s/^    Py_XDECREF(item);$//'
 
 by_references() { leaks_of references "${debug:+-DPy_DEBUG}" "$header" "${debug:-$real}" leaks.py; }
 # The sources of the module, as valgrind names them.
@@ -44,7 +44,7 @@ check "Python: a lost reference is seen" seen "$lost" "edit: .* references more"
 check "Python: a keyword that is not released is seen" seen "$unreleased" "keywords: .* references more" by_references
 if has valgrind; then
     check "Python: no block is kept, by valgrind" by_blocks
-    check "Python: a block that is not freed is seen" seen "$unfreed" "choice\.c" by_blocks
+    check "Python: a block that is not freed is seen" seen "$unfreed" "list\.c" by_blocks
 else
     not_run "Python: blocks" "there is no valgrind"
 fi

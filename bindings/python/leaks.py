@@ -41,7 +41,7 @@ def values():
     made = [Tag("de-CH"), Tag(b"de"), Tag(text="en"), Tag(Tag("fr")), Range(Range("de-*")), Tag("de-" + "abcde-" * 1000 + "x-a")]
     for value in made:
         copy.deepcopy(value), weakref.ref(value)(), f"{value:>9}", value == 5, value == made[0], value != made[4]
-    sorted(made[:4]), Named("en", 2), made[0].key(), made[0]._set_keyword(b"ca", b"roc"), Lying("x-a").locale_form()
+    sorted(made[:4]), Named("en", 2), made[0].key(), Lying("x-a").locale_form()
 
 
 def choices():
@@ -56,14 +56,19 @@ def choices():
 
 def refused():
     """Makes calls that are refused: those of both backends, and those that only the C module gets."""
-    made, lying, tag = Tag.__new__(Tag), Lying("iw"), Tag("de-u-ca-roc")
+    made, lying, tag, backend = Tag.__new__(Tag), Lying("iw"), Tag("de-u-ca-roc"), langtag._backend
+    data = tag._data
+    wrong = {
+        backend.suggestion: [(), (2,), (2, 5), ("a", "ger")], backend.with_keyword: [(data, "ca"), (5, "ca", "roc"), (data, 5, "roc"), (data, "ca", 5)],
+        backend.with_part: [(data, "a", "Latn"), (data, 1, 5)], backend.keyword: [(data,), (data, 5)], backend.every_keyword: [(5,)], backend.fold: [(5,)],
+        backend.best_for_ranges: [(["de"], 5), (["de"], [5]), ([5], ["de"])], backend.suitable_for_header: [("de", [5])],
+        backend.site_best_for_ranges: [(["de"], 5), ([5], (b"", b""))],
+    }
     inside = [
         lambda: Tag(Unshown("en_")), lambda: Range(Unshown("en_")), lambda: Tag(), lambda: Tag("a", "b"), lambda: Tag(other=1), lambda: setattr(tag, "script", "Latn"),
-        lying.canonical, lying.recommended, lying.extensions_form, lying.locale_form, lambda: lying._set(1, "Latn"), lambda: lying._set_keyword("ca", "roc"),
-        lambda: tag.keyword(), lambda: tag._value_of(0), lambda: tag._pairs("u"), lambda: tag._before_keys(None), lambda: tag._set_keyword("ca"),
-        lambda: tag._set_keyword(5, "roc"), lambda: tag._set_keyword("ca", 5), lambda: made.keyword("ca"), lambda: made._pairs(0), lambda: made._before_keys(1),
-        made.extensions_form, made.locale_form, lambda: made.is_locale, lambda: made._set_keyword("ca", "roc"), lambda: made._set(1, "Latn"),
-        *(lambda wrong=wrong: langtag._backend.suggestion(*wrong) for wrong in ((), (2,), (2, 5), ("a", "ger"))),
+        lying.canonical, lying.recommended, lying.extensions_form, lying.locale_form, lambda: lying.replace(script="Latn"), lambda: tag.keyword(),
+        lambda: made.keyword("ca"), lambda: made.keywords, lambda: made.attributes, made.extensions_form, made.locale_form, lambda: made.is_locale,
+        *(functools.partial(call, *given) for call, all in wrong.items() for given in all),
     ]
     for call in inside:
         try:

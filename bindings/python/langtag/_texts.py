@@ -22,6 +22,13 @@ def wrong_type(value: object, expected: str) -> NoReturn:
     raise TypeError(f"expected {_EXPECTED[expected]}, got {type(value).__name__}")
 
 
+def not_a_tag(text: Text) -> None:
+    """Raises InvalidTag for a text that is not a tag."""
+    from . import Tag
+
+    Tag(text)
+
+
 def unchangeable(name: str) -> NoReturn:
     """Raises the error of a Tag or a Range whose __init__ is called again."""
     raise AttributeError(f"a {name} does not change")

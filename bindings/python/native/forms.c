@@ -21,12 +21,12 @@ static PyObject *tag_of(const Value *self, PyObject *owner, const Value *like) {
         Py_DECREF(owner);
         return NULL;
     }
-    made->text = (Text){owner, PyBytes_AsString(owner), PyBytes_Size(owner)};
+    made->text = (Text){owner, PyBytes_AsString(owner), (size_t)PyBytes_Size(owner)};
     if (like) {
         made->kind = like->kind;
         made->parts = like->parts;
     } else {
-        made->kind = langtag_parse(made->text.data, (size_t)made->text.len, &made->parts);
+        made->kind = langtag_parse(made->text.data, made->text.len, &made->parts);
     }
     if (made->kind) return (PyObject *)made;
     Py_DECREF((PyObject *)made); /* cannot happen, by the contract of the call that wrote the bytes */
@@ -34,105 +34,77 @@ static PyObject *tag_of(const Value *self, PyObject *owner, const Value *like) {
     return NULL;
 }
 
-PyObject *lt_recommended(PyObject *object, PyObject *unused) {
-    Value *self = (Value *)object;
-    return lt_lacks(self) ? NULL : tag_of(self, lt_changed(self, langtag_recommend), self);
-}
+typedef size_t Form(const char *bytes, size_t len, char *buffer, size_t buffer_len);
 
-/* The arguments of a call that writes another text: those that it has. */
-typedef struct {
-    const Value *self;
-    size_t (*form)(const char *bytes, size_t len, char *buffer, size_t buffer_len);
-    uint32_t part;
-    Text key, value;
-} Written;
-
-typedef size_t Write(const Written *it, const char *data, size_t len, char *buffer, size_t room);
-
-static size_t write_form(const Written *it, const char *data, size_t len, char *buffer, size_t room) { return it->form(data, len, buffer, room); }
-
-static size_t write_part(const Written *it, const char *data, size_t len, char *buffer, size_t room) {
-    return langtag_with_part(data, len, it->part, it->value.data, (size_t)it->value.len, buffer, room);
-}
-
-static size_t write_keyword(const Written *it, const char *data, size_t len, char *buffer, size_t room) {
-    if (!it->value.owner) return langtag_without_keyword(data, len, it->key.data, (size_t)it->key.len, buffer, room);
-    return langtag_with_keyword(data, len, it->key.data, (size_t)it->key.len, it->value.data, (size_t)it->value.len, buffer, room);
-}
-
-static size_t written(const Written *it, Write *write, char *buffer, size_t room) {
-    const Value *self = it->self;
-    LET_GO(self->text.len);
-    size_t wanted = write(it, self->text.data, (size_t)self->text.len, buffer, room);
+static size_t written(const Text *text, Form *form, char *buffer, size_t room) {
+    LET_GO(text->len);
+    size_t wanted = form(text->data, text->len, buffer, room);
     TAKE_BACK();
     return wanted;
 }
 
 /* Returns the Tag of the text that a call writes, or None if it writes none. The call writes into a buffer on the stack, and again if the
  * buffer was too short. */
-static PyObject *tag_by_call(const Written *it, Write *write) {
+static PyObject *formed(PyObject *object, Form *form) {
+    Value *self = (Value *)object;
     char room[192];
-    size_t wanted = written(it, write, room, sizeof room);
-    if (!wanted) return lt_none();
-    if (wanted <= sizeof room) return tag_of(it->self, PyBytes_FromStringAndSize(room, (Py_ssize_t)wanted), NULL);
-    PyObject *made = PyBytes_FromStringAndSize(NULL, (Py_ssize_t)wanted);
-    if (made) written(it, write, PyBytes_AsString(made), wanted);
-    return tag_of(it->self, made, NULL);
-}
-
-#define FORM(name, write)                                   \
-    PyObject *name(PyObject *self, PyObject *unused) {      \
-        const Written it = {.self = (Value *)self, .form = write}; \
-        return lt_lacks((Value *)self) ? NULL : tag_by_call(&it, write_form); \
-    }
-FORM(lt_canonical, langtag_canonical)
-FORM(lt_maximized, langtag_maximized)
-FORM(lt_minimized, langtag_minimized)
-FORM(lt_extensions_form, langtag_extensions_form)
-FORM(lt_locale_form, langtag_locale_form)
-FORM(lt_parent, langtag_parent)
-
-/* Returns the locale name for a tag, as a str, or None if it has none. */
-PyObject *lt_to_posix(PyObject *object, PyObject *unused) {
-    Value *self = (Value *)object;
-    char name[28];
     if (lt_lacks(self)) return NULL;
-    size_t len = langtag_to_posix(self->text.data, (size_t)self->text.len, name, sizeof name);
-    return len > 0 && len <= sizeof name ? lt_str(name, len) : lt_none();
+    size_t wanted = written(&self->text, form, room, sizeof room);
+    if (!wanted) return lt_none();
+    if (wanted <= sizeof room) return tag_of(self, PyBytes_FromStringAndSize(room, (Py_ssize_t)wanted), NULL);
+    PyObject *made = PyBytes_FromStringAndSize(NULL, (Py_ssize_t)wanted);
+    if (made) written(&self->text, form, PyBytes_AsString(made), wanted);
+    return tag_of(self, made, NULL);
 }
 
-PyObject *lt_folded(PyObject *object, PyObject *unused) {
+#define FORM(name) \
+    static PyObject *name(PyObject *self, PyObject *unused) { return formed(self, langtag_##name); }
+FORM(canonical)
+FORM(maximized)
+FORM(minimized)
+FORM(extensions_form)
+FORM(locale_form)
+
+static PyObject *recommended(PyObject *object, PyObject *unused) {
     Value *self = (Value *)object;
-    PyObject *folded = lt_lacks(self) ? NULL : lt_changed(self, langtag_fold);
-    PyObject *text = folded ? lt_str(PyBytes_AsString(folded), (size_t)self->text.len) : NULL;
+    return lt_lacks(self) ? NULL : tag_of(self, lt_changed(&self->text, langtag_recommend), self);
+}
+
+static PyObject *folded(PyObject *object, PyObject *unused) {
+    Value *self = (Value *)object;
+    PyObject *folded = lt_lacks(self) ? NULL : lt_changed(&self->text, langtag_fold);
+    PyObject *text = folded ? lt_str(PyBytes_AsString(folded), self->text.len) : NULL;
     Py_XDECREF(folded);
     return text;
 }
 
-PyObject *lt_fnv1a(PyObject *object, PyObject *unused) {
-    Value *self = (Value *)object;
-    if (lt_lacks(self)) return NULL;
-    return PyLong_FromUnsignedLongLong(langtag_hash(LANGTAG_HASH, self->text.data, (size_t)self->text.len));
-}
-
-PyObject *lt_set(PyObject *object, PyObject *arguments) {
-    Written it = {.self = (Value *)object};
-    unsigned int part;
-    PyObject *from;
-    if (lt_lacks((Value *)object) || !PyArg_ParseTuple(arguments, "IO", &part, &from) || lt_text(from, &it.value)) return NULL;
-    it.part = part;
-    PyObject *made = tag_by_call(&it, write_part);
-    Py_DECREF(it.value.owner);
-    return made;
-}
-
-/* A value that is None has no owner, and removes the keyword. */
-PyObject *lt_set_keyword(PyObject *object, PyObject *arguments) {
-    Written it = {.self = (Value *)object};
-    PyObject *key, *value, *made = NULL;
-    if (lt_lacks((Value *)object) || !PyArg_ParseTuple(arguments, "OO", &key, &value) || lt_text(key, &it.key)) return NULL;
-    if (value == Py_None || !lt_text(value, &it.value)) made = tag_by_call(&it, write_keyword);
-    Py_XDECREF(it.value.owner);
-    Py_DECREF(it.key.owner);
-    return made;
-}
+PyMethodDef lt_tag_methods[] = {
+    {"__reduce__", lt_reduce, METH_NOARGS, NULL},
+    {"__format__", lt_format, METH_O, NULL},
+    {"recommended", recommended, METH_NOARGS, "recommended($self, /)\n--\n\n"
+     "Returns the tag in the case that RFC 5646 section 2.1.1 recommends: zh-hant-tw becomes zh-Hant-TW."},
+    {"canonical", canonical, METH_NOARGS,
+     "canonical($self, /)\n--\n\n"
+     "Returns the canonical form (RFC 5646 section 4.5) by the registry of REGISTRY_DATE: iw becomes he. Replacements have the\n"
+     "registry's case, and everything else keeps its own. Step 2 is repeated after step 3: sgn-DD becomes gsg. The tag need not\n"
+     "be valid: subtags that are not registered stay."},
+    {"maximized", maximized, METH_NOARGS,
+     "maximized($self, /)\n--\n\n"
+     "Returns the tag with its likely subtags (UTS #35, part 1), by CLDR_VERSION: zh-TW becomes zh-Hant-TW. Deprecated subtags\n"
+     "stay, and get the likely subtags of their replacements: iw becomes iw-Hebr-IL. To replace them, call locale_form() first."},
+    {"minimized", minimized, METH_NOARGS,
+     "minimized($self, /)\n--\n\n"
+     "Returns the tag without its likely subtags (UTS #35, part 1): zh-Hant-TW becomes zh-TW."},
+    {"extensions_form", extensions_form, METH_NOARGS,
+     "extensions_form($self, /)\n--\n\n"
+     "Returns the tag with its extensions u and t in canonical form (UTS #35, part 1, Annex C), by CLDR_VERSION: de-u-nu-thai-ca-roc\n"
+     "becomes de-u-ca-roc-nu-thai. Each key stands once, with its first value. The rest of the tag stays."},
+    {"locale_form", locale_form, METH_NOARGS,
+     "locale_form($self, /)\n--\n\n"
+     "Returns the canonical form of the tag as a Unicode locale identifier (UTS #35, part 1, Annex C), by CLDR_VERSION: ger-UK\n"
+     "becomes de-GB, and zh-yue becomes yue. Returns None if there is none, such as for x-a."},
+    {"folded", folded, METH_NOARGS,
+     "folded($self, /)\n--\n\n"
+     "Returns the text in lowercase, which is the same for all equal tags. It is a key for stores that compare bytes, and for\n"
+     "alphabetical order, de before de-AT. All tags that begin with de- are between \"de-\" and \"de.\"."},
+    {NULL, NULL, 0, NULL}};

@@ -1,6 +1,6 @@
 /* langtag._native: the parts of the Python package that have to be fast, by the limited API of 3.8. The classes are heap types, and
  * there is no global state, so each interpreter has its own. The Python layer subclasses TagBase and RangeBase. Each subclass has
- * `_base`, which is the subclass itself, and `_error`, which is raised for a wrong text. */
+ * `_base`, which is the subclass itself, and `_error`, which is raised for a wrong text. bindings/generate.py writes calls.c. */
 #ifndef LANGTAG_NATIVE_H
 #define LANGTAG_NATIVE_H
 #ifndef Py_LIMITED_API
@@ -16,7 +16,7 @@
 typedef struct {
     PyObject *owner;
     const char *data;
-    Py_ssize_t len;
+    size_t len;
 } Text;
 
 /* A Tag or a Range. It does not change after __init__. */
@@ -30,6 +30,22 @@ typedef struct {
     langtag_parts parts; /* only of a Tag */
 } Value;
 
+/* The joined texts of a list, and their spans. They are in the arrays at the end if these are large enough. */
+typedef struct {
+    langtag_span *spans; /* NULL if the list is not open */
+    char *text;
+    size_t count, len, room;
+    langtag_span few[64];
+    char little[1024];
+} List;
+
+/* The tags of a site, which lt_prepare returns: the joined texts, and an array of langtag_prepared_tag, both as bytes. */
+typedef struct {
+    const char *text;
+    const langtag_prepared_tag *tags;
+    size_t len, count;
+} Site;
+
 /* Lets other threads run during a call on a long text. For a text of megabytes, langtag_repeats may take seconds. */
 #define LONG_TEXT 4096
 #define LET_GO(len) PyThreadState *others = (len) >= LONG_TEXT ? PyEval_SaveThread() : NULL
@@ -39,37 +55,34 @@ typedef struct {
 int lt_text(PyObject *from, Text *text);
 int lt_text_of(PyObject *from, Text *text, const char *expected); /* `expected` is "text", "tag" or "range", for the error */
 
+/* Read a list of Tags and texts of tags, and a list of texts. They return 0, or -1 with an exception. The caller has to close the list. */
+int lt_tags(PyObject *from, List *list);
+int lt_ranges(PyObject *from, List *list);
+void lt_close(List *list);
+int lt_site(PyObject *from, Site *site);
+PyObject *lt_prepare(PyObject *module, PyObject *from);
+
 /* Raises an error by a function of langtag._texts, which has the words of the errors. `expected` is its second argument, or NULL. */
 void lt_raise(const char *function, PyObject *value, const char *expected);
 
 PyObject *lt_str(const char *data, size_t len);
 PyObject *lt_none(void);
-PyObject *lt_type_name(PyObject *of);
-PyObject *lt_span(const Value *self, langtag_span span); /* None if the span is empty */
+PyObject *lt_changed(const Text *text, void (*change)(char *, size_t)); /* a changed copy of the text, as bytes */
+PyObject *lt_append(PyObject *list, PyObject *item); /* the list with the item, or NULL with an exception; takes both references over */
+PyObject *lt_numbers(const size_t *numbers, size_t count);
 
 int lt_lacks(Value *self); /* whether __init__ was not called; sets an exception in that case */
 PyTypeObject *lt_base(PyTypeObject *type); /* TagBase or RangeBase; NULL with an exception */
 PyObject *lt_new(PyTypeObject *type, PyObject *arguments, PyObject *named);
-PyObject *lt_changed(const Value *self, void (*change)(char *, size_t)); /* a changed copy of the text, as bytes */
 int lt_init(PyObject *self, PyObject *arguments, PyObject *named, int is_tag);
 int lt_tag_init(PyObject *self, PyObject *arguments, PyObject *named);
 Value *lt_as_tag(PyObject *object); /* NULL with an exception if it is not a Tag */
 bool lt_is_tag(PyObject *object);
-void lt_refuse(PyObject *class, PyObject *from); /* raises the exception of the class of tags for a text that is not a tag */
-
-/* A function of the module, or a method, as Python calls it. */
-typedef PyObject *Method(PyObject *self, PyObject *argument);
-
-/* A call that chooses among tags for a header, such as langtag_best_for_header. */
-typedef size_t Choose(const char *header, size_t header_len, const char *bytes, size_t len, const langtag_span *tags, size_t count);
+PyObject *lt_data(PyObject *self, void *unused);
+PyObject *lt_reduce(PyObject *self, PyObject *unused);
+PyObject *lt_format(PyObject *self, PyObject *form);
 
 extern PyType_Slot lt_value_slots[];
 extern PyGetSetDef lt_tag_members[], lt_range_members[];
 extern PyMethodDef lt_tag_methods[], lt_range_methods[], lt_functions[];
-Method lt_distance, lt_suggestion, lt_from_posix, lt_unknown_modifier;
-Method lt_tag_for_header, lt_best_for_header, lt_match_for_header, lt_suitable_for_header, lt_best_for_ranges, lt_suitable_for_ranges;
-Method lt_prepare, lt_site_best_for_header, lt_site_best_for_ranges, lt_site_match_for_header;
-Method lt_reduce, lt_format, lt_recommended, lt_canonical, lt_maximized, lt_minimized, lt_extensions_form, lt_locale_form, lt_parent;
-Method lt_to_posix, lt_folded, lt_fnv1a, lt_set, lt_set_keyword, lt_value_of, lt_pairs, lt_before_keys;
-PyObject *lt_value_data(PyObject *self, void *unused);
 #endif

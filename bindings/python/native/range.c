@@ -7,9 +7,9 @@ static PyObject *is_basic(PyObject *object, void *unused) {
 
 typedef bool Match(const char *range, size_t range_len, const char *tag, size_t tag_len);
 
-static PyObject *matches_text(const Value *self, const char *data, Py_ssize_t len, Match *match) {
-    LET_GO(len + self->text.len);
-    bool answer = match(self->text.data, (size_t)self->text.len, data, (size_t)len);
+static PyObject *matches_text(const Value *self, const Text *tag, Match *match) {
+    LET_GO(tag->len + self->text.len);
+    bool answer = match(self->text.data, self->text.len, tag->data, tag->len);
     TAKE_BACK();
     return PyBool_FromLong(answer);
 }
@@ -19,11 +19,11 @@ static PyObject *matches(PyObject *object, PyObject *other, Match *match) {
     if (lt_lacks(self)) return NULL;
     if (!PyUnicode_Check(other) && !PyBytes_Check(other)) {
         Value *tag = lt_as_tag(other);
-        return tag ? matches_text(self, tag->text.data, tag->text.len, match) : NULL;
+        return tag ? matches_text(self, &tag->text, match) : NULL;
     }
     Text text;
     if (lt_text(other, &text)) return NULL;
-    PyObject *answer = matches_text(self, text.data, text.len, match);
+    PyObject *answer = matches_text(self, &text, match);
     Py_DECREF(text.owner);
     return answer;
 }
@@ -45,6 +45,6 @@ PyMethodDef lt_range_methods[] = {
     {NULL, NULL, 0, NULL}};
 
 PyGetSetDef lt_range_members[] = {
-    {"_data", lt_value_data, NULL, NULL, NULL},
+    {"_data", lt_data, NULL, NULL, NULL},
     {"is_basic", is_basic, NULL, "Whether it is a basic range (section 2.1): de-CH, or only *.", NULL},
     {NULL, NULL, NULL, NULL, NULL}};

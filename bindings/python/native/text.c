@@ -25,14 +25,10 @@ static PyObject *owned(PyObject *from, const char *expected) {
 int lt_text(PyObject *from, Text *text) { return lt_text_of(from, text, "text"); }
 
 int lt_text_of(PyObject *from, Text *text, const char *expected) {
-    char *data;
     text->owner = owned(from, expected);
     if (!text->owner) return -1;
-    if (PyBytes_AsStringAndSize(text->owner, &data, &text->len)) {
-        Py_CLEAR(text->owner);
-        return -1;
-    }
-    text->data = data;
+    text->data = PyBytes_AsString(text->owner);
+    text->len = (size_t)PyBytes_Size(text->owner);
     return 0;
 }
 
@@ -49,9 +45,16 @@ void lt_raise(const char *function, PyObject *value, const char *expected) {
 
 PyObject *lt_str(const char *data, size_t len) { return PyUnicode_FromStringAndSize(data, (Py_ssize_t)len); }
 
+PyObject *lt_changed(const Text *text, void (*change)(char *, size_t)) {
+    PyObject *copied = PyBytes_FromStringAndSize(NULL, (Py_ssize_t)text->len); /* nobody else has it yet, not even if it has only one byte */
+    if (!copied) return NULL;
+    char *data = PyBytes_AsString(copied);
+    memcpy(data, text->data, text->len);
+    change(data, text->len);
+    return copied;
+}
+
 PyObject *lt_none(void) {
     Py_INCREF(Py_None);
     return Py_None;
 }
-
-PyObject *lt_type_name(PyObject *of) { return PyObject_GetAttrString((PyObject *)Py_TYPE(of), "__name__"); }

@@ -49,12 +49,6 @@ Value *lt_as_tag(PyObject *object) {
     return NULL;
 }
 
-void lt_refuse(PyObject *class, PyObject *from) {
-    PyObject *made = PyObject_CallFunctionObjArgs(class, from, NULL);
-    if (made) PyErr_SetString(PyExc_SystemError, "langtag: a tag that is none");
-    Py_XDECREF(made);
-}
-
 static PyObject *only_argument(PyObject *arguments, PyObject *named) {
     static char *names[] = {"text", NULL};
     PyObject *text;
@@ -108,7 +102,7 @@ int lt_init(PyObject *object, PyObject *arguments, PyObject *named, int is_tag) 
     if (text_of(from, &text, is_tag)) return -1;
     langtag_parts parts = {{0, 0}, {0, 0}, {0, 0}, {0, 0}, {0, 0}, {0, 0}}; /* not those of self, which another thread may read */
     LET_GO(text.len);
-    uint32_t kind = is_tag ? langtag_parse(text.data, (size_t)text.len, &parts) : langtag_range_kind(text.data, (size_t)text.len);
+    uint32_t kind = is_tag ? langtag_parse(text.data, text.len, &parts) : langtag_range_kind(text.data, text.len);
     TAKE_BACK();
     if (!kind || self->text.owner) { /* if self has an owner now, another thread called __init__ meanwhile */
         Py_DECREF(text.owner);
@@ -122,10 +116,10 @@ int lt_init(PyObject *object, PyObject *arguments, PyObject *named, int is_tag) 
 
 static PyObject *str(PyObject *object) {
     Value *self = (Value *)object;
-    return lt_lacks(self) ? NULL : lt_str(self->text.data, (size_t)self->text.len);
+    return lt_lacks(self) ? NULL : lt_str(self->text.data, self->text.len);
 }
 
-PyObject *lt_value_data(PyObject *object, void *unused) {
+PyObject *lt_data(PyObject *object, void *unused) {
     Value *self = (Value *)object;
     if (lt_lacks(self)) return NULL;
     Py_INCREF(self->text.owner);
@@ -133,7 +127,7 @@ PyObject *lt_value_data(PyObject *object, void *unused) {
 }
 
 static PyObject *repr(PyObject *self) {
-    PyObject *text = str(self), *name = text ? lt_type_name(self) : NULL, *made = NULL;
+    PyObject *text = str(self), *name = text ? PyObject_GetAttrString((PyObject *)Py_TYPE(self), "__name__") : NULL, *made = NULL;
     if (name) made = PyUnicode_FromFormat("%U(%R)", name, text);
     Py_XDECREF(text);
     Py_XDECREF(name);
@@ -151,19 +145,10 @@ PyObject *lt_reduce(PyObject *self, PyObject *unused) {
     return text ? Py_BuildValue("O(N)", (PyObject *)Py_TYPE(self), text) : NULL;
 }
 
-PyObject *lt_changed(const Value *self, void (*change)(char *, size_t)) {
-    PyObject *copied = PyBytes_FromStringAndSize(NULL, self->text.len); /* nobody else has it yet, not even if it has only one byte */
-    if (!copied) return NULL;
-    char *data = PyBytes_AsString(copied);
-    memcpy(data, self->text.data, (size_t)self->text.len);
-    change(data, (size_t)self->text.len);
-    return copied;
-}
-
 static Py_hash_t hash(PyObject *object) {
     Value *self = (Value *)object;
     if (self->hash != -1) return self->hash;
-    PyObject *folded = lt_lacks(self) ? NULL : lt_changed(self, langtag_fold);
+    PyObject *folded = lt_lacks(self) ? NULL : lt_changed(&self->text, langtag_fold);
     if (!folded) return -1;
     self->hash = PyObject_Hash(folded); /* this hash is keyed, as all hashes of Python are */
     Py_DECREF(folded);
@@ -186,7 +171,7 @@ static PyObject *compare(PyObject *a, PyObject *b, int operator) {
         return Py_NotImplemented;
     }
     if (lt_lacks(x) || lt_lacks(y)) return NULL;
-    size_t x_len = (size_t)x->text.len, y_len = (size_t)y->text.len;
+    size_t x_len = x->text.len, y_len = y->text.len;
     if (operator == Py_EQ || operator == Py_NE)
         return PyBool_FromLong(langtag_eq(x->text.data, x_len, y->text.data, y_len) == (operator == Py_EQ));
     return PyBool_FromLong(ordered(operator, langtag_cmp(x->text.data, x_len, y->text.data, y_len)));

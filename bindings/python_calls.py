@@ -1,0 +1,185 @@
+"""Writes the functions of langtag.h for Python twice, with the same parameters and results: in C, and over ctypes."""
+from __future__ import annotations
+
+from interface import INTEGERS, Function, Interface, Parameter
+from javascript import KINDS, fields, is_out, is_plain
+
+CONVENTIONS = """\
+The functions of langtag.h as functions of Python. {written}
+
+A function has the parameters that it has in C, without those to which it only writes. A string is a str or bytes. A list is passed for a
+string and the spans in it. A site, which `prepare` returns, is passed for a string and the prepared tags in it. The result is that of C,
+with these exceptions:
+
+- If C writes or changes a string, the result is this string, as bytes.
+- If C writes numbers, the result is a tuple of C's result and these numbers. If C's result is only true or false, the result is a tuple of
+  these numbers, or None.
+- If C removes one item after another, the result is the list of all items.
+- If C writes numbers to an array, the result is the list of these numbers.
+"""
+
+
+class Call:
+    """A function, and what its parameters become in Python."""
+
+    def __init__(self, it: Interface, function: Function):
+        self.it, self.function, self.name = it, function, function.short().replace("next_", "every_")
+        out = [of for of in function.parameters if is_out(of)]
+        self.state, self.written = [of for of in out if of.is_read], [of for of in out if not of.is_read]
+        last = function.parameters[-1] if function.parameters else None
+        self.has_buffer, self.has_array = last is not None and last.name == "buffer", last is not None and last.kind == "&mut [usize]"
+        self.taken: list[tuple[str, str]] = []  # the name of each parameter of Python, and what it is
+        for of in function.parameters:
+            if of.kind in ("&[Span]", "&[PreparedTag]"):
+                self.taken[-1] = (of.name, "list") if of.kind == "&[Span]" else ("site", "site")
+            elif not is_out(of) and of.name != "buffer" and of.kind != "&mut [usize]":
+                self.taken.append(("text" if of.name == "bytes" else of.name, "text" if of.is_slice() else of.kind))
+
+    def is_of_one_text(self) -> bool:
+        return [kind for _, kind in self.taken] == ["text"]
+
+    def numbers(self) -> list[tuple[str, str]]:
+        """Returns the names and types of the numbers of the result, of which the first may be the result of C."""
+        result = [] if self.function.result == "bool" else [("result", self.function.result)]
+        return result + [(name, kind) for of in self.written or self.state
+                         for name, kind in zip(fields(self.it, of.target(), of.name), kinds(self.it, of.target()))]
+
+    def arguments(self, forms: dict[str, str], out: str, *more: str) -> str:
+        """Returns the arguments of the call, each in the form of its kind."""
+        return ", ".join([*(forms.get(kind, "{0}").format(name) for name, kind in self.taken), *(out.format(of.name) for of in self.state + self.written), *more])
+
+
+def kinds(it: Interface, kind: str) -> list[str]:
+    """Returns the types of the numbers of a value."""
+    return [of for _, inner in it.structs[kind].fields for of in kinds(it, inner)] if kind in it.structs else [kind]
+
+
+def calls(it: Interface) -> list[Call]:
+    return [Call(it, function) for function in it.functions if all(of.kind in KINDS or (is_out(of) and is_plain(it, of)) for of in function.parameters)]
+
+
+def indented(lines: list[str]) -> list[str]:
+    return [f"    {line}" for line in lines]
+
+
+# ---- in C: native/calls.c
+
+OBJECTS = {"bool": "PyBool_FromLong", "u32": "PyLong_FromUnsignedLong", "usize": "PyLong_FromSize_t", "i32": "PyLong_FromLong",
+           "u64": "PyLong_FromUnsignedLongLong"}
+CODES = {"u32": ("I", "(unsigned)"), "usize": ("n", "(Py_ssize_t)"), "u64": ("K", "")}
+DECLARED = {"text": ["Text {0} = {{NULL}};"], "list": ["List {0};", "{0}.spans = NULL;"], "site": ["Site site;"], "u32": ["unsigned {0};"],
+            "u64": ["unsigned long long {0};"]}
+READ = {"text": "!lt_text({0}_from, &{0})", "list": "!lt_{0}({0}_from, &{0})", "site": "!lt_site(site_from, &site)"}
+CLOSED = {"text": "Py_XDECREF({0}.owner);", "list": "lt_close(&{0});"}
+PASSED = {"text": "{0}.data, {0}.len", "list": "{0}.text, {0}.len, {0}.spans, {0}.count", "site": "site.text, site.len, site.tags, site.count"}
+
+
+def tuple_in_c(call: Call) -> str:
+    codes = [(*CODES[kind], name) for name, kind in call.numbers()]
+    return f'Py_BuildValue("({"".join(code for code, _, _ in codes)})", {", ".join(cast + name for _, cast, name in codes)})'
+
+
+def made_in_c(call: Call, result: str, *more: str, is_long: bool = True) -> list[str]:
+    """Returns the lines of the call. Other threads run during a call on a long text."""
+    length = " + ".join(f"{name}.len" for name, kind in call.taken if kind in READ)
+    line = f"{result}{call.function.name}({call.arguments(PASSED, '&{0}', *more)});"
+    return [f"LET_GO({length});", line, "TAKE_BACK();"] if length and is_long else [line]
+
+
+def body_in_c(call: Call) -> list[str]:
+    """Returns the lines from the call to the object that is returned."""
+    kind = call.it.type_in_c(call.function.result) if call.function.result else ""
+    if call.state:
+        spans = [of for of in call.state if of.target() == "Span"]  # the rest of the text, so each call is short
+        begin = [f"{call.it.type_in_c(of.target())} {of.name} = {'{0, text.len}' if of in spans else '0'};" for of in call.state]
+        again = made_in_c(call, f"{kind} result = ", is_long=not spans)
+        return [*begin, "answer = PyList_New(0);", "while (answer) {", *indented([*again, "if (!result) break;", f"answer = lt_append(answer, {tuple_in_c(call)});"]), "}"]
+    if call.has_buffer:
+        again = made_in_c(call, "", "data", "len")
+        return ["char room[192], *data = room;", *made_in_c(call, "size_t len = ", "room", "sizeof room"),
+                "answer = PyBytes_FromStringAndSize(len <= sizeof room ? room : NULL, (Py_ssize_t)len);", "if (answer && len > sizeof room) {",
+                *indented(["data = PyBytes_AsString(answer);", *again]), "}"]
+    if call.has_array:
+        return ["size_t *found = PyMem_Malloc((tags.count + 1) * sizeof *found);", "if (found) {",
+                *indented([*made_in_c(call, "size_t count = ", "found", "tags.count"), "answer = lt_numbers(found, count);"]), "} else PyErr_NoMemory();", "PyMem_Free(found);"]
+    if not kind:
+        return [f"answer = lt_changed(&text, {call.function.name});"]
+    if not call.written:
+        return [*made_in_c(call, f"{kind} result = "), f"answer = {OBJECTS[call.function.result]}(result);"]
+    said = f"result ? {tuple_in_c(call)} : lt_none()" if call.function.result == "bool" else tuple_in_c(call)
+    return [*made_in_c(call, f"{kind} result = "), f"answer = {said};"]
+
+
+def function_in_c(call: Call) -> str:
+    given = f"{call.taken[0][0]}_from" if call.is_of_one_text() else "arguments"
+    objects = [f"{name}_from" for name, kind in call.taken if kind in READ and not call.is_of_one_text()]
+    lines = [f"PyObject {''.join(f'*{name}, ' for name in objects)}*answer = NULL;"]
+    lines += [line.format(name) for name, kind in call.taken for line in DECLARED[kind]]
+    lines += [f"{call.it.type_in_c(of.target())} {of.name};" for of in call.written]
+    if not call.is_of_one_text() and call.taken:
+        codes = "".join("O" if kind in READ else CODES[kind][0] for _, kind in call.taken)
+        lines.append(f'if (!PyArg_ParseTuple(arguments, "{codes}", {", ".join(f"&{name}_from" if kind in READ else f"&{name}" for name, kind in call.taken)})) return NULL;')
+    body, read = body_in_c(call), " && ".join(READ[kind].format(name) for name, kind in call.taken if kind in READ)
+    lines += [f"if ({read}) {{", *indented(body), "}"] if read else body
+    lines += [CLOSED[kind].format(name) for name, kind in call.taken if kind in CLOSED] + ["return answer;"]
+    return f"\nstatic PyObject *{call.name}(PyObject *module, PyObject *{given}) {{\n" + "\n".join(indented(lines)) + "\n}\n"
+
+
+def in_c(it: Interface, written: str) -> str:
+    comment = "".join(f" * {line}".rstrip() + "\n" for line in CONVENTIONS.format(written=written).splitlines())
+    ways = [(call.name, "METH_O" if call.is_of_one_text() else "METH_VARARGS" if call.taken else "METH_NOARGS") for call in calls(it)]
+    table = "".join(f'    {{"{name}", {name}, {way}, NULL}},\n' for name, way in [*ways, ("prepare", "METH_O")])
+    return (f'/*\n{comment} */\n#include "native.h"\n{"".join(function_in_c(call) for call in calls(it))}\n'
+            f"PyMethodDef lt_functions[] = {{\n{table.replace('prepare, METH', 'lt_prepare, METH')}    {{NULL, NULL, 0, NULL}}}};\n")
+
+
+# ---- over ctypes: langtag/_calls.py
+
+HEAD = '''\
+"""{}"""
+from __future__ import annotations
+
+from ctypes import c_size_t, c_uint32
+from typing import Any
+
+from ._declarations import BestMatch, Parts, Repeated, Span
+from ._library import changed, library, numbers, ranges_in, site_in, tags_in, text_in, written
+from ._texts import Text, bytes_of
+'''
+TYPES = {"text": "Text", "list": "list[Any]", "site": "tuple[bytes, bytes]"}
+CONVERTED = {"text": "*text_in({0})", "list": "*{0}_in({0})", "site": "*site_in(site)"}
+
+
+def body_in_python(call: Call) -> tuple[str, list[str]]:
+    """Returns the type of the result, and the lines of the function."""
+    name = f"library.{call.function.name}"
+    given = call.arguments(CONVERTED, "{0}")
+    of_type = "bool" if call.function.result == "bool" else "int"
+    said = [number if "." in number or number == "result" else f"{number}.value" for number, _ in call.numbers()]
+    made = "(" + ", ".join(said) + ("," if len(said) == 1 else "") + ")"
+    kind = f"tuple[{', '.join(['int'] * len(said))}]"
+    new = {of.name: f"c_{INTEGERS[of.target()].replace('_t', '').replace('size', 'size_t')}" if of.target() in INTEGERS else of.target() for of in call.state + call.written}
+    values = [f"{new[of.name]}({'0, len(text)' if of in call.state and of.target() == 'Span' else ''})" for of in call.state + call.written]
+    out = f"{', '.join(new)} = {', '.join(values)}"
+    if call.state:
+        return f"list[{kind}]", ["text = bytes_of(text)", out, f"results = iter(lambda: {of_type}({name}({given})), {of_type}())", f"return [{made} for result in results]"]
+    if call.has_buffer:
+        return "bytes", [f"return written({', '.join(filter(None, [name, given]))})"]
+    if call.has_array:
+        return "list[int]", [f"return numbers({name}, len(tags), {given})"]
+    if not call.function.result:
+        return "bytes", [f"return changed({name}, text)"]
+    if call.written and call.function.result == "bool":
+        return f"{kind} | None", [out, f"return {made} if {name}({given}) else None"]
+    if call.written:
+        return kind, [out, f"result = {name}({given})", f"return {made[1:-1]}"]
+    return of_type, [f"return {of_type}({name}({given}))"]
+
+
+def in_python(it: Interface, written: str) -> str:
+    text = HEAD.format(CONVENTIONS.format(written=written))
+    for call in calls(it):
+        kind, lines = body_in_python(call)
+        taken = ", ".join(f"{name}: {TYPES.get(of, 'int')}" for name, of in call.taken)
+        text += f"\n\ndef {call.name}({taken}) -> {kind}:\n" + "\n".join(indented(lines)) + "\n"
+    return text
