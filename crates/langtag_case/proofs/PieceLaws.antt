@@ -1,6 +1,5 @@
 -- The walk from piece to piece.
-use Rattle.langtag_scan.proofs.Prelude.{◌≡◌, ◌≢◌, ℕ, ◌+◌, ◌-◌, ◌<◌, ◌≤◌, true, false, ◌⊎◌, inl, inr, List, [], ◌∷◌, ◌++◌, length, map, take, drop, set, get_or, refl, sym, ap, subst, ◌∙◌, arith, append-nil, append_assoc, length-append, common_steps, to_ascii_uppercase, at_drop_more, take_more, take-append-drop, take_all, drop_all, take-map, drop-map, get_or-take, take-append_seam, drop-append_seam, slice_split_none, slice_split_at, length-slice_split, join_with_byte-slice_split}
-use Rattle.std.proofs.Common.{length-take, length-drop, ne_eqb, eq-eqb}
+use Rattle.langtag_scan.proofs.Prelude.{◌≡◌, ◌≢◌, ℕ, ◌+◌, ◌-◌, ◌<◌, ◌≤◌, true, false, ◌⊎◌, inl, inr, List, [], ◌∷◌, ◌++◌, length, map, take, drop, set, get_or, refl, sym, ap, subst, ◌∙◌, arith, append-nil, append_assoc, length-append, common_steps, to_ascii_uppercase, at_drop_more, take_more, take-append-drop, take_all, drop_all, take-map, drop-map, get_or-take, take-append_seam, drop-append_seam, slice_split_none, slice_split_at, length-slice_split, join_with_byte-slice_split, length-take, length-drop, ne_eqb, eq-eqb}
 use Prim.Native.Nat.{zero, suc}
 use borrow.Rule.Slice.PartMut.{put_mid}
 use Rattle.std.proofs.lemmas.List.Elements.{All-from_get_or}

@@ -1,17 +1,13 @@
 -- The recommended case of a text: it is alike the text, alike texts have the same one, and how it is had from subtag to subtag and part by part.
-use Rattle.langtag_scan.proofs.Prelude.{◌≡◌, ℕ, ◌<◌, ◌==◌, Bool, true, false, cond, ◌||◌, Some, All, subst, List, [], ◌∷◌, ◌++◌, length, map, take, get_or, refl, sym, ap, ◌∙◌, arith, append_assoc, append-nil, rules, IsAscii, eqb-true, ◌≤◌, Option, None, option_map, IsTrue, IfSome, common_steps, to_ascii_uppercase, list_any, AllByRecursion, flat_map, or-true, or-false, length-map, map-append, nat_tests, list_any-append, length-slice_split, join_with_byte-slice_split, lowercase-uppercase, lowercase_ascii, All-nil, All-cons, All-head, All-tail, ne_eqb, and_parts, or_cases}
+use Rattle.langtag_scan.proofs.Prelude.{◌≡◌, ℕ, ◌<◌, ◌==◌, Bool, true, false, cond, ◌||◌, Some, All, subst, List, [], ◌∷◌, ◌++◌, length, map, take, get_or, refl, sym, ap, ◌∙◌, arith, append_assoc, append-nil, rules, IsAscii, eqb-true, ◌≤◌, Option, None, option_map, IsTrue, IfSome, common_steps, to_ascii_uppercase, list_any, AllByRecursion, flat_map, or-true, or-false, length-map, map-append, nat_tests, list_any-append, length-slice_split, join_with_byte-slice_split, lowercase-uppercase, lowercase_ascii, All-nil, All-cons, All-head, All-tail, ne_eqb, and_parts, or_cases, slice_get, length-append}
 use Prim.Native.Nat.{zero, suc}
-use Rattle.std.specs.List.{slice_get}
-use Rattle.std.proofs.lemmas.List.{length-append}
 use Rattle.std.proofs.lemmas.Str.Ascii.{IsAscii-map}
 use Rattle.std.proofs.Math.ListN.{get_or-map}
 use Rattle.langtag_scan.proofs.Grammar.{fold_byte, fold_text, Alike, is_single, is_digit, are_letters, are_digits, is_primary, is_extended, is_script, is_region, is_variant, is_hyphen, IsHyphenFree, join, segments, fold_extension, fold_private_use, EachRecord, Extension, PrivateUse, Record, IsWellFormed, extension_flat, one_flat, private_part_flat, spell}
-use Rattle.langtag_scan.proofs.CaseLaw.{hyphen-fold, length-fold, segments-fold, join-fold, fold_text-twice, extensions-fold, private_part-fold}
-use Rattle.langtag_scan.proofs.SubtagLists.{segments-join, segments-hyphen_free}
+use Rattle.langtag_scan.proofs.Laws.{hyphen-fold, length-fold, segments-fold, join-fold, fold_text-twice, extensions-fold, private_part-fold, segments-join, segments-hyphen_free, spelled_segments}
 use Rattle.langtag_case.specs.Walk.{later}
 use Rattle.langtag_case.specs.RecommendedCase.{title_text, by_length, recommended_subtag, recommended_after, recommended_text, capital_text, recommended_record}
 use Rattle.langtag_scan.proofs.BoolFacts.{between_true}
-use Rattle.langtag_scan.proofs.NormalTexts.{spelled_segments}
 
 -- ---- bytes
 

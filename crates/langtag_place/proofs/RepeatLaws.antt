@@ -1,13 +1,12 @@
 -- What is known of the first repeat when the first so many members were looked at, one by one or a block at a time.
-use Rattle.langtag_scan.proofs.Prelude.{◌≡◌, ℕ, ◌+◌, ◌<◌, Bool, true, false, cond, List, [], ◌∷◌, ◌++◌, length, get_or, take, drop, slice_get, Option, None, Some, refl, ap, sym, subst, ◌∙◌, arith, append-nil, append_assoc, zero, suc, ◌-◌, ◌≤◌, ◌&&◌, ◌==◌, set, map, IsTrue, inl, inr, add-one, list_any, list_all, false_from_ne_true, and_parts, cases_lt, common_steps, get_or-set_at, at_drop_more, take_more, length-take, length-drop, get_or-set_other, get_or-map, get_or-take, get_or-drop, take-append-drop, drop_all, length-map, list_any_at, Any-from_list_any, list_any_none, list_any-append, list_all-append, IsNonDecreasing, or-true, or-false, eqb_tells, list_any-IsPermutation}
+use Rattle.langtag_scan.proofs.Prelude.{◌≡◌, ℕ, ◌+◌, ◌<◌, Bool, true, false, cond, List, [], ◌∷◌, ◌++◌, length, get_or, take, drop, slice_get, None, Some, refl, ap, sym, subst, ◌∙◌, arith, append-nil, append_assoc, zero, suc, ◌-◌, ◌≤◌, ◌&&◌, ◌==◌, set, map, IsTrue, inl, inr, add-one, list_any, list_all, false_from_ne_true, and_parts, cases_lt, common_steps, get_or-set_at, at_drop_more, take_more, length-take, length-drop, get_or-set_other, get_or-map, get_or-take, get_or-drop, take-append-drop, drop_all, length-map, list_any_at, Any-from_list_any, list_any_none, list_any-append, list_all-append, IsNonDecreasing, or-true, or-false, eqb_tells, list_any-IsPermutation}
 use Rattle.std.specs.List.{AllPairs}
 use Rattle.std.proofs.lemmas.List.{get_or_default, map_push}
 use Rattle.std.proofs.lemmas.List.Quantifiers.{all_pairs_push}
 use Rattle.langtag_place.specs.Repeat.{repeat_index_after, repeat_index, repeat, IsFirstRepeat, IsFirstRepeatAt}
 use Rattle.langtag_scan.proofs.Grammar.{are_alike, folded_number, is_variant}
 use Rattle.langtag_place.specs.VariantBlocks.{HasNoRepeatBefore, IsPlaceOf, AreMet, HoldsFrom}
-use Rattle.langtag_scan.proofs.FoldedNumbers.{among-numbers, folded_number-tells}
-use Rattle.langtag_scan.proofs.SubtagFacts.{of_variant}
+use Rattle.langtag_scan.proofs.Laws.{among-numbers, folded_number-tells, of_variant}
 
 -- ---- a walk that has come to a member
 
@@ -22,6 +21,10 @@ IsAt-drop xs n x rest left =
     let below : n < length xs = omega (arith, ap length left, length-drop n xs) in
     let here : get_or xs n x ∷ drop (n + 1) xs ≡ x ∷ rest = sym (at_drop_more (λ ys. ys) xs n x below) ∙ left in
     record { below = below; member = cc; later = cc }
+
+pub slice_get-seam : {A : Type 0} (before after : List A) (x : A) → slice_get (before ++ x ∷ after) (length before) ≡ Some x
+slice_get-seam [] after x = refl
+slice_get-seam (y ∷ before) after x = slice_get-seam before after x
 
 module _ {A : Type 0} (alike : A → A → Bool) where
   turn-by :
@@ -72,10 +75,6 @@ module _ {A : Type 0} (alike : A → A → Bool) where
 
   pub repeat_index-first : (xs : List A) → IsFirstRepeatAt alike xs (repeat_index alike xs)
   repeat_index-first xs = repeat_index_after-first xs [] (λ i j d before inside. absurd (omega arith))
-
-  slice_get-seam : (before after : List A) (x : A) → slice_get (before ++ x ∷ after) (length before) ≡ Some x
-  slice_get-seam [] after x = refl
-  slice_get-seam (y ∷ before) after x = slice_get-seam before after x
 
   -- `repeat` is what it is called
   pub repeat-first : (xs : List A) → IsFirstRepeat alike xs (repeat alike xs)

@@ -1,6 +1,5 @@
 -- The case of letters changes no class, no segment and no stage; so it changes no kind of tag, no part and no end.
-use Rattle.langtag_scan.proofs.Prelude.{◌≡◌, ℕ, Bool, false, eqb, List, [], ◌∷◌, ◌++◌, length, map, Option, inl, inr, refl, sym, ap, ◌∙◌, arith, IsTrue, IfSome, AllByRecursion, list_all, flat_map, option_map_or, nat_tests, length-map, map-append, common_steps}
-use Rattle.std.specs.Option.{option_map}
+use Rattle.langtag_scan.proofs.Prelude.{◌≡◌, ℕ, Bool, false, eqb, List, [], ◌∷◌, ◌++◌, length, map, Option, inl, inr, refl, sym, ap, ◌∙◌, arith, IsTrue, IfSome, AllByRecursion, list_all, flat_map, option_map_or, nat_tests, length-map, map-append, common_steps, option_map}
 use Rattle.langtag_scan.proofs.Grammar.{fold_byte, fold_text, Alike, are_alike, fold_extension, fold_private_use, fold_record, AlikeRecords, is_letter, is_digit, is_alphanumeric, is_primary, is_extended, is_script, is_region, is_variant, is_extension_subtag, is_private_subtag, is_mark, is_singleton, ends_of, Extension, PrivateUse, Record, IsWellFormedExtension, IsWellFormedPrivateUse, IsWellFormed, extension_flat, one_flat, private_part_flat, flat, spell, EachRecord, Stage, Start, Classes, is_one, classes_of, next_stage, join, segments, subtags, IsNormal, IsPrivate, IsIrregular, IsIrregularAt, IsTag, are_alike-decides}
 use Rattle.langtag_scan.specs.AlikeRecords.{IsSpelledAlike}
 use Rattle.langtag_scan.proofs.NormalTexts.{normal_from_runs, runs_from_normal, spelled_once, runs_private, runs_from_private, private_from_runs}
@@ -105,6 +104,9 @@ pub one_flat-fold : (o : Option (List ℕ)) → one_flat (option_map fold_text o
 one_flat-fold o = grind (arith, common_steps)
 
 -- those of the extensions likewise
+pub fold_extension-twice : (e : Extension) → fold_extension (fold_extension e) ≡ fold_extension e
+fold_extension-twice e = rw (fold_byte-twice e.singleton, map-twice fold_text fold_text-twice e.subtags) refl
+
 pub extensions-fold : (es : List Extension) → flat_map extension_flat (map fold_extension es) ≡ map fold_text (flat_map extension_flat es)
 extensions-fold [] = refl
 extensions-fold (e ∷ es) = rw (extensions-fold es) (sym (map-append fold_text (extension_flat e) (flat_map extension_flat es)))
@@ -248,7 +250,7 @@ pub each_test-fold : (p : List ℕ → Bool) → ((s : List ℕ) → p (fold_tex
 each_test-fold p same [] = refl
 each_test-fold p same (s ∷ ss) = rw (same s, each_test-fold p same ss) refl
 
-subtags-fold : (t : List ℕ) → subtags (fold_text t) ≡ map fold_text (subtags t)
+pub subtags-fold : (t : List ℕ) → subtags (fold_text t) ≡ map fold_text (subtags t)
 subtags-fold [] = refl
 subtags-fold (b ∷ t) = segments-fold (b ∷ t)
 

@@ -1,8 +1,7 @@
 -- The classes of subtags that may stand at one place have no member in common.
-use Rattle.langtag_scan.proofs.Prelude.{◌≡◌, Some, ℕ, ◌≤◌, true, eqb, List, length, arith, ◌⊎◌, and_parts, nat_tests, common_steps}
-use Rattle.std.proofs.lemmas.Bool.{eqb-true}
-use Rattle.langtag_scan.specs.Class.{is_letter, is_digit, are_letters, are_digits, are_alphanumeric, starts_with_digit, is_extended, is_script, is_region, is_variant, is_extension_subtag, is_singleton}
-use Rattle.langtag_scan.specs.Stage.{Stage, classes_of, next_stage}
+use Rattle.langtag_scan.proofs.Prelude.{◌≡◌, Some, ℕ, ◌≤◌, true, eqb, List, length, arith, ◌⊎◌, and_parts, nat_tests, common_steps, eqb-true}
+use Rattle.langtag_scan.proofs.Grammar.{is_letter, is_digit, are_letters, are_digits, are_alphanumeric, is_extended, is_script, is_region, is_variant, is_extension_subtag, is_singleton, Stage, classes_of, next_stage}
+use Rattle.langtag_scan.specs.Class.{starts_with_digit}
 use Rattle.langtag_scan.proofs.StageLaws.{leads_to, may_follow}
 
 pub letter_no_digit : (b : ℕ) → is_letter b ≡ true → is_digit b ≡ true → ⊥
@@ -30,6 +29,9 @@ pub variant_long :
     ((5 ≤ length s) × (length s ≤ 8) × (are_alphanumeric s ≡ true)) ⊎ ((length s ≡ 4) × (are_alphanumeric s ≡ true) × (starts_with_digit s ≡ true))
 unfolding is_variant
 variant_long s h = grind (arith, nat_tests)
+
+pub variant_four : (s : List ℕ) → is_variant s ≡ true → 4 ≤ length s
+variant_four s is = grind (arith, nat_tests, variant_long s is)
 
 pub first_no_digit : (s : List ℕ) → are_letters s ≡ true → starts_with_digit s ≡ true → ⊥
 first_no_digit s l d = grind (arith, common_steps, and_parts, letter_no_digit)

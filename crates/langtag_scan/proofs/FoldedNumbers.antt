@@ -5,9 +5,9 @@ use Rattle.std.proofs.lemmas.Grind.{pow_more}
 use Rattle.langtag_scan.proofs.Grammar.{fold_byte, fold_text, are_alike, folded_number, is_letter, is_digit, is_alphanumeric, are_alphanumeric}
 use Rattle.langtag_scan.proofs.Digits.{IsBase, digits-same}
 
-record IsByte (d : ℕ) : Type 0 where
-  some : 1 ≤ d
-  most : d < 256
+pub record IsByte (d : ℕ) : Type 0 where
+  pub some : 1 ≤ d
+  pub most : d < 256
 
 base_256 : IsBase 256 IsByte
 base_256 = grind (arith, common_steps)
@@ -16,7 +16,7 @@ fold_digit : (b : ℕ) → is_alphanumeric b ≡ true → IsByte (fold_byte b)
 unfolding is_letter is_digit fold_byte
 fold_digit b h = record { some = grind (arith, nat_tests); most = grind (arith, nat_tests) }
 
-fold_digits : (text : List ℕ) → are_alphanumeric text ≡ true → AllByRecursion IsByte (fold_text text)
+pub fold_digits : (text : List ℕ) → are_alphanumeric text ≡ true → AllByRecursion IsByte (fold_text text)
 fold_digits [] h = tt
 fold_digits (b ∷ text) h = let k = and_parts (is_alphanumeric b) (are_alphanumeric text) h in (fold_digit b k.0, fold_digits text k.1)
 

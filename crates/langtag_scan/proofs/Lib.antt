@@ -23,3 +23,4 @@ pub mod IrregularTexts
 pub mod Digits
 pub mod FoldedNumbers
 pub mod Places
+pub mod Laws

@@ -1,7 +1,5 @@
 -- What a position says is so: which tags may follow the bytes that led to it, where their parts have ended, and what they are as a whole text.
-use Rattle.langtag_scan.proofs.Prelude.{◌≡◌, ℕ, ◌+◌, ◌<◌, ◌≤◌, Bool, true, false, cond, eqb, eqb-true, List, [], ◌∷◌, ◌++◌, length, get_or, set, Option, Some, None, refl, arith, append_assoc, append-nil, sym, ap, ◌∙◌, MatchOption, replicate, ◌&&◌, take, subst, option_map_or, is_none, and-true, cases_lt, and_parts, lt-ltb, ltb-true, both_ways, common_steps, length_push, length-set, map-append, take_more, take_all, length-take, get_or-replicate, position-Some, fold-append, fails_before_first, bytes_eq-Decides}
-use Rattle.std.proofs.Common.{ne_eqb, position, bytes_eq}
-use Rattle.std.specs.Option.{option_map}
+use Rattle.langtag_scan.proofs.Prelude.{◌≡◌, ℕ, ◌+◌, ◌<◌, ◌≤◌, Bool, true, false, cond, eqb, eqb-true, List, [], ◌∷◌, ◌++◌, length, get_or, set, Option, Some, None, refl, arith, append_assoc, append-nil, sym, ap, ◌∙◌, MatchOption, replicate, ◌&&◌, take, subst, option_map_or, is_none, and-true, cases_lt, and_parts, lt-ltb, ltb-true, both_ways, common_steps, length_push, length-set, map-append, take_more, take_all, length-take, get_or-replicate, position-Some, fold-append, fails_before_first, bytes_eq-Decides, ne_eqb, position, bytes_eq, option_map}
 use Rattle.std.proofs.lemmas.Bool.{and_left}
 use Rattle.std.proofs.lemmas.List.{set-get_or}
 use Rattle.langtag_scan.proofs.Grammar.{fold_byte, fold_text, grandfathered_tags, irregular_texts, folded_texts, is_prefix, is_possible, kind_after, kind_of, IsBegun, end_at, HasStopped, ends_at, found_by, outcome, IsRefused, Begun, nothing_read, possible_index, irregular_after, position_after, position_of, part_before, ending_of, is_dead, Stage, Start, after_stage, may_end, IsFoundOf, IsPrivate, IsIrregular, IsIrregularAt, IsTag, IsViable, IsViableLength, IsStop}

@@ -1,11 +1,8 @@
 -- What the tables say of the state of a position is what the grammar says of the position: by computation.
-use Rattle.langtag_scan.proofs.Prelude.{◌≡◌, ℕ, ◌+◌, ◌-◌, ◌<◌, ◌≤◌, Bool, true, false, cond, eqb, eqb-true, ltb, leb, not, ◌&&◌, ◌||◌, List, [], ◌∷◌, ◌++◌, length, take, get_or, Option, Some, None, refl, ap, ◌∙◌, arith, zero, suc, drop, inl, inr, sym, subst, codes, fold, MatchOption, list_all, option_map_or, take-append_seam, agree_below, agree_below_at, and_parts, or_cases, not-true, ltb-true, leb-true, lt-ltb, cases_lt, both_ways, get_or_past, position-Some, common_steps}
-use Rattle.std.proofs.Common.{eq-eqb, ne_eqb}
-use Rattle.std.specs.Option.{option_map}
+use Rattle.langtag_scan.proofs.Prelude.{◌≡◌, ℕ, ◌+◌, ◌-◌, ◌<◌, ◌≤◌, Bool, true, false, cond, eqb, eqb-true, ltb, leb, not, ◌&&◌, ◌||◌, List, [], ◌∷◌, ◌++◌, length, take, get_or, Option, Some, None, refl, ap, ◌∙◌, arith, zero, suc, drop, inl, inr, sym, subst, codes, fold, MatchOption, list_all, option_map_or, take-append_seam, agree_below, agree_below_at, and_parts, or_cases, not-true, ltb-true, leb-true, lt-ltb, cases_lt, both_ways, get_or_past, position-Some, common_steps, eq-eqb, ne_eqb, option_map, length-append}
 use Rattle.std.specs.Cmp.{booleans_Decides}
 use Rattle.std.proofs.Math.Bool.{beq}
 use Rattle.std.proofs.lemmas.Bool.{le-ltb}
-use Rattle.std.proofs.lemmas.List.{length-append}
 use Rattle.std.proofs.lemmas.List.Sums.{AllPass-from_list_all}
 use Rattle.langtag_scan.proofs.Grammar.{fold_byte, fold_text, is_letter, is_digit, is_mark, grandfathered_tags, irregular_texts, folded_texts, folded_at, is_possible, is_prefix, Kind, Empty, Begun, possible_index, irregular_after, position_after, position_of, part_before, ending_of, is_dead, nothing_read, Stage, Start, Language, Extended, AfterScript, AfterRegion, AfterVariant, AfterSingleton, InExtension, AfterMark, InPrivate, AfterFirstMark, InPrivateTag, Stands}
 use Rattle.langtag_scan.specs.Kind.{Mark, Letters, Digits, LetterFirst, DigitFirst}

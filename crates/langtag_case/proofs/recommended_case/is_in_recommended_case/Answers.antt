@@ -1,5 +1,4 @@
-use Rattle.langtag_scan.proofs.Prelude.{◌≡◌, ◌∙◌, ap, refl, YieldsList-from_first, is_eq-slice_cmp, bytes_eq-Decides}
-use Rattle.std.proofs.Common.{bytes_eq, nat_cmp, is_eq}
+use Rattle.langtag_scan.proofs.Prelude.{◌≡◌, ◌∙◌, ap, refl, YieldsList-from_first, is_eq-slice_cmp, bytes_eq-Decides, bytes_eq, nat_cmp, is_eq}
 use Rattle.std.proofs.lemmas.Iterator.{YieldsList-from_slice}
 use Rattle.std.proofs.lemmas.Iterator.Consumers.{YieldsList-from_copied}
 use Rattle.std.proofs.lemmas.Iterator.Search.{cmp_from_yields_List}

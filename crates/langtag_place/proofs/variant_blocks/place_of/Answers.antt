@@ -1,5 +1,4 @@
-use Rattle.std.proofs.Common.{arith, rules, ltb-true, ltb-false}
-use Rattle.std.proofs.Math.Dec.{ltb}
+use Rattle.langtag_scan.proofs.Prelude.{arith, rules, ltb-true, ltb-false, ltb}
 use Rattle.std.proofs.lemmas.List.Sorted.{IsPartitionPoint-from_clause, IsPartitionedBy-ltb}
 use Rattle.langtag_place.proofs.variant_blocks.place_of.Goals as goal
 
