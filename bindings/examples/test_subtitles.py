@@ -5,35 +5,14 @@ import subprocess
 import tempfile
 import unittest
 
-TRACKS = """\
-zh-hant 繁體中文
-EN English
-zh-Hans 简体中文
-iw עברית
-de-AT-1996 Deutsch (Österreich)
-de Deutsch
-sr Srpski
-"""
-
-LISTED = """\
-zh-hant         繁體中文
-EN              English
-zh-Hans         简体中文
-iw              עברית, right to left
-de-AT-1996      Deutsch (Österreich), as 1996
-de              Deutsch
-sr              Srpski
-"""
-
-TIDY = """\
-de Deutsch
-de-AT-1996 Deutsch (Österreich)
-en English
-he עברית
-sr Srpski
-zh-Hans 简体中文
-zh-Hant 繁體中文
-"""
+# The tracks: the tag as it is written, its canonical form, the name, and what the list says of it.
+ROWS = [
+    ("zh-hant", "zh-Hant", "繁體中文", ""), ("EN", "en", "English", ""), ("zh-Hans", "zh-Hans", "简体中文", ""), ("iw", "he", "עברית", ", right to left"),
+    ("de-AT-1996", "de-AT-1996", "Deutsch (Österreich)", ", as 1996"), ("de", "de", "Deutsch", ""), ("sr", "sr", "Srpski", ""),
+]
+TRACKS = "".join(f"{tag} {name}\n" for tag, _, name, _ in ROWS)
+LISTED = "".join(f"{tag:15} {name}{note}\n" for tag, _, name, note in ROWS)
+TIDY = "".join(sorted(f"{tag} {name}\n" for _, tag, name, _ in ROWS))
 
 # A viewer's header, and the track for it, which is the first track if none is suitable.
 PICKED = [
