@@ -69,28 +69,21 @@ def write_tags(file, rows):
 
 
 def prepare(path):
+    tables = "".join(f"""
+        CREATE TABLE {name} AS SELECT id, tag::{type} AS tag FROM raw;
+        CREATE INDEX {name}_tag ON {name} (tag);
+        CREATE TABLE names_{name} AS SELECT DISTINCT tag FROM {name};
+        CREATE TABLE bench_{name} (tag {type});
+        CREATE TABLE wanted_{name} AS SELECT wanted::{type} FROM wanted;""" for name, type in (("lt", "langtag"), ("tx", "text"), ("ci", "citext")))
     server.lines(f"""
         CREATE EXTENSION citext;
         CREATE TABLE raw (id serial, tag text);
         COPY raw (tag) FROM '{path}';
-        CREATE TABLE lt AS SELECT id, tag::langtag AS tag FROM raw;
-        CREATE TABLE tx AS SELECT id, tag FROM raw;
-        CREATE TABLE ci AS SELECT id, tag::citext AS tag FROM raw;
-        CREATE INDEX lt_tag ON lt (tag);
-        CREATE INDEX tx_tag ON tx (tag);
+        CREATE TABLE wanted AS SELECT (string_to_array('{" ".join(FREQUENT)}', ' '))[1 + k % {len(FREQUENT)}] AS wanted FROM generate_series(1, 20000) AS k;
+        {tables}
         CREATE INDEX tx_lower ON tx (lower(tag) text_pattern_ops);
-        CREATE INDEX ci_tag ON ci (tag);
-        CREATE TABLE names_lt AS SELECT DISTINCT tag FROM lt;
-        CREATE TABLE names_tx AS SELECT DISTINCT tag FROM tx;
         CREATE TABLE names_lower AS SELECT DISTINCT lower(tag) AS tag FROM tx;
-        CREATE TABLE names_ci AS SELECT DISTINCT tag FROM ci;
-        CREATE TABLE bench_lt (tag langtag);
-        CREATE TABLE bench_tx (tag text);
-        CREATE TABLE bench_ci (tag citext);
-        CREATE TABLE wanted_tx AS SELECT (string_to_array('{" ".join(FREQUENT)}', ' '))[1 + k % {len(FREQUENT)}] AS wanted FROM generate_series(1, 20000) AS k;
-        CREATE TABLE wanted_lt AS SELECT wanted::langtag FROM wanted_tx;
         CREATE TABLE wanted_lower AS SELECT lower(wanted) AS wanted FROM wanted_tx;
-        CREATE TABLE wanted_ci AS SELECT wanted::citext FROM wanted_tx;
         VACUUM ANALYZE;""", "bench")
 
 
