@@ -127,23 +127,16 @@ struct entry {
 
 /* The calls that are compared. The first is that of this library. */
 using entries = std::vector<entry>;
+#define OUR(name) {#name, entry_##name}
 #ifdef WITH_ICU
-#define WITH(...) , __VA_ARGS__
+#define ICU(name) , OUR(name)
 #else
-#define WITH(...)
+#define ICU(name)
 #endif
-static const entries of_each_tag = {
-    {"langtag_parse", entry_langtag_parse} WITH({"icu", entry_icu}), {"langtag_canonical", entry_langtag_canonical},
-    {"langtag_maximized", entry_langtag_maximized}, {"langtag_minimized", entry_langtag_minimized},
-    {"langtag_distance", entry_langtag_distance},
-};
-static const entries choices = {{"choice", entry_choice} WITH({"icu_choice", entry_icu_choice})};
+static const entries of_each_tag = {OUR(langtag_parse) ICU(icu), OUR(langtag_canonical), OUR(langtag_maximized), OUR(langtag_minimized), OUR(langtag_distance)};
+static const entries choices = {OUR(choice) ICU(icu_choice)};
 static const entries forms[] = {
-    {{"keyword", entry_keyword}
-     WITH({"icu_keyword_of_a_locale", entry_icu_keyword_of_a_locale}, {"icu_keyword", entry_icu_keyword})},
-    {{"extensions", entry_extensions} WITH({"icu_extensions", entry_icu_extensions})},
-    {{"locale", entry_locale} WITH({"icu_locale", entry_icu_locale})},
-};
+    {OUR(keyword) ICU(icu_keyword_of_a_locale) ICU(icu_keyword)}, {OUR(extensions) ICU(icu_extensions)}, {OUR(locale) ICU(icu_locale)}};
 
 /* Calls FOUND with the name and the text of each header and each tag, and the calls that are compared for it. */
 template <class Found> static void each(Found found) {
@@ -164,15 +157,17 @@ template <class Found> static void each(Found found) {
 /* The results of the calls are stored here, so that the compiler keeps all calls. */
 static volatile size_t kept;
 
-/* Returns the least nanoseconds of each call for a text, over several passes, in which the entries take turns. */
+/* Returns the least nanoseconds of each call for a text, over several passes of pieces of a list, in which the entries take turns. */
 static std::vector<double> least_times(const entries &compared, const std::vector<std::string_view> &texts, int passes) {
     std::vector<double> least(compared.size(), 1e9);
-    for (int pass = 0; pass < passes; pass++) {
-        for (size_t k = 0; k < compared.size(); k++) {
+    for (size_t from = 0; from < texts.size(); from += 1000) {
+        const size_t to = std::min(from + 1000, texts.size());
+        for (size_t turn = 0; turn < passes * compared.size(); turn++) {
+            const size_t k = turn % compared.size();
             const auto start = std::chrono::steady_clock::now();
-            for (const auto text : texts) kept = compared[k].call(text);
+            for (size_t at = from; at < to; at++) kept = compared[k].call(texts[at]);
             const std::chrono::duration<double, std::nano> taken = std::chrono::steady_clock::now() - start;
-            least[k] = std::min(least[k], taken.count() / static_cast<double>(texts.size()));
+            least[k] = std::min(least[k], taken.count() / static_cast<double>(to - from));
         }
     }
     return least;
@@ -184,21 +179,17 @@ static void time_all(const char *name, std::string_view text, const entries &com
         std::printf("%-8s %-24s %8.0f ns %6.2f of %s\n", name, compared[k].name, least[k], least[k] / least[0], compared[0].name);
 }
 
-/* Times the calls on pieces of a file, of which the least time counts, or makes one call for each tag. */
+/* Times the calls on a file, or makes one call for each tag. */
 static void read_tags(const char *path, std::string_view once) {
     std::ifstream file(path);
     std::vector<std::string> lines;
     for (std::string line; std::getline(file, line);) lines.push_back(line);
-    std::vector<double> least(of_each_tag.size(), 1e9);
-    for (size_t from = 0; once.empty() && from < lines.size(); from += 1000) {
-        const std::vector<std::string_view> piece(lines.begin() + from, lines.begin() + std::min(from + 1000, lines.size()));
-        const auto times = least_times(of_each_tag, piece, 5);
-        for (size_t k = 0; k < times.size(); k++) least[k] = std::min(least[k], times[k]);
-    }
+    const std::vector<std::string_view> tags(lines.begin(), lines.end());
+    const auto least = least_times(of_each_tag, tags, once.empty() ? 5 : 0);
     for (size_t k = 0; k < of_each_tag.size(); k++) {
         if (once.empty()) std::printf("%-18s %8.1f ns a tag\n", of_each_tag[k].name, least[k]);
         else if (once == of_each_tag[k].name)
-            for (const auto &line : lines) kept = of_each_tag[k].call(line);
+            for (const auto tag : tags) kept = of_each_tag[k].call(tag);
     }
 }
 

@@ -5,41 +5,21 @@
 use std::hint::black_box;
 use std::time::Instant;
 
-/// Parses a tag with the Rust crate, and reads its six parts.
-#[no_mangle]
-#[inline(never)]
-fn entry_langtag_verified(text: &str) -> usize {
-    let Ok(tag) = langtag::LangTag::new(text) else {
-        return 0;
+/// Defines an entry that parses a tag, and reads its six parts.
+macro_rules! entry {
+    ($name:ident: $parse:path, $($part:ident)*) => {
+        #[no_mangle]
+        #[inline(never)]
+        fn $name(text: &str) -> usize {
+            $parse(text).map_or(0, |tag| {
+                black_box(($(tag.$part(),)*));
+                1
+            })
+        }
     };
-    black_box((
-        tag.language(),
-        tag.script(),
-        tag.region(),
-        tag.variants(),
-        tag.extensions(),
-        tag.private_use(),
-    ));
-    1
 }
-
-/// Does the same with oxilangtag.
-#[no_mangle]
-#[inline(never)]
-fn entry_oxilangtag(text: &str) -> usize {
-    let Ok(tag) = oxilangtag::LanguageTag::parse(text) else {
-        return 0;
-    };
-    black_box((
-        tag.full_language(),
-        tag.script(),
-        tag.region(),
-        tag.variant(),
-        tag.extension(),
-        tag.private_use(),
-    ));
-    1
-}
+entry!(entry_langtag_verified: langtag::LangTag::new, language script region variants extensions private_use);
+entry!(entry_oxilangtag: oxilangtag::LanguageTag::parse, full_language script region variant extension private_use);
 
 /// Parses a tag, and makes its canonical form, with the Rust crate.
 #[no_mangle]
@@ -104,11 +84,8 @@ fn main() {
     let tags: Vec<&str> = file.lines().collect();
     match &arguments[..] {
         [once, entry, _] if once == "once" => {
-            let found = ENTRIES
-                .iter()
-                .find(|(name, _)| name == entry)
-                .expect("no such entry");
-            pass(found.1, &tags);
+            let found = ENTRIES.iter().find(|(name, _)| name == entry);
+            pass(found.expect("no such entry").1, &tags);
         }
         _ => time(&tags),
     }

@@ -24,6 +24,18 @@ static size_t best_among(const char *header) {
     return langtag_best_for_header(header, strlen(header), text, len, tags, count);
 }
 
+/* A walk over the text. */
+#define WALK(name, ...) FUNCTION(name, offset = 0; rest = (langtag_span){0, len}; while (__VA_ARGS__) result = found.len)
+/* A list of one tag, and the text as a list of one range or tag. */
+#define TAG "de-DE", 5, &(langtag_span){0, 5}, 1
+#define TEXT text, len, &(langtag_span){0, len}, 1
+
+static const langtag_prepared_tag *site_of(const char *bytes, size_t size) {
+    prepared.tag = (langtag_span){0, size};
+    langtag_prepare(bytes, size, &prepared);
+    return &prepared;
+}
+
 #define OF_ONE(name) FUNCTION(name, result = (uint64_t)langtag_##name(text, len))
 LANGTAG_OF_ONE(OF_ONE)
 #define OF_TWO(name) FUNCTION(name, result = (uint64_t)langtag_##name(text, len, other, len))
@@ -35,52 +47,37 @@ FUNCTION(refused, result = langtag_refused(text, len, &found, &offset))
 FUNCTION(hash, result = langtag_hash(LANGTAG_HASH, text, len))
 FUNCTION(fold, langtag_fold(other, len))
 FUNCTION(recommend, langtag_recommend(other, len))
-FUNCTION(next_subtag, rest = (langtag_span){0, len};
-         while (langtag_next_subtag(text, len, &rest, &found)) result = found.len)
-FUNCTION(next_extension, rest = (langtag_span){0, len};
-         while (langtag_next_extension(text, len, &rest, &found)) result = found.len)
+WALK(next_subtag, langtag_next_subtag(text, len, &rest, &found))
+WALK(next_extension, langtag_next_extension(text, len, &rest, &found))
 FUNCTION(keyword, result = langtag_keyword(text, len, "zz", 2, &found))
-FUNCTION(next_keyword, offset = 0;
-         while (langtag_next_keyword(text, len, &offset, &found, &rest)) result = found.len)
+WALK(next_keyword, langtag_next_keyword(text, len, &offset, &found, &rest))
 FUNCTION(attributes, result = langtag_attributes(text, len, &found))
 FUNCTION(transform, result = langtag_transform(text, len, &found))
 FUNCTION(field, result = langtag_field(text, len, "m0", 2, &found))
-FUNCTION(next_field, offset = 0; while (langtag_next_field(text, len, &offset, &found, &rest)) result = found.len)
+WALK(next_field, langtag_next_field(text, len, &offset, &found, &rest))
 FUNCTION(repeats, result = langtag_repeats(text, len, &repeated))
 FUNCTION(validity, result = langtag_validity(text, len, &found))
 FUNCTION(suggestion, result = langtag_suggestion(LANGTAG_INVALID_LANGUAGE, text, len, buffer, sizeof buffer) +
                                langtag_suggestion(LANGTAG_INVALID_REGION, text, len, buffer, sizeof buffer))
 FUNCTION(registry_date, result = langtag_registry_date())
-FUNCTION(best_for_header, found = (langtag_span){0, len};
-         result = langtag_best_for_header(text, len, "de-DE", 5, &(langtag_span){0, 5}, 1) +
-                  langtag_best_for_header("de", 2, text, len, &found, 1))
-FUNCTION(match_for_header, result = langtag_match_for_header(text, len, "de-DE", 5, &(langtag_span){0, 5}, 1, &match) + match.range.len)
-FUNCTION(best_for_ranges, found = (langtag_span){0, len};
-         result = langtag_best_for_ranges(text, len, &found, 1, "de-DE", 5, &(langtag_span){0, 5}, 1))
-FUNCTION(suitable_for_header,
-         result = langtag_suitable_for_header(text, len, "de-DE", 5, &(langtag_span){0, 5}, 1, &offset, 1) + offset)
-FUNCTION(suitable_for_ranges, found = (langtag_span){0, len};
-         result = langtag_suitable_for_ranges(text, len, &found, 1, "de-DE", 5, &(langtag_span){0, 5}, 1, &offset, 1) + offset)
-FUNCTION(prepare, prepared.tag = (langtag_span){0, len}; langtag_prepare(text, len, &prepared))
-FUNCTION(site_best_for_header, prepared.tag = (langtag_span){0, 5}; langtag_prepare("de-DE", 5, &prepared);
-         result = langtag_site_best_for_header(text, len, "de-DE", 5, &prepared, 1);
-         prepared.tag = (langtag_span){0, len};
-         result += langtag_site_best_for_header("de", 2, text, len, &prepared, 1))
-FUNCTION(site_match_for_header, prepared.tag = (langtag_span){0, 5}; langtag_prepare("de-DE", 5, &prepared);
-         result = langtag_site_match_for_header(text, len, "de-DE", 5, &prepared, 1, &match) + match.range.len)
-FUNCTION(site_best_for_ranges, found = (langtag_span){0, len}; prepared.tag = (langtag_span){0, 5}; langtag_prepare("de-DE", 5, &prepared);
-         result = langtag_site_best_for_ranges(text, len, &found, 1, "de-DE", 5, &prepared, 1))
+FUNCTION(best_for_header, result = langtag_best_for_header(text, len, TAG) + langtag_best_for_header("de", 2, TEXT))
+FUNCTION(match_for_header, result = langtag_match_for_header(text, len, TAG, &match) + match.range.len)
+FUNCTION(best_for_ranges, result = langtag_best_for_ranges(TEXT, TAG))
+FUNCTION(suitable_for_header, result = langtag_suitable_for_header(text, len, TAG, &offset, 1) + offset)
+FUNCTION(suitable_for_ranges, result = langtag_suitable_for_ranges(TEXT, TAG, &offset, 1) + offset)
+FUNCTION(prepare, site_of(text, len))
+FUNCTION(site_best_for_header, result = langtag_site_best_for_header(text, len, "de-DE", 5, site_of("de-DE", 5), 1);
+         prepared.tag = (langtag_span){0, len}; result += langtag_site_best_for_header("de", 2, text, len, &prepared, 1))
+FUNCTION(site_match_for_header,
+         result = langtag_site_match_for_header(text, len, "de-DE", 5, site_of("de-DE", 5), 1, &match) + match.range.len)
+FUNCTION(site_best_for_ranges, result = langtag_site_best_for_ranges(TEXT, "de-DE", 5, site_of("de-DE", 5), 1))
 FUNCTION(best_of_tags, result = best_among("fr, aaaaaaaa;q=0.5, x-1;q=0, aaaaaaaa-DE;q=0"))
-FUNCTION(tag_for_header, result = langtag_tag_for_header(text, len, "de-DE", 5, &(langtag_span){0, 5}, 1, &offset, &found))
-FUNCTION(tag_for_header_lenient, found = (langtag_span){0, len};
-         result = langtag_tag_for_header_lenient(text, len, "de-DE", 5, &(langtag_span){0, 5}, 1) +
-                  langtag_tag_for_header_lenient("de", 2, text, len, &found, 1))
+FUNCTION(tag_for_header, result = langtag_tag_for_header(text, len, TAG, &offset, &found))
+FUNCTION(tag_for_header_lenient, result = langtag_tag_for_header_lenient(text, len, TAG) + langtag_tag_for_header_lenient("de", 2, TEXT))
 FUNCTION(unknown_modifier, result = langtag_unknown_modifier(text, len, &found))
 FUNCTION(cldr_version, result = langtag_cldr_version(buffer, sizeof buffer))
-FUNCTION(next_fallback, rest = (langtag_span){0, len};
-         while (langtag_next_fallback(text, len, &rest)) result = rest.len)
-FUNCTION(next_accepted, rest = (langtag_span){0, len};
-         while (langtag_next_accepted(text, len, &rest, &found, &weight)) result = weight)
+WALK(next_fallback, langtag_next_fallback(text, len, &rest))
+WALK(next_accepted, langtag_next_accepted(text, len, &rest, &found, &weight))
 FUNCTION(with_part, for (uint32_t part = 0; part <= LANGTAG_PART_PRIVATE_USE; part++)
          result = langtag_with_part(text, len, part, "x-a", 3, buffer, sizeof buffer) +
                   langtag_with_part("de", 2, part, text, len, buffer, sizeof buffer))

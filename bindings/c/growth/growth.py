@@ -23,23 +23,14 @@ MOST = 2.2
 TIMES = 3  # the factor by which a call may take more instructions for each byte than LIMITS has
 # The cases that are known and documented to be quadratic. They have more than 1,152 repeated variants, or variants, attributes of u or
 # variants of t, which are sorted. Or many ranges of a header would find a tag that a range of weight 0 excludes.
-SQUARES = {
-    ("repeats", "variants"): 3,
-    ("repeats", "many_variants"): 4.4,
-    ("repeated_variant", "variants"): 3,
-    ("repeated_variant", "many_variants"): 4.4,
-    ("best_for_header", "refused"): 4.4,
-    ("extensions_form", "attributes"): 4.4,
-    ("extensions_form", "transformed"): 4.4,
-    ("is_locale", "variants"): 3,
-    ("is_locale", "many_variants"): 4.4,
-    ("is_locale", "transformed"): 4.4,
-    ("locale_form", "few_variants"): 4.4,
-    ("locale_form", "variants"): 4.4,
-    ("locale_form", "many_variants"): 4.4,
-    ("locale_form", "attributes"): 4.4,
-    ("locale_form", "transformed"): 4.4,
-}
+SQUARES = {(name, shape): most for names, shapes, most in (
+    ("repeats repeated_variant is_locale", "variants", 3),
+    ("repeats repeated_variant is_locale", "many_variants", 4.4),
+    ("locale_form", "few_variants variants many_variants", 4.4),
+    ("extensions_form locale_form", "attributes transformed", 4.4),
+    ("is_locale", "transformed", 4.4),
+    ("best_for_header", "refused", 4.4),
+) for name in names.split() for shape in shapes.split()}
 # The functions that a header declares, and those that a Rattle source exports.
 DECLARED = re.compile(r'\blangtag_(\w+)\([^;{]*\);|extern "C" fn langtag_bench_(\w+)')
 
