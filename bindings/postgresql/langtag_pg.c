@@ -704,13 +704,13 @@ FUNCTION(pg_langtag_extended_support) { return support(fcinfo, true); }
 
 /* ---- the best tag for a request ---- */
 
-/* The tags of an array, without NULLs, and the index of each in the array. If they are prepared, they are also in one string. */
+/* The tags of an array, without NULLs, the index of each in the array, and its place in one string with all tags. */
 typedef struct offered {
     struct varlena **tags;
     int *places, count;
-    langtag_prepared_tag *prepared; /* or NULL */
-    const char *bytes;              /* of the string */
-    size_t len;
+    langtag_prepared_tag *entries;
+    bool is_prepared;
+    StringInfoData string;
 } offered;
 
 /* Returns the tags of an array, or its strings, which have to be tags. */
@@ -722,12 +722,16 @@ static offered tags_of(ArrayType *array) {
     deconstruct_array(array, ARR_ELEMTYPE(array), -1, false, TYPALIGN_INT, &values, &nulls, &count);
     all.tags = palloc(count * sizeof *all.tags);
     all.places = palloc(count * sizeof *all.places);
+    all.entries = palloc(count * sizeof *all.entries);
+    initStringInfo(&all.string);
     for (int k = 0; k < count; k++) {
         struct varlena *tag = nulls[k] ? NULL : PG_DETOAST_DATUM_PACKED(values[k]);
         CHECK_FOR_INTERRUPTS();
         if (tag == NULL) continue;
         if (ARR_ELEMTYPE(array) == TEXTOID) check_tag(BYTES(tag), LEN(tag));
         all.places[all.count] = k;
+        all.entries[all.count].tag = (langtag_span){.start = (size_t)all.string.len, .len = LEN(tag)};
+        appendBinaryStringInfo(&all.string, BYTES(tag), (int)LEN(tag));
         all.tags[all.count++] = tag;
     }
     return all;
@@ -735,17 +739,8 @@ static offered tags_of(ArrayType *array) {
 
 /* Prepares the tags for many choices. */
 static void prepare(offered *all) {
-    langtag_prepared_tag *prepared = palloc(all->count * sizeof *prepared);
-    StringInfoData string;
-    initStringInfo(&string);
-    for (int k = 0; k < all->count; k++) {
-        prepared[k].tag = (langtag_span){.start = (size_t)string.len, .len = LEN(all->tags[k])};
-        appendBinaryStringInfo(&string, BYTES(all->tags[k]), (int)LEN(all->tags[k]));
-    }
-    for (int k = 0; k < all->count; k++) langtag_prepare(string.data, (size_t)string.len, &prepared[k]);
-    all->bytes = string.data;
-    all->len = (size_t)string.len;
-    all->prepared = prepared;
+    for (int k = 0; k < all->count; k++) langtag_prepare(all->string.data, (size_t)all->string.len, &all->entries[k]);
+    all->is_prepared = true;
 }
 
 /* The array of the last call of a function in a statement. A longer array is not kept. */
@@ -764,7 +759,7 @@ static void keep(FunctionCallInfo fcinfo, ArrayType *array) {
         fcinfo->flinfo->fn_extra = it;
     }
     it->array = NULL;
-    it->tags.prepared = NULL;
+    it->tags.is_prepared = false;
     MemoryContextReset(it->memory);
     if (VARSIZE(array) <= LONGEST_KEPT) it->array = memcpy(MemoryContextAlloc(it->memory, VARSIZE(array)), array, VARSIZE(array));
 }
@@ -777,11 +772,10 @@ static offered tags_of_call(FunctionCallInfo fcinfo, ArrayType *array) {
         keep(fcinfo, array);
         return tags_of(array);
     }
-    if (it->tags.prepared == NULL) {
+    if (!it->tags.is_prepared) {
         MemoryContext before = MemoryContextSwitchTo(it->memory);
-        offered all = tags_of(it->array);
-        prepare(&all);
-        it->tags = all;
+        it->tags = tags_of(it->array);
+        prepare(&it->tags);
         MemoryContextSwitchTo(before);
     }
     return it->tags;
@@ -795,27 +789,19 @@ typedef size_t choice(const char *header, size_t header_len, const char *bytes, 
 #define TAGS_AT_ONCE 64
 #define BYTES_AT_ONCE 4096
 
-/* Returns which of some tags is chosen, or `count` if none is. */
+/* Returns which of some tags is chosen, or `count` if none is. Only langtag_best_for_header is asked among tags that are prepared. */
 static int chosen_of(choice *choose, text *header, const offered *all, const int *some, int count) {
+    langtag_prepared_tag entries[TAGS_AT_ONCE];
     langtag_span spans[TAGS_AT_ONCE];
-    StringInfoData string;
-    size_t chosen;
-    initStringInfo(&string);
+    const char *bytes = all->string.data;
+    size_t len = (size_t)all->string.len, chosen;
     for (int k = 0; k < count; k++) {
-        struct varlena *tag = all->tags[some[k]];
-        spans[k] = (langtag_span){.start = (size_t)string.len, .len = LEN(tag)};
-        appendBinaryStringInfo(&string, BYTES(tag), (int)LEN(tag));
+        entries[k] = all->entries[some[k]];
+        spans[k] = entries[k].tag;
     }
-    chosen = choose(BYTES(header), LEN(header), string.data, (size_t)string.len, spans, (size_t)count);
-    pfree(string.data);
+    chosen = all->is_prepared ? langtag_site_best_for_header(BYTES(header), LEN(header), bytes, len, entries, (size_t)count)
+                              : choose(BYTES(header), LEN(header), bytes, len, spans, (size_t)count);
     return (int)Min(chosen, (size_t)count);
-}
-
-/* Returns what chosen_of returns for langtag_best_for_header, if the tags are prepared. */
-static int chosen_of_prepared(text *header, const offered *all, const int *some, int count) {
-    langtag_prepared_tag prepared[TAGS_AT_ONCE];
-    for (int k = 0; k < count; k++) prepared[k] = all->prepared[some[k]];
-    return (int)Min(langtag_site_best_for_header(BYTES(header), LEN(header), all->bytes, all->len, prepared, (size_t)count), (size_t)count);
 }
 
 /* The tag chosen so far is put before the next tags. This is correct because the choice between two tags depends on no third tag,
@@ -831,7 +817,7 @@ static int chosen_index(choice *choose, text *header, const offered *all) {
             bytes += LEN(all->tags[next]);
             some[taken++] = next++;
         }
-        found = all->prepared != NULL ? chosen_of_prepared(header, all, some, taken) : chosen_of(choose, header, all, some, taken);
+        found = chosen_of(choose, header, all, some, taken);
         if (found < taken) best = some[found];
     }
     return best;
@@ -872,6 +858,7 @@ FUNCTION(pg_langtag_suitable_for_header) {
         found[count++] = PointerGetDatum(left.tags[best]);
         left.count--;
         memmove(left.tags + best, left.tags + best + 1, (left.count - best) * sizeof *left.tags);
+        memmove(left.entries + best, left.entries + best + 1, (left.count - best) * sizeof *left.entries);
     }
     PG_RETURN_ARRAYTYPE_P(construct_array(found, count, ARR_ELEMTYPE(array), -1, false, TYPALIGN_INT));
 }
