@@ -31,6 +31,10 @@ typedef struct function {
     bool (*matches)(const char *range, size_t range_len, const char *tag, size_t tag_len);
 } function;
 
+/* A function with a call of its own, and a form, whose function of the library has the name that it has in SQL. */
+#define CALL(sql, count, own) {.name = sql, .arguments = count, .call = own}
+#define FORM(both) {.name = #both, .arguments = 1, .call = form, .form = both}
+
 static const function *called(sqlite3_context *context) { return sqlite3_user_data(context); }
 
 /* Returns whether there was no memory for something, which is an error. */
@@ -403,32 +407,17 @@ int sqlite3_sqlitelangtag_init(sqlite3 *db, char **message, const sqlite3_api_ro
     (void)message;
     SQLITE_EXTENSION_INIT2(api);
     static function functions[] = {
-        {.name = "langtag_part", .arguments = 2, .call = part},
-        {.name = "langtag_keyword", .arguments = 2, .call = keyword},
-        {.name = "langtag_set_keyword", .arguments = 3, .call = set_keyword},
-        {.name = "langtag_base", .arguments = 1, .call = base},
-        {.name = "langtag_extensions_form", .arguments = 1, .call = form, .form = langtag_extensions_form},
+        CALL("langtag_part", 2, part), CALL("langtag_keyword", 2, keyword), CALL("langtag_set_keyword", 3, set_keyword), CALL("langtag_base", 1, base),
+        CALL("langtag_suggestion", 1, suggestion), CALL("langtag_describe", 1, describe), CALL("langtag_autonym", 1, autonym),
+        CALL("langtag_unknown_modifier", 1, unknown_modifier), CALL("langtag_distance", 2, distance), CALL("langtag_version", 0, version),
+        CALL("langtag_best_for_header", -1, best_for_header), CALL("langtag_match_for_header", -1, match_for_header),
+        CALL("langtag_suitable_for_header", -1, suitable_for_header), CALL("langtag_proved", 0, proved),
+        FORM(langtag_extensions_form), FORM(langtag_locale_form), FORM(langtag_canonical), FORM(langtag_maximized), FORM(langtag_minimized),
+        FORM(langtag_parent), FORM(langtag_from_posix), FORM(langtag_to_posix),
         {.name = "langtag_is_locale", .arguments = 1, .call = is, .is = langtag_is_locale},
-        {.name = "langtag_locale_form", .arguments = 1, .call = form, .form = langtag_locale_form},
-        {.name = "langtag_canonical", .arguments = 1, .call = form, .form = langtag_canonical},
         {.name = "langtag_is_well_formed", .arguments = 1, .call = is, .is = is_well_formed},
         {.name = "langtag_is_valid", .arguments = 1, .call = is, .is = is_valid},
-        {.name = "langtag_suggestion", .arguments = 1, .call = suggestion},
-        {.name = "langtag_maximized", .arguments = 1, .call = form, .form = langtag_maximized},
-        {.name = "langtag_minimized", .arguments = 1, .call = form, .form = langtag_minimized},
-        {.name = "langtag_parent", .arguments = 1, .call = form, .form = langtag_parent},
-        {.name = "langtag_describe", .arguments = 1, .call = describe},
-        {.name = "langtag_autonym", .arguments = 1, .call = autonym},
-        {.name = "langtag_from_posix", .arguments = 1, .call = form, .form = langtag_from_posix},
-        {.name = "langtag_to_posix", .arguments = 1, .call = form, .form = langtag_to_posix},
-        {.name = "langtag_unknown_modifier", .arguments = 1, .call = unknown_modifier},
-        {.name = "langtag_distance", .arguments = 2, .call = distance},
         {.name = "langtag_is_right_to_left", .arguments = 1, .call = is, .is = langtag_is_right_to_left},
-        {.name = "langtag_best_for_header", .arguments = -1, .call = best_for_header},
-        {.name = "langtag_match_for_header", .arguments = -1, .call = match_for_header},
-        {.name = "langtag_suitable_for_header", .arguments = -1, .call = suitable_for_header},
-        {.name = "langtag_version", .arguments = 0, .call = version},
-        {.name = "langtag_proved", .arguments = 0, .call = proved},
         {.name = "langtag_matches_basic", .arguments = 2, .call = matches, .matches = langtag_matches_basic},
         {.name = "langtag_matches_extended", .arguments = 2, .call = matches, .matches = langtag_matches_extended},
     };
