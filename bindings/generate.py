@@ -214,18 +214,17 @@ def definition(it: Interface, struct: Struct) -> str:
 
 
 def header(it: Interface, template: str) -> str:
-    text = f"/* {WRITTEN.replace('from', 'from langtag.h.in and')} */\n{template}"
-    made = {function.name: (function.comment, declaration(it, function)) for function in it.functions}
-    made |= {struct.in_c(): (struct.comment, definition(it, struct)) for struct in it.structs.values()}
-    for name, (comment, code) in made.items():
-        text = text.replace(f"@{name}@\n", f"{comment_of(comment)}\n{code}\n\n")
-    return re.sub(r"\n{3,}", "\n\n", text)
+    made: dict[str, str] = {}
+    for one, code in [(struct, definition(it, struct)) for struct in it.structs.values()] + [(function, declaration(it, function)) for function in it.functions]:
+        made[one.module] = made.get(one.module, "") + f"{comment_of(one.comment)}\n{code}\n\n"
+    text = re.sub(r"(?m)^@(.*)@$", lambda names: "".join(made.get(name, "") for name in names[1].split()), template)
+    return f"/* {WRITTEN.replace('from', 'from langtag.h.in and')} */\n" + re.sub(r"\n{3,}", "\n\n", text)
 
 
 def wrong_template(it: Interface, template: str) -> list[str]:
-    """Returns the functions and structs that only the template has, or only the crate."""
-    said, ours = re.findall(r"(?m)^@(\w+)@$", template), [function.name for function in it.functions] + [struct.in_c() for struct in it.structs.values()]
-    return [f"{interface.TEMPLATE}: {name}" for name in sorted({*said} ^ {*ours})]
+    """Returns the modules with functions or structs that only the template has, or only the crate."""
+    ours = {one.module for one in [*it.functions, *it.structs.values()]}
+    return [f"{interface.TEMPLATE}: {name}" for name in sorted({*interface.modules(template)} ^ ours)]
 
 
 FILES = {

@@ -53,6 +53,7 @@ class Function(NamedTuple):
 
 class Struct(NamedTuple):
     name: str
+    module: str
     path: str  # in rust/c
     fields: list[tuple[str, str]]  # names and types
     comment: list[str]
@@ -107,8 +108,13 @@ def function_of(module: str, text: str, name: str, parameters: str, result: str,
         for it, kind in pairs(parameters)], lines_of(documented[1]) if documented else [])
 
 
+def modules(template: str) -> list[str]:
+    """Returns the modules whose functions and structs a header has, in order. A line of the template names some of them: `@parse base@`."""
+    return " ".join(re.findall(r"(?m)^@(.*)@$", template)).split()
+
+
 def read(root: pathlib.Path) -> Interface:
-    """Reads the interface of the repository. The functions are in the order of the header, and those that it lacks come last."""
+    """Reads the interface of the repository. The functions are in the order of the header, and those of a module that it lacks come last."""
     functions, structs = [], {}
     for crate, inside in (("langtag_span", "spans"), ("langtag_c", "calls")):
         for path in sorted((root / "crates" / crate / "src").glob("*.rt")):
@@ -118,6 +124,6 @@ def read(root: pathlib.Path) -> Interface:
             for comment, name, body in re.findall(r"((?:///.*\n)+)#\[repr\(C\)\]\n(?:#.*\n)*pub struct (\w+) \{\n((?:.*\n)*?)\}", text):
                 place = f"crate::{inside}{'' if crate == 'langtag_span' else '::' + path.stem}::{name}"
                 notes = {field: note for note, field in re.findall(r"/// (.*)\n *pub (\w+)", body)}
-                structs[name] = Struct(name, place, pairs(re.sub(r"//.*", "", body)), lines_of(comment), notes)
-    places = {name: place for place, name in enumerate(re.findall(r"(?m)^@(\w+)@$", (root / TEMPLATE).read_text(encoding="utf-8")))}
-    return Interface(sorted(functions, key=lambda function: places.get(function.name, len(places))), structs)
+                structs[name] = Struct(name, path.stem if inside == "calls" else inside, place, pairs(re.sub(r"//.*", "", body)), lines_of(comment), notes)
+    places = {module: place for place, module in enumerate(modules((root / TEMPLATE).read_text(encoding="utf-8")))}
+    return Interface(sorted(functions, key=lambda function: places.get(function.module, len(places))), structs)

@@ -26,8 +26,8 @@ FILES = {HEADER, TEMPLATE, MODULE, check_numbers.DATED, "rows/table.txt", *gener
 PLANTED = [
     (HEADER, "size_t langtag_viable_len(", "uint32_t langtag_viable_len(", HEADER),
     (HEADER, "langtag_span script; ", "langtag_span region; ", HEADER),
-    (TEMPLATE, "@langtag_span@", "", "langtag_span"),
-    (TEMPLATE, "@langtag_grandfathered@", "@langtag_grandfatherd@", "langtag_grandfatherd"),
+    (TEMPLATE, "@spans ", "@", "spans"),
+    (TEMPLATE, "@grandfathered", "@grandfatherd", "grandfatherd"),
     (HEADER, "__attribute__((pure,", "__attribute__((const,", "LANGTAG_PURE"),
     (HEADER, "0 en-GB-oed    1 i-ami ", "1 en-GB-oed    0 i-ami ", "grandfathered"),
     (HEADER, "LANGTAG_ABI_VERSION 1", "LANGTAG_ABI_VERSION 2", "LANGTAG_ABI_VERSION"),

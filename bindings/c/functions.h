@@ -2,8 +2,8 @@
 
 /* All functions. */
 #define LANGTAG_FUNCTIONS(EACH) \
-    EACH(parse) \
     EACH(kind) \
+    EACH(parse) \
     EACH(base_len) \
     EACH(viable_len) \
     EACH(stop_len) \
@@ -35,30 +35,30 @@
     EACH(registry_date) \
     EACH(maximized) \
     EACH(minimized) \
+    EACH(cldr_version) \
     EACH(parent) \
     EACH(is_right_to_left) \
     EACH(distance) \
     EACH(best_for_header) \
-    EACH(match_for_header) \
     EACH(best_for_ranges) \
+    EACH(match_for_header) \
     EACH(suitable_for_header) \
     EACH(suitable_for_ranges) \
     EACH(prepare) \
     EACH(site_best_for_header) \
-    EACH(site_match_for_header) \
     EACH(site_best_for_ranges) \
+    EACH(site_match_for_header) \
     EACH(from_posix) \
     EACH(to_posix) \
     EACH(unknown_modifier) \
-    EACH(cldr_version) \
     EACH(grandfathered) \
     EACH(range_kind) \
     EACH(matches_basic) \
     EACH(matches_extended) \
     EACH(next_fallback) \
     EACH(next_accepted) \
-    EACH(tag_for_header_lenient) \
-    EACH(tag_for_header)
+    EACH(tag_for_header) \
+    EACH(tag_for_header_lenient)
 
 /* The functions of one string that only return a value. */
 #define LANGTAG_OF_ONE(EACH) \

@@ -95,6 +95,9 @@ typedef struct langtag_parts {
     langtag_span private_use; /* x-mine */
 } langtag_parts;
 
+/* Returns what langtag_parse returns, without the parts. */
+LANGTAG_PURE uint32_t langtag_kind(const char *bytes, size_t len);
+
 /*
  * Parses a tag (RFC 5646 section 2.1): returns an enum langtag_kind_answer, and writes where the parts are (out).
  *
@@ -105,9 +108,6 @@ typedef struct langtag_parts {
  * - For an irregular tag, and for a string that is not a tag, all members are 0.
  */
 uint32_t langtag_parse(const char *bytes, size_t len, langtag_parts *parts);
-
-/* Returns what langtag_parse returns, without the parts. */
-LANGTAG_PURE uint32_t langtag_kind(const char *bytes, size_t len);
 
 /*
  * Returns the length of a tag without its extensions and private use, which is 10 for de-CH-1996-u-co-phonebk-x-mine.
@@ -152,6 +152,8 @@ enum langtag_refused_answer {
  */
 uint32_t langtag_refused(const char *bytes, size_t len, langtag_span *subtag, size_t *offset);
 
+#define LANGTAG_HASH UINT64_C(0xcbf29ce484222325)
+
 /*
  * Returns whether two strings are equal, ignoring case, which has no meaning in tags (RFC 5646 section 2.1.1). They
  * may be any bytes.
@@ -166,8 +168,6 @@ LANGTAG_PURE bool langtag_eq(const char *a, size_t a_len, const char *b, size_t 
  * before de-AT), change copies with langtag_fold, and compare these as strings.
  */
 LANGTAG_PURE int32_t langtag_cmp(const char *a, size_t a_len, const char *b, size_t b_len);
-
-#define LANGTAG_HASH UINT64_C(0xcbf29ce484222325)
 
 /*
  * Returns the 64-bit FNV-1a hash of a string in lowercase. `state` is LANGTAG_HASH, or the hash of the bytes that come
@@ -395,14 +395,14 @@ LANGTAG_PURE bool langtag_is_locale(const char *bytes, size_t len);
  */
 size_t langtag_locale_form(const char *bytes, size_t len, char *buffer, size_t buffer_len);
 
+/* The bits of the result of langtag_repeats. */
+enum langtag_repeats_answer { LANGTAG_REPEATED_VARIANT = 1, LANGTAG_REPEATED_SINGLETON = 2 };
+
 /* Where the repeated subtags of a tag are. A span has the length 0 if no such subtag is repeated. */
 typedef struct langtag_repeated {
     langtag_span variant;   /* the first variant that equals an earlier one, ignoring case */
     langtag_span singleton; /* the first singleton, one byte, that equals an earlier one, ignoring case */
 } langtag_repeated;
-
-/* The bits of the result of langtag_repeats. */
-enum langtag_repeats_answer { LANGTAG_REPEATED_VARIANT = 1, LANGTAG_REPEATED_SINGLETON = 2 };
 
 /*
  * Returns whether a variant or a singleton occurs twice in a normal tag, as bits of enum langtag_repeats_answer, and
@@ -520,6 +520,13 @@ size_t langtag_maximized(const char *bytes, size_t len, char *buffer, size_t buf
 size_t langtag_minimized(const char *bytes, size_t len, char *buffer, size_t buffer_len);
 
 /*
+ * Writes the version of Unicode's CLDR inside this library to `buffer`, such as 48.2, and returns its length. Likely
+ * subtags, distances and aliases come from that version. As with langtag_canonical, nothing is written if the buffer
+ * is too short.
+ */
+size_t langtag_cldr_version(char *buffer, size_t buffer_len);
+
+/*
  * Writes the parent of a tag in CLDR to `buffer` (UTS #35, part 1, Parent Locales), and returns its length: pt-PT for
  * pt-AO, zh-Hant for zh-TW. If a catalogue has no string for a tag, it looks for the parent of the tag next. The data
  * are those of langtag_cldr_version. As with langtag_canonical, nothing is written if the buffer is too short.
@@ -587,6 +594,19 @@ LANGTAG_PURE uint32_t langtag_distance(const char *desired, size_t desired_len, 
 LANGTAG_PURE size_t langtag_best_for_header(const char *header, size_t header_len, const char *bytes, size_t len,
                                             const langtag_span *tags, size_t tags_len);
 
+/*
+ * Returns the index of the best tag for a list of language ranges, in order of preference, or `tags_len` if none is
+ * suitable. The ranges are spans of one string, and the tags are spans of another. The choice is that of
+ * langtag_best_for_header if all ranges have the same weight.
+ *
+ * A range is read as in a header: zh_TW.UTF-8 is read as zh-TW, and sr_RS@latin as sr-RS. Call langtag_from_posix
+ * first for the names in LANG and LANGUAGE. An extended range is read without its *: zh-*-Hant is read as zh-Hant. A
+ * span is skipped if it is not a range, such as de;q=0, or not a tag, or reaches beyond its text.
+ */
+LANGTAG_PURE size_t langtag_best_for_ranges(const char *text, size_t text_len, const langtag_span *ranges,
+                                            size_t ranges_len, const char *bytes, size_t len, const langtag_span *tags,
+                                            size_t tags_len);
+
 /* The range of a header that the best tag serves, and the distance from the range to the tag. */
 typedef struct langtag_best_match {
     langtag_span range; /* in the header, as it is written: de_CH in "de_CH.UTF-8;q=0.5" */
@@ -608,19 +628,6 @@ typedef struct langtag_best_match {
  */
 size_t langtag_match_for_header(const char *header, size_t header_len, const char *bytes, size_t len,
                                 const langtag_span *tags, size_t tags_len, langtag_best_match *found);
-
-/*
- * Returns the index of the best tag for a list of language ranges, in order of preference, or `tags_len` if none is
- * suitable. The ranges are spans of one string, and the tags are spans of another. The choice is that of
- * langtag_best_for_header if all ranges have the same weight.
- *
- * A range is read as in a header: zh_TW.UTF-8 is read as zh-TW, and sr_RS@latin as sr-RS. Call langtag_from_posix
- * first for the names in LANG and LANGUAGE. An extended range is read without its *: zh-*-Hant is read as zh-Hant. A
- * span is skipped if it is not a range, such as de;q=0, or not a tag, or reaches beyond its text.
- */
-LANGTAG_PURE size_t langtag_best_for_ranges(const char *text, size_t text_len, const langtag_span *ranges,
-                                            size_t ranges_len, const char *bytes, size_t len, const langtag_span *tags,
-                                            size_t tags_len);
 
 /*
  * Writes the indices of the suitable tags for an Accept-Language header to `found` (out), best first, and returns
@@ -680,19 +687,19 @@ LANGTAG_PURE size_t langtag_site_best_for_header(const char *header, size_t head
                                                  const langtag_prepared_tag *tags, size_t tags_len);
 
 /*
- * Returns what langtag_match_for_header returns, among tags that langtag_prepare prepared, as
- * langtag_site_best_for_header does.
- */
-size_t langtag_site_match_for_header(const char *header, size_t header_len, const char *bytes, size_t len,
-                                     const langtag_prepared_tag *tags, size_t tags_len, langtag_best_match *found);
-
-/*
  * Returns what langtag_best_for_ranges returns, among tags that langtag_prepare prepared, as
  * langtag_site_best_for_header does.
  */
 LANGTAG_PURE size_t langtag_site_best_for_ranges(const char *text, size_t text_len, const langtag_span *ranges,
                                                  size_t ranges_len, const char *bytes, size_t len,
                                                  const langtag_prepared_tag *tags, size_t tags_len);
+
+/*
+ * Returns what langtag_match_for_header returns, among tags that langtag_prepare prepared, as
+ * langtag_site_best_for_header does.
+ */
+size_t langtag_site_match_for_header(const char *header, size_t header_len, const char *bytes, size_t len,
+                                     const langtag_prepared_tag *tags, size_t tags_len, langtag_best_match *found);
 
 /*
  * Writes the tag for a POSIX locale name to `buffer` (IEEE Std 1003.1, section 8.2), and returns its length:
@@ -740,13 +747,6 @@ size_t langtag_to_posix(const char *bytes, size_t len, char *buffer, size_t buff
  * not about the language, such as euro.
  */
 bool langtag_unknown_modifier(const char *name, size_t name_len, langtag_span *modifier);
-
-/*
- * Writes the version of Unicode's CLDR inside this library to `buffer`, such as 48.2, and returns its length. Likely
- * subtags, distances and aliases come from that version. As with langtag_canonical, nothing is written if the buffer
- * is too short.
- */
-size_t langtag_cldr_version(char *buffer, size_t buffer_len);
 
 #define LANGTAG_GRANDFATHERED_COUNT 26u
 
@@ -844,6 +844,18 @@ uint32_t langtag_next_accepted(const char *bytes, size_t len, langtag_span *rest
                                uint32_t *weight);
 
 /*
+ * Looks up a tag as langtag_tag_for_header_lenient does, but refuses a header with a malformed element. Returns an
+ * enum langtag_accepted_answer.
+ *
+ * - LANGTAG_ACCEPTED_END: no element is malformed. `index` (out) is what langtag_tag_for_header_lenient returns, and
+ *   `bad` (out) is empty, at the end of the header.
+ * - Otherwise: the answer says what is wrong with the first malformed element. `index` is `tags_len`, and `bad` is the
+ *   string of that element between its commas.
+ */
+uint32_t langtag_tag_for_header(const char *header, size_t header_len, const char *bytes, size_t len,
+                                const langtag_span *tags, size_t tags_len, size_t *index, langtag_span *bad);
+
+/*
  * Returns the index of the tag that lookup finds for an Accept-Language header (RFC 4647 section 3.4), or `tags_len`
  * if it finds none. The tags are spans of one string, as for langtag_best_for_header. Malformed elements are skipped.
  *
@@ -863,18 +875,6 @@ uint32_t langtag_next_accepted(const char *bytes, size_t len, langtag_span *rest
  */
 LANGTAG_PURE size_t langtag_tag_for_header_lenient(const char *header, size_t header_len, const char *bytes, size_t len,
                                                    const langtag_span *tags, size_t tags_len);
-
-/*
- * Looks up a tag as langtag_tag_for_header_lenient does, but refuses a header with a malformed element. Returns an
- * enum langtag_accepted_answer.
- *
- * - LANGTAG_ACCEPTED_END: no element is malformed. `index` (out) is what langtag_tag_for_header_lenient returns, and
- *   `bad` (out) is empty, at the end of the header.
- * - Otherwise: the answer says what is wrong with the first malformed element. `index` is `tags_len`, and `bad` is the
- *   string of that element between its commas.
- */
-uint32_t langtag_tag_for_header(const char *header, size_t header_len, const char *bytes, size_t len,
-                                const langtag_span *tags, size_t tags_len, size_t *index, langtag_span *bad);
 
 #ifdef __cplusplus
 }

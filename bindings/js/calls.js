@@ -14,18 +14,18 @@
  */
 import { aligned, close, count, lengthOf, module, open, prepare, read, readSizes, size, SPAN, WORD, write, writeBytes, writeList, written } from "./memory.js";
 
+export function kind(bytes) {
+    const at0 = open(bytes.length);
+    write(bytes, at0);
+    return close(module.calls.langtag_kind(module.begin, size(bytes.length)) >>> 0);
+}
+
 /** Returns [result, parts.language.start, parts.language.len, parts.script.start, parts.script.len, parts.region.start, parts.region.len, parts.variants.start, parts.variants.len, parts.extensions.start, parts.extensions.len, parts.private_use.start, parts.private_use.len]. */
 export function parse(bytes) {
     const at0 = open(bytes.length);
     write(bytes, at0);
     const result = module.calls.langtag_parse(module.begin, size(bytes.length), module.outs[0]) >>> 0;
     return close([result, written(0), written(1), written(2), written(3), written(4), written(5), written(6), written(7), written(8), written(9), written(10), written(11)]);
-}
-
-export function kind(bytes) {
-    const at0 = open(bytes.length);
-    write(bytes, at0);
-    return close(module.calls.langtag_kind(module.begin, size(bytes.length)) >>> 0);
 }
 
 export function baseLen(bytes) {
@@ -296,6 +296,15 @@ export function minimized(bytes, room = bytes.length + 32) {
 }
 
 /** Returns the written string. */
+export function cldrVersion(room = 32) {
+    const at0 = open(room);
+    const length = count(module.calls.langtag_cldr_version(module.begin, size(room)));
+    if (length <= room) return close(read(at0, length));
+    close();
+    return cldrVersion(length);
+}
+
+/** Returns the written string. */
 export function parent(bytes, room = bytes.length + 32) {
     const at0 = open(bytes.length + room);
     const at1 = write(bytes, at0);
@@ -327,17 +336,6 @@ export function bestForHeader(header, tags) {
     return close(count(module.calls.langtag_best_for_header(module.begin, size(header.length), size(at1), size(tagsLength), size(tagsAt), size(tags.length))));
 }
 
-/** Returns [result, found.range.start, found.range.len, found.distance]. */
-export function matchForHeader(header, tags) {
-    const tagsLength = lengthOf(tags);
-    const at0 = open(header.length + tagsLength + SPAN * tags.length);
-    const tagsAt = aligned(at0 + header.length + tagsLength);
-    const at1 = write(header, at0);
-    writeList(tags, at1, tagsAt);
-    const result = count(module.calls.langtag_match_for_header(module.begin, size(header.length), size(at1), size(tagsLength), size(tagsAt), size(tags.length), module.outs[0]));
-    return close([result, written(0), written(1), written(2)]);
-}
-
 export function bestForRanges(ranges, tags) {
     const rangesLength = lengthOf(ranges);
     const tagsLength = lengthOf(tags);
@@ -347,6 +345,17 @@ export function bestForRanges(ranges, tags) {
     const at1 = writeList(ranges, at0, rangesAt);
     writeList(tags, at1, tagsAt);
     return close(count(module.calls.langtag_best_for_ranges(module.begin, size(rangesLength), size(rangesAt), size(ranges.length), size(at1), size(tagsLength), size(tagsAt), size(tags.length))));
+}
+
+/** Returns [result, found.range.start, found.range.len, found.distance]. */
+export function matchForHeader(header, tags) {
+    const tagsLength = lengthOf(tags);
+    const at0 = open(header.length + tagsLength + SPAN * tags.length);
+    const tagsAt = aligned(at0 + header.length + tagsLength);
+    const at1 = write(header, at0);
+    writeList(tags, at1, tagsAt);
+    const result = count(module.calls.langtag_match_for_header(module.begin, size(header.length), size(at1), size(tagsLength), size(tagsAt), size(tags.length), module.outs[0]));
+    return close([result, written(0), written(1), written(2)]);
 }
 
 /** Returns the numbers that C writes. */
@@ -382,17 +391,6 @@ export function siteBestForHeader(header, site) {
     return close(count(module.calls.langtag_site_best_for_header(module.begin, size(header.length), size(at1), size(site.text.length), size(siteAt), size(site.count))));
 }
 
-/** Returns [result, found.range.start, found.range.len, found.distance]. */
-export function siteMatchForHeader(header, site) {
-    const at0 = open(header.length + site.text.length + site.tags.length);
-    const siteAt = aligned(at0 + header.length + site.text.length);
-    writeBytes(site.tags, siteAt);
-    const at1 = write(header, at0);
-    writeBytes(site.text, at1);
-    const result = count(module.calls.langtag_site_match_for_header(module.begin, size(header.length), size(at1), size(site.text.length), size(siteAt), size(site.count), module.outs[0]));
-    return close([result, written(0), written(1), written(2)]);
-}
-
 export function siteBestForRanges(ranges, site) {
     const rangesLength = lengthOf(ranges);
     const at0 = open(rangesLength + site.text.length + SPAN * ranges.length + site.tags.length);
@@ -402,6 +400,17 @@ export function siteBestForRanges(ranges, site) {
     const at1 = writeList(ranges, at0, rangesAt);
     writeBytes(site.text, at1);
     return close(count(module.calls.langtag_site_best_for_ranges(module.begin, size(rangesLength), size(rangesAt), size(ranges.length), size(at1), size(site.text.length), size(siteAt), size(site.count))));
+}
+
+/** Returns [result, found.range.start, found.range.len, found.distance]. */
+export function siteMatchForHeader(header, site) {
+    const at0 = open(header.length + site.text.length + site.tags.length);
+    const siteAt = aligned(at0 + header.length + site.text.length);
+    writeBytes(site.tags, siteAt);
+    const at1 = write(header, at0);
+    writeBytes(site.text, at1);
+    const result = count(module.calls.langtag_site_match_for_header(module.begin, size(header.length), size(at1), size(site.text.length), size(siteAt), size(site.count), module.outs[0]));
+    return close([result, written(0), written(1), written(2)]);
 }
 
 /** Returns the written string. */
@@ -429,15 +438,6 @@ export function unknownModifier(name) {
     const at0 = open(name.length);
     write(name, at0);
     return close(module.calls.langtag_unknown_modifier(module.begin, size(name.length), module.outs[0]) !== 0 ? [written(0), written(1)] : undefined);
-}
-
-/** Returns the written string. */
-export function cldrVersion(room = 32) {
-    const at0 = open(room);
-    const length = count(module.calls.langtag_cldr_version(module.begin, size(room)));
-    if (length <= room) return close(read(at0, length));
-    close();
-    return cldrVersion(length);
 }
 
 export function grandfathered(bytes) {
@@ -491,15 +491,6 @@ export function everyAccepted(bytes) {
     }
 }
 
-export function tagForHeaderLenient(header, tags) {
-    const tagsLength = lengthOf(tags);
-    const at0 = open(header.length + tagsLength + SPAN * tags.length);
-    const tagsAt = aligned(at0 + header.length + tagsLength);
-    const at1 = write(header, at0);
-    writeList(tags, at1, tagsAt);
-    return close(count(module.calls.langtag_tag_for_header_lenient(module.begin, size(header.length), size(at1), size(tagsLength), size(tagsAt), size(tags.length))));
-}
-
 /** Returns [result, index, bad.start, bad.len]. */
 export function tagForHeader(header, tags) {
     const tagsLength = lengthOf(tags);
@@ -509,4 +500,13 @@ export function tagForHeader(header, tags) {
     writeList(tags, at1, tagsAt);
     const result = module.calls.langtag_tag_for_header(module.begin, size(header.length), size(at1), size(tagsLength), size(tagsAt), size(tags.length), module.outs[0], module.outs[1]) >>> 0;
     return close([result, written(0), written(1), written(2)]);
+}
+
+export function tagForHeaderLenient(header, tags) {
+    const tagsLength = lengthOf(tags);
+    const at0 = open(header.length + tagsLength + SPAN * tags.length);
+    const tagsAt = aligned(at0 + header.length + tagsLength);
+    const at1 = write(header, at0);
+    writeList(tags, at1, tagsAt);
+    return close(count(module.calls.langtag_tag_for_header_lenient(module.begin, size(header.length), size(at1), size(tagsLength), size(tagsAt), size(tags.length))));
 }

@@ -20,14 +20,14 @@ from ._library import changed, library, numbers, ranges_in, site_in, tags_in, te
 from ._texts import Text, bytes_of
 
 
+def kind(text: Text) -> int:
+    return int(library.langtag_kind(*text_in(text)))
+
+
 def parse(text: Text) -> tuple[int, int, int, int, int, int, int, int, int, int, int, int, int]:
     parts = Parts()
     result = library.langtag_parse(*text_in(text), parts)
     return result, parts.language.start, parts.language.len, parts.script.start, parts.script.len, parts.region.start, parts.region.len, parts.variants.start, parts.variants.len, parts.extensions.start, parts.extensions.len, parts.private_use.start, parts.private_use.len
-
-
-def kind(text: Text) -> int:
-    return int(library.langtag_kind(*text_in(text)))
 
 
 def base_len(text: Text) -> int:
@@ -176,6 +176,10 @@ def minimized(text: Text) -> bytes:
     return written(library.langtag_minimized, *text_in(text))
 
 
+def cldr_version() -> bytes:
+    return written(library.langtag_cldr_version)
+
+
 def parent(text: Text) -> bytes:
     return written(library.langtag_parent, *text_in(text))
 
@@ -192,14 +196,14 @@ def best_for_header(header: Text, tags: list[Any]) -> int:
     return int(library.langtag_best_for_header(*text_in(header), *tags_in(tags)))
 
 
+def best_for_ranges(ranges: list[Any], tags: list[Any]) -> int:
+    return int(library.langtag_best_for_ranges(*ranges_in(ranges), *tags_in(tags)))
+
+
 def match_for_header(header: Text, tags: list[Any]) -> tuple[int, int, int, int]:
     found = BestMatch()
     result = library.langtag_match_for_header(*text_in(header), *tags_in(tags), found)
     return result, found.range.start, found.range.len, found.distance
-
-
-def best_for_ranges(ranges: list[Any], tags: list[Any]) -> int:
-    return int(library.langtag_best_for_ranges(*ranges_in(ranges), *tags_in(tags)))
 
 
 def suitable_for_header(header: Text, tags: list[Any]) -> list[int]:
@@ -214,14 +218,14 @@ def site_best_for_header(header: Text, site: tuple[bytes, bytes]) -> int:
     return int(library.langtag_site_best_for_header(*text_in(header), *site_in(site)))
 
 
+def site_best_for_ranges(ranges: list[Any], site: tuple[bytes, bytes]) -> int:
+    return int(library.langtag_site_best_for_ranges(*ranges_in(ranges), *site_in(site)))
+
+
 def site_match_for_header(header: Text, site: tuple[bytes, bytes]) -> tuple[int, int, int, int]:
     found = BestMatch()
     result = library.langtag_site_match_for_header(*text_in(header), *site_in(site), found)
     return result, found.range.start, found.range.len, found.distance
-
-
-def site_best_for_ranges(ranges: list[Any], site: tuple[bytes, bytes]) -> int:
-    return int(library.langtag_site_best_for_ranges(*ranges_in(ranges), *site_in(site)))
 
 
 def from_posix(name: Text) -> bytes:
@@ -235,10 +239,6 @@ def to_posix(text: Text) -> bytes:
 def unknown_modifier(name: Text) -> tuple[int, int] | None:
     modifier = Span()
     return (modifier.start, modifier.len) if library.langtag_unknown_modifier(*text_in(name), modifier) else None
-
-
-def cldr_version() -> bytes:
-    return written(library.langtag_cldr_version)
 
 
 def grandfathered(text: Text) -> int:
@@ -271,11 +271,11 @@ def every_accepted(text: Text) -> list[tuple[int, int, int, int]]:
     return [(result, range.start, range.len, weight.value) for result in results]
 
 
-def tag_for_header_lenient(header: Text, tags: list[Any]) -> int:
-    return int(library.langtag_tag_for_header_lenient(*text_in(header), *tags_in(tags)))
-
-
 def tag_for_header(header: Text, tags: list[Any]) -> tuple[int, int, int, int]:
     index, bad = c_size_t(), Span()
     result = library.langtag_tag_for_header(*text_in(header), *tags_in(tags), index, bad)
     return result, index.value, bad.start, bad.len
+
+
+def tag_for_header_lenient(header: Text, tags: list[Any]) -> int:
+    return int(library.langtag_tag_for_header_lenient(*text_in(header), *tags_in(tags)))

@@ -13,6 +13,19 @@
  */
 #include "native.h"
 
+static PyObject *kind(PyObject *module, PyObject *text_from) {
+    PyObject *answer = NULL;
+    Text text = {NULL};
+    if (!lt_text(text_from, &text)) {
+        LET_GO(text.len);
+        uint32_t result = langtag_kind(text.data, text.len);
+        TAKE_BACK();
+        answer = PyLong_FromUnsignedLong(result);
+    }
+    Py_XDECREF(text.owner);
+    return answer;
+}
+
 static PyObject *parse(PyObject *module, PyObject *text_from) {
     PyObject *answer = NULL;
     Text text = {NULL};
@@ -22,19 +35,6 @@ static PyObject *parse(PyObject *module, PyObject *text_from) {
         uint32_t result = langtag_parse(text.data, text.len, &parts);
         TAKE_BACK();
         answer = Py_BuildValue("(Innnnnnnnnnnn)", (unsigned)result, (Py_ssize_t)parts.language.start, (Py_ssize_t)parts.language.len, (Py_ssize_t)parts.script.start, (Py_ssize_t)parts.script.len, (Py_ssize_t)parts.region.start, (Py_ssize_t)parts.region.len, (Py_ssize_t)parts.variants.start, (Py_ssize_t)parts.variants.len, (Py_ssize_t)parts.extensions.start, (Py_ssize_t)parts.extensions.len, (Py_ssize_t)parts.private_use.start, (Py_ssize_t)parts.private_use.len);
-    }
-    Py_XDECREF(text.owner);
-    return answer;
-}
-
-static PyObject *kind(PyObject *module, PyObject *text_from) {
-    PyObject *answer = NULL;
-    Text text = {NULL};
-    if (!lt_text(text_from, &text)) {
-        LET_GO(text.len);
-        uint32_t result = langtag_kind(text.data, text.len);
-        TAKE_BACK();
-        answer = PyLong_FromUnsignedLong(result);
     }
     Py_XDECREF(text.owner);
     return answer;
@@ -552,6 +552,18 @@ static PyObject *minimized(PyObject *module, PyObject *text_from) {
     return answer;
 }
 
+static PyObject *cldr_version(PyObject *module, PyObject *arguments) {
+    PyObject *answer = NULL;
+    char room[192], *data = room;
+    size_t len = langtag_cldr_version(room, sizeof room);
+    answer = PyBytes_FromStringAndSize(len <= sizeof room ? room : NULL, (Py_ssize_t)len);
+    if (answer && len > sizeof room) {
+        data = PyBytes_AsString(answer);
+        langtag_cldr_version(data, len);
+    }
+    return answer;
+}
+
 static PyObject *parent(PyObject *module, PyObject *text_from) {
     PyObject *answer = NULL;
     Text text = {NULL};
@@ -618,24 +630,6 @@ static PyObject *best_for_header(PyObject *module, PyObject *arguments) {
     return answer;
 }
 
-static PyObject *match_for_header(PyObject *module, PyObject *arguments) {
-    PyObject *header_from, *tags_from, *answer = NULL;
-    Text header = {NULL};
-    List tags;
-    tags.spans = NULL;
-    langtag_best_match found;
-    if (!PyArg_ParseTuple(arguments, "OO", &header_from, &tags_from)) return NULL;
-    if (!lt_text(header_from, &header) && !lt_tags(tags_from, &tags)) {
-        LET_GO(header.len + tags.len);
-        size_t result = langtag_match_for_header(header.data, header.len, tags.text, tags.len, tags.spans, tags.count, &found);
-        TAKE_BACK();
-        answer = Py_BuildValue("(nnnI)", (Py_ssize_t)result, (Py_ssize_t)found.range.start, (Py_ssize_t)found.range.len, (unsigned)found.distance);
-    }
-    Py_XDECREF(header.owner);
-    lt_close(&tags);
-    return answer;
-}
-
 static PyObject *best_for_ranges(PyObject *module, PyObject *arguments) {
     PyObject *ranges_from, *tags_from, *answer = NULL;
     List ranges;
@@ -650,6 +644,24 @@ static PyObject *best_for_ranges(PyObject *module, PyObject *arguments) {
         answer = PyLong_FromSize_t(result);
     }
     lt_close(&ranges);
+    lt_close(&tags);
+    return answer;
+}
+
+static PyObject *match_for_header(PyObject *module, PyObject *arguments) {
+    PyObject *header_from, *tags_from, *answer = NULL;
+    Text header = {NULL};
+    List tags;
+    tags.spans = NULL;
+    langtag_best_match found;
+    if (!PyArg_ParseTuple(arguments, "OO", &header_from, &tags_from)) return NULL;
+    if (!lt_text(header_from, &header) && !lt_tags(tags_from, &tags)) {
+        LET_GO(header.len + tags.len);
+        size_t result = langtag_match_for_header(header.data, header.len, tags.text, tags.len, tags.spans, tags.count, &found);
+        TAKE_BACK();
+        answer = Py_BuildValue("(nnnI)", (Py_ssize_t)result, (Py_ssize_t)found.range.start, (Py_ssize_t)found.range.len, (unsigned)found.distance);
+    }
+    Py_XDECREF(header.owner);
     lt_close(&tags);
     return answer;
 }
@@ -712,22 +724,6 @@ static PyObject *site_best_for_header(PyObject *module, PyObject *arguments) {
     return answer;
 }
 
-static PyObject *site_match_for_header(PyObject *module, PyObject *arguments) {
-    PyObject *header_from, *site_from, *answer = NULL;
-    Text header = {NULL};
-    Site site;
-    langtag_best_match found;
-    if (!PyArg_ParseTuple(arguments, "OO", &header_from, &site_from)) return NULL;
-    if (!lt_text(header_from, &header) && !lt_site(site_from, &site)) {
-        LET_GO(header.len + site.len);
-        size_t result = langtag_site_match_for_header(header.data, header.len, site.text, site.len, site.tags, site.count, &found);
-        TAKE_BACK();
-        answer = Py_BuildValue("(nnnI)", (Py_ssize_t)result, (Py_ssize_t)found.range.start, (Py_ssize_t)found.range.len, (unsigned)found.distance);
-    }
-    Py_XDECREF(header.owner);
-    return answer;
-}
-
 static PyObject *site_best_for_ranges(PyObject *module, PyObject *arguments) {
     PyObject *ranges_from, *site_from, *answer = NULL;
     List ranges;
@@ -741,6 +737,22 @@ static PyObject *site_best_for_ranges(PyObject *module, PyObject *arguments) {
         answer = PyLong_FromSize_t(result);
     }
     lt_close(&ranges);
+    return answer;
+}
+
+static PyObject *site_match_for_header(PyObject *module, PyObject *arguments) {
+    PyObject *header_from, *site_from, *answer = NULL;
+    Text header = {NULL};
+    Site site;
+    langtag_best_match found;
+    if (!PyArg_ParseTuple(arguments, "OO", &header_from, &site_from)) return NULL;
+    if (!lt_text(header_from, &header) && !lt_site(site_from, &site)) {
+        LET_GO(header.len + site.len);
+        size_t result = langtag_site_match_for_header(header.data, header.len, site.text, site.len, site.tags, site.count, &found);
+        TAKE_BACK();
+        answer = Py_BuildValue("(nnnI)", (Py_ssize_t)result, (Py_ssize_t)found.range.start, (Py_ssize_t)found.range.len, (unsigned)found.distance);
+    }
+    Py_XDECREF(header.owner);
     return answer;
 }
 
@@ -795,18 +807,6 @@ static PyObject *unknown_modifier(PyObject *module, PyObject *name_from) {
         answer = result ? Py_BuildValue("(nn)", (Py_ssize_t)modifier.start, (Py_ssize_t)modifier.len) : lt_none();
     }
     Py_XDECREF(name.owner);
-    return answer;
-}
-
-static PyObject *cldr_version(PyObject *module, PyObject *arguments) {
-    PyObject *answer = NULL;
-    char room[192], *data = room;
-    size_t len = langtag_cldr_version(room, sizeof room);
-    answer = PyBytes_FromStringAndSize(len <= sizeof room ? room : NULL, (Py_ssize_t)len);
-    if (answer && len > sizeof room) {
-        data = PyBytes_AsString(answer);
-        langtag_cldr_version(data, len);
-    }
     return answer;
 }
 
@@ -902,23 +902,6 @@ static PyObject *every_accepted(PyObject *module, PyObject *text_from) {
     return answer;
 }
 
-static PyObject *tag_for_header_lenient(PyObject *module, PyObject *arguments) {
-    PyObject *header_from, *tags_from, *answer = NULL;
-    Text header = {NULL};
-    List tags;
-    tags.spans = NULL;
-    if (!PyArg_ParseTuple(arguments, "OO", &header_from, &tags_from)) return NULL;
-    if (!lt_text(header_from, &header) && !lt_tags(tags_from, &tags)) {
-        LET_GO(header.len + tags.len);
-        size_t result = langtag_tag_for_header_lenient(header.data, header.len, tags.text, tags.len, tags.spans, tags.count);
-        TAKE_BACK();
-        answer = PyLong_FromSize_t(result);
-    }
-    Py_XDECREF(header.owner);
-    lt_close(&tags);
-    return answer;
-}
-
 static PyObject *tag_for_header(PyObject *module, PyObject *arguments) {
     PyObject *header_from, *tags_from, *answer = NULL;
     Text header = {NULL};
@@ -938,9 +921,26 @@ static PyObject *tag_for_header(PyObject *module, PyObject *arguments) {
     return answer;
 }
 
+static PyObject *tag_for_header_lenient(PyObject *module, PyObject *arguments) {
+    PyObject *header_from, *tags_from, *answer = NULL;
+    Text header = {NULL};
+    List tags;
+    tags.spans = NULL;
+    if (!PyArg_ParseTuple(arguments, "OO", &header_from, &tags_from)) return NULL;
+    if (!lt_text(header_from, &header) && !lt_tags(tags_from, &tags)) {
+        LET_GO(header.len + tags.len);
+        size_t result = langtag_tag_for_header_lenient(header.data, header.len, tags.text, tags.len, tags.spans, tags.count);
+        TAKE_BACK();
+        answer = PyLong_FromSize_t(result);
+    }
+    Py_XDECREF(header.owner);
+    lt_close(&tags);
+    return answer;
+}
+
 PyMethodDef lt_functions[] = {
-    {"parse", parse, METH_O, NULL},
     {"kind", kind, METH_O, NULL},
+    {"parse", parse, METH_O, NULL},
     {"base_len", base_len, METH_O, NULL},
     {"viable_len", viable_len, METH_O, NULL},
     {"stop_len", stop_len, METH_O, NULL},
@@ -972,28 +972,28 @@ PyMethodDef lt_functions[] = {
     {"registry_date", registry_date, METH_NOARGS, NULL},
     {"maximized", maximized, METH_O, NULL},
     {"minimized", minimized, METH_O, NULL},
+    {"cldr_version", cldr_version, METH_NOARGS, NULL},
     {"parent", parent, METH_O, NULL},
     {"is_right_to_left", is_right_to_left, METH_O, NULL},
     {"distance", distance, METH_VARARGS, NULL},
     {"best_for_header", best_for_header, METH_VARARGS, NULL},
-    {"match_for_header", match_for_header, METH_VARARGS, NULL},
     {"best_for_ranges", best_for_ranges, METH_VARARGS, NULL},
+    {"match_for_header", match_for_header, METH_VARARGS, NULL},
     {"suitable_for_header", suitable_for_header, METH_VARARGS, NULL},
     {"suitable_for_ranges", suitable_for_ranges, METH_VARARGS, NULL},
     {"site_best_for_header", site_best_for_header, METH_VARARGS, NULL},
-    {"site_match_for_header", site_match_for_header, METH_VARARGS, NULL},
     {"site_best_for_ranges", site_best_for_ranges, METH_VARARGS, NULL},
+    {"site_match_for_header", site_match_for_header, METH_VARARGS, NULL},
     {"from_posix", from_posix, METH_O, NULL},
     {"to_posix", to_posix, METH_O, NULL},
     {"unknown_modifier", unknown_modifier, METH_O, NULL},
-    {"cldr_version", cldr_version, METH_NOARGS, NULL},
     {"grandfathered", grandfathered, METH_O, NULL},
     {"range_kind", range_kind, METH_O, NULL},
     {"matches_basic", matches_basic, METH_VARARGS, NULL},
     {"matches_extended", matches_extended, METH_VARARGS, NULL},
     {"every_fallback", every_fallback, METH_O, NULL},
     {"every_accepted", every_accepted, METH_O, NULL},
-    {"tag_for_header_lenient", tag_for_header_lenient, METH_VARARGS, NULL},
     {"tag_for_header", tag_for_header, METH_VARARGS, NULL},
+    {"tag_for_header_lenient", tag_for_header_lenient, METH_VARARGS, NULL},
     {"prepare", lt_prepare, METH_O, NULL},
     {NULL, NULL, 0, NULL}};

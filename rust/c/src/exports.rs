@@ -38,16 +38,16 @@ unsafe fn taken<'a, T>(start: *mut T, len: usize) -> &'a mut [T] {
 }
 
 #[no_mangle]
+pub unsafe extern "C" fn langtag_kind(bytes: *const u8, len: usize) -> u32 {
+    calls::parse::langtag_kind(lent(bytes, len))
+}
+
+#[no_mangle]
 pub unsafe extern "C" fn langtag_parse(bytes: *const u8, len: usize, parts: *mut Parts) -> u32 {
     let mut new_parts: Parts = zeroed();
     let answer = calls::parse::langtag_parse(lent(bytes, len), &mut new_parts);
     parts.write(new_parts);
     answer
-}
-
-#[no_mangle]
-pub unsafe extern "C" fn langtag_kind(bytes: *const u8, len: usize) -> u32 {
-    calls::parse::langtag_kind(lent(bytes, len))
 }
 
 #[no_mangle]
@@ -259,6 +259,11 @@ pub unsafe extern "C" fn langtag_minimized(bytes: *const u8, len: usize, buffer:
 }
 
 #[no_mangle]
+pub unsafe extern "C" fn langtag_cldr_version(buffer: *mut u8, buffer_len: usize) -> usize {
+    calls::likely::langtag_cldr_version(taken(buffer, buffer_len))
+}
+
+#[no_mangle]
 pub unsafe extern "C" fn langtag_parent(bytes: *const u8, len: usize, buffer: *mut u8, buffer_len: usize) -> usize {
     calls::parent::langtag_parent(lent(bytes, len), taken(buffer, buffer_len))
 }
@@ -279,16 +284,16 @@ pub unsafe extern "C" fn langtag_best_for_header(header: *const u8, header_len: 
 }
 
 #[no_mangle]
+pub unsafe extern "C" fn langtag_best_for_ranges(text: *const u8, text_len: usize, ranges: *const Span, ranges_len: usize, bytes: *const u8, len: usize, tags: *const Span, tags_len: usize) -> usize {
+    calls::choice::langtag_best_for_ranges(lent(text, text_len), lent(ranges, ranges_len), lent(bytes, len), lent(tags, tags_len))
+}
+
+#[no_mangle]
 pub unsafe extern "C" fn langtag_match_for_header(header: *const u8, header_len: usize, bytes: *const u8, len: usize, tags: *const Span, tags_len: usize, found: *mut BestMatch) -> usize {
     let mut new_found: BestMatch = zeroed();
     let answer = calls::best_match::langtag_match_for_header(lent(header, header_len), lent(bytes, len), lent(tags, tags_len), &mut new_found);
     found.write(new_found);
     answer
-}
-
-#[no_mangle]
-pub unsafe extern "C" fn langtag_best_for_ranges(text: *const u8, text_len: usize, ranges: *const Span, ranges_len: usize, bytes: *const u8, len: usize, tags: *const Span, tags_len: usize) -> usize {
-    calls::choice::langtag_best_for_ranges(lent(text, text_len), lent(ranges, ranges_len), lent(bytes, len), lent(tags, tags_len))
 }
 
 #[no_mangle]
@@ -312,16 +317,16 @@ pub unsafe extern "C" fn langtag_site_best_for_header(header: *const u8, header_
 }
 
 #[no_mangle]
+pub unsafe extern "C" fn langtag_site_best_for_ranges(text: *const u8, text_len: usize, ranges: *const Span, ranges_len: usize, bytes: *const u8, len: usize, tags: *const PreparedTag, tags_len: usize) -> usize {
+    calls::site::langtag_site_best_for_ranges(lent(text, text_len), lent(ranges, ranges_len), lent(bytes, len), lent(tags, tags_len))
+}
+
+#[no_mangle]
 pub unsafe extern "C" fn langtag_site_match_for_header(header: *const u8, header_len: usize, bytes: *const u8, len: usize, tags: *const PreparedTag, tags_len: usize, found: *mut BestMatch) -> usize {
     let mut new_found: BestMatch = zeroed();
     let answer = calls::site::langtag_site_match_for_header(lent(header, header_len), lent(bytes, len), lent(tags, tags_len), &mut new_found);
     found.write(new_found);
     answer
-}
-
-#[no_mangle]
-pub unsafe extern "C" fn langtag_site_best_for_ranges(text: *const u8, text_len: usize, ranges: *const Span, ranges_len: usize, bytes: *const u8, len: usize, tags: *const PreparedTag, tags_len: usize) -> usize {
-    calls::site::langtag_site_best_for_ranges(lent(text, text_len), lent(ranges, ranges_len), lent(bytes, len), lent(tags, tags_len))
 }
 
 #[no_mangle]
@@ -342,11 +347,6 @@ pub unsafe extern "C" fn langtag_unknown_modifier(name: *const u8, name_len: usi
         modifier.write(new_modifier);
     }
     answer
-}
-
-#[no_mangle]
-pub unsafe extern "C" fn langtag_cldr_version(buffer: *mut u8, buffer_len: usize) -> usize {
-    calls::likely::langtag_cldr_version(taken(buffer, buffer_len))
 }
 
 #[no_mangle]
@@ -387,11 +387,6 @@ pub unsafe extern "C" fn langtag_next_accepted(bytes: *const u8, len: usize, res
 }
 
 #[no_mangle]
-pub unsafe extern "C" fn langtag_tag_for_header_lenient(header: *const u8, header_len: usize, bytes: *const u8, len: usize, tags: *const Span, tags_len: usize) -> usize {
-    calls::look_up::langtag_tag_for_header_lenient(lent(header, header_len), lent(bytes, len), lent(tags, tags_len))
-}
-
-#[no_mangle]
 pub unsafe extern "C" fn langtag_tag_for_header(header: *const u8, header_len: usize, bytes: *const u8, len: usize, tags: *const Span, tags_len: usize, index: *mut usize, bad: *mut Span) -> u32 {
     let mut new_index: usize = zeroed();
     let mut new_bad: Span = zeroed();
@@ -399,4 +394,9 @@ pub unsafe extern "C" fn langtag_tag_for_header(header: *const u8, header_len: u
     index.write(new_index);
     bad.write(new_bad);
     answer
+}
+
+#[no_mangle]
+pub unsafe extern "C" fn langtag_tag_for_header_lenient(header: *const u8, header_len: usize, bytes: *const u8, len: usize, tags: *const Span, tags_len: usize) -> usize {
+    calls::look_up::langtag_tag_for_header_lenient(lent(header, header_len), lent(bytes, len), lent(tags, tags_len))
 }
