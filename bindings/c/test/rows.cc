@@ -204,10 +204,14 @@ static std::vector<tag> tags_of(const strings &texts) {
     return out;
 }
 
-static std::string header_of(const strings &asked) {
+/* Returns a function that answers a row about a header, or ranges, and a list of tags. */
+template <class Ask> static answer of_list(Ask ask) {
+    return [=](const strings &asked) { return ask(asked[0], split(asked[1], " ")); };
+}
+
+static std::string header_of(const std::string &header, const strings &texts) {
     using langtag::element_part;
-    const strings texts = split(asked[1], " ");
-    const langtag::accept_language accepted(asked[0]);
+    const langtag::accept_language accepted(header);
     const auto bad = accepted.bad_element();
     std::vector<langtag::range> ranges;
     for (const auto &weighted : accepted.ranges()) ranges.push_back(weighted.range);
@@ -226,12 +230,12 @@ static std::string elements_of(const strings &asked) {
     return (bad ? "element " + std::to_string(bad->index) + " has a bad " + what + " | " : "") + shown(ranges);
 }
 
-static std::string ranges_of(const strings &asked) {
-    const strings words = split(asked[0], " ");
+static std::string ranges_of(const std::string &asked, const strings &texts) {
+    const strings words = split(asked, " ");
     std::vector<langtag::range> ranges;
     for (const std::string &word : words)
         if (const auto range = langtag::range::parse(word)) ranges.push_back(*range);
-    return shown(langtag::look_up(ranges, tags_of(split(asked[1], " "))));
+    return shown(langtag::look_up(ranges, tags_of(texts)));
 }
 
 /* Returns the tag with one part set, or the answer for a tag without parts. An empty text removes any part, as `none` does. */
@@ -296,23 +300,20 @@ static std::string posix_name_of(const tag &one) {
     return !one.script().empty() || one == tag::parse(read) ? *name : *name + ", which is another tag";
 }
 
-static std::string best_of(const strings &asked) {
-    const strings texts = split(asked[1], " ");
-    const std::string &header = asked[0];
+static std::string best_of(const std::string &header, const strings &texts) {
     const langtag::site site(texts);
     const auto best = langtag::best_for_header(header, texts);
     const auto by_ranges = header.find(';') == std::string::npos ? langtag::best_for_ranges(split(header, ","), texts) : best;
     return alike(best, langtag::best_for_header(header, tags_of(texts)), site.best_for_header(header), by_ranges);
 }
 
-static std::string best_of_accepted(const strings &asked) {
-    const strings texts = split(asked[1], " ");
-    const langtag::accept_language accepted(asked[0]);
+static std::string best_of_accepted(const std::string &header, const strings &texts) {
+    const langtag::accept_language accepted(header);
     return alike(accepted.best(texts), accepted.best(tags_of(texts)));
 }
 
-static std::string best_of_ranges(const strings &asked) {
-    const strings ranges = split(asked[0], " "), texts = split(asked[1], " ");
+static std::string best_of_ranges(const std::string &asked, const strings &texts) {
+    const strings ranges = split(asked, " ");
     const langtag::site site(texts);
     return alike(langtag::best_for_ranges(ranges, texts), langtag::best_for_ranges(ranges, tags_of(texts)), site.best_for_ranges(ranges));
 }
@@ -350,9 +351,7 @@ template <class Match> static std::string told(const std::optional<Match> &match
            (match->tag.text() == texts[match->index] ? "" : " and another tag");
 }
 
-static std::string best_match_of(const strings &asked) {
-    const strings texts = split(asked[1], " ");
-    const std::string_view header = asked[0];
+static std::string best_match_of(const std::string &header, const strings &texts) {
     const langtag::site site(texts);
     const auto match = langtag::match_for_header(header, texts);
     if (match && match->tag != langtag::best_for_header(header, texts)) return "another tag";
@@ -360,17 +359,16 @@ static std::string best_match_of(const strings &asked) {
     return is_one_of_tags == match.has_value() ? alike(told(match, texts), told(site.match_for_header(header), texts)) : "another of tags";
 }
 
-static std::string suitable_of(const strings &asked) {
-    const strings texts = split(asked[1], " ");
-    return alike(langtag::suitable_for_header(asked[0], texts), langtag::suitable_for_header(asked[0], tags_of(texts)));
+static std::string suitable_of(const std::string &header, const strings &texts) {
+    return alike(langtag::suitable_for_header(header, texts), langtag::suitable_for_header(header, tags_of(texts)));
 }
 
 static const std::map<std::string, answer> answers = {
     {"tag", tag_of}, {"validity", validity_of}, {"suggestion", of_tag(suggestion_of)}, {"fault", of_tag(fault_of)},
     {"canonical", of_tag(canonical_of)}, {"grandfathered", grandfathered_of}, {"scan", scan_of}, {"match", match_of}, {"order", order_of},
-    {"edit", edit_of}, {"header", header_of}, {"ranges", ranges_of}, {"elements", elements_of}, {"refused", refused_of},
-    {"parents", of_tag(parents_of)}, {"best", best_of}, {"best-ranges", best_of_ranges}, {"best-accepted", best_of_accepted},
-    {"best-match", best_match_of}, {"suitable", suitable_of}, {"with-keyword", with_keyword_of},
+    {"edit", edit_of}, {"header", of_list(header_of)}, {"ranges", of_list(ranges_of)}, {"elements", elements_of}, {"refused", refused_of},
+    {"parents", of_tag(parents_of)}, {"best", of_list(best_of)}, {"best-ranges", of_list(best_of_ranges)}, {"best-accepted", of_list(best_of_accepted)},
+    {"best-match", of_list(best_match_of)}, {"suitable", of_list(suitable_of)}, {"with-keyword", with_keyword_of},
     {"maximized", of_tag(&tag::maximized)}, {"minimized", of_tag(&tag::minimized)}, {"right-to-left", of_tag(&tag::is_right_to_left)},
     {"extensions-form", of_tag(&tag::extensions_form)}, {"base", of_tag(&tag::base)}, {"is-locale", of_tag(&tag::is_locale, "no")},
     {"locale-form", of_tag([](const tag &one) { return alike(one.locale_form(), langtag::owned_tag(one).locale_form()); })},
@@ -402,14 +400,10 @@ static const std::map<std::string, answer> answers = {
          const auto desired = tag::parse(asked[0]), supported = tag::parse(asked[1]);
          return desired && supported ? std::to_string(langtag::distance(*desired, *supported)) : "-";
      }},
-    {"suitable-ranges", [](const strings &asked) {
-         const strings texts = split(asked[1], " ");
-         return shown(langtag::suitable_for_ranges(split(asked[0], " "), texts));
-     }},
-    {"keyword", [](const strings &asked) {
-         const auto one = tag::parse(asked[0]);
-         return shown(one ? one->keyword(asked[1]) : std::nullopt);
-     }},
+    {"suitable-ranges", of_list([](const std::string &ranges, const strings &texts) {
+         return shown(langtag::suitable_for_ranges(split(ranges, " "), texts));
+     })},
+    {"keyword", [](const strings &asked) { return tag::parse(asked[0]) ? shown(tag::parse(asked[0])->keyword(asked[1])) : "-"; }},
 };
 
 /* Answers the row that rows.c reads. */
