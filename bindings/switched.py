@@ -30,10 +30,10 @@ static bool planted(int fault) {
 
 """
 RUST = """
-extern crate std;
+extern crate std as std_of_planted;
 static PLANTED: core::sync::atomic::AtomicU32 = core::sync::atomic::AtomicU32::new(0);
 extern "C" fn read_planted() {
-    let fault = std::env::var("PLANTED").ok().and_then(|fault| fault.parse().ok());
+    let fault = std_of_planted::env::var("PLANTED").ok().and_then(|fault| fault.parse().ok());
     PLANTED.store(fault.unwrap_or(0), core::sync::atomic::Ordering::Relaxed);
 }
 #[used]
