@@ -2,26 +2,16 @@
 use Rattle.langtag_scan.proofs.Prelude.{◌≡◌, ℕ, ◌≤◌, IsTrue, List, [], ◌∷◌, ◌++◌, length, Option, None, Some, IfSome, unwrap_or, refl, ap, arith, append_assoc, append-nil, option_map, sym, ◌∙◌, AllByRecursion, flat_map, replace_range, common_steps}
 use Rattle.langtag_scan.proofs.Grammar.{is_script, is_region, is_variant, ends_of, HasEnds, Extension, PrivateUse, Record, EachRecord, IsWellFormed, Spells, extension_flat, one_flat, private_part_flat, spell, join, IsPrivate}
 use Rattle.langtag_scan.specs.declared.ends.Ends.{Ends}
-use Rattle.langtag_scan.proofs.Joins.{hyphenated, join-hyphenated, join-append, drop-join, length-join, length-hyphenated, join-replaced, join-around}
-use Rattle.langtag_scan.proofs.PartOffsets.{ends_equal}
-use Rattle.langtag_scan.proofs.SpelledTexts.{ends_each, ends_had, ends_ordered, ends_whole}
-use Rattle.langtag_scan.proofs.SubtagFacts.{of_script, of_region, of_variant}
-use Rattle.langtag_language.specs.Language.{SpellsLanguage}
+use Rattle.langtag_scan.proofs.Laws.{hyphenated, join-hyphenated, join-append, drop-join, length-join, length-hyphenated, join-replaced, join-around, ends_equal, ends_each, ends_had, ends_ordered, ends_whole, of_script, of_region, of_variant, spelled_once}
+use Rattle.langtag.proofs.Definitions.{SpellsLanguage, region_text, script_text, variants_text, SpellsVariants, SpellsExtensions, of_parts, with_language, with_script, with_region, with_variants, with_extensions, with_private_use, SpellsPrivateUse, SetsPart, ComesBack, with_old_part, language_text, extensions_text}
 use Rattle.langtag_place.specs.declared.region.Region.{Region}
 use Rattle.langtag_place.specs.declared.script.Script.{Script}
-use Rattle.langtag_place.specs.Text.{region_text, script_text, variants_text}
-use Rattle.langtag_place.specs.Variants.{SpellsVariants}
-use Rattle.langtag_extension.specs.Spelling.{SpellsExtensions}
 use Rattle.langtag_private.specs.Text.{private_use_text}
 use Rattle.langtag_private.proofs.Rules.{IsPrivate-from_test}
-use Rattle.langtag.specs.Edit.{of_parts, with_language, with_script, with_region, with_variants, with_extensions, with_private_use, SpellsPrivateUse, SetsPart, ComesBack, with_old_part}
 use Rattle.langtag.specs.Lengths.{after_hyphen, ends_from, lengths_of, with_length}
 use Rattle.langtag.specs.declared.lengths.Lengths.{Lengths}
-use Rattle.langtag_scan.proofs.NormalTexts.{spelled_once}
-use Rattle.langtag_language.specs.Text.{language_text}
 use Rattle.langtag_language.proofs.Rules.{IsLanguage-from_test}
 use Rattle.langtag_place.proofs.Rules.{IsVariants-from_test}
-use Rattle.langtag_extension.specs.Text.{extensions_text}
 use Rattle.langtag_extension.proofs.Rules.{IsExtensions-from_test}
 use Rattle.langtag.specs.PartPlaces.{part_start, part_end, put_text}
 use Rattle.langtag.specs.declared.part.Part.{Part}

@@ -3,10 +3,7 @@ use Rattle.langtag_scan.proofs.Prelude.{◌≡◌, ◌↔◌, ℕ, ◌<◌, List
 use Rattle.langtag_scan.proofs.Grammar.{Alike, IsFoundOf, is_normal, is_private_use, IsNormal, IsPrivate, IsIrregularAt, IsIrregular, IsTag, are_alike-decides, HasEnds}
 use Rattle.langtag_scan.specs.Found.{irregular_index}
 use Rattle.langtag_scan.specs.declared.finding.Finding.{Finding}
-use Rattle.langtag_scan.proofs.CaseLaw.{alike_parts, alike_normal, alike_private, alike_irregular}
-use Rattle.langtag_scan.proofs.FoundLaws.{tag_found, normal_found, private_found, found_had}
-use Rattle.langtag_scan.proofs.IrregularTexts.{irregular_fold, normal_no_private, normal_no_irregular, private_no_irregular}
-use Rattle.langtag_scan.proofs.SpelledTexts.{offsets_kept}
+use Rattle.langtag_scan.proofs.Laws.{alike_parts, alike_normal, alike_private, alike_irregular, tag_found, normal_found, private_found, found_had, irregular_fold, normal_no_private, normal_no_irregular, private_no_irregular, offsets_kept, IsAscii-tag, IsUtf8-tag}
 use Rattle.langtag_private.proofs.Rules.{IsPrivate-from_test}
 use Rattle.langtag.specs.Kinds.{IsOfKind, AreOfOneKind}
 use Rattle.langtag.specs.Recognised.{finding_of}
@@ -15,7 +12,6 @@ use Rattle.langtag.specs.declared.recognised.Recognised.{Recognised}
 use Rattle.langtag.specs.declared.typed_lang_tag.TypedLangTag.{TypedLangTag}
 use Rattle.langtag_scan.specs.declared.ends.Ends.{Ends}
 use Rattle.langtag_scan.specs.declared.finding.Finding.TheVariants.{Normal, PrivateUse, Irregular}
-use Rattle.langtag_scan.proofs.Ascii.{IsAscii-tag, IsUtf8-tag}
 
 -- the text is a tag, of the kind that was found
 pub record TellsKind (text : List ℕ) (found : Finding) : Type 0 where

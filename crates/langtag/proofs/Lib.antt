@@ -1,3 +1,4 @@
+pub mod Definitions
 pub mod EditLaws
 pub mod PartRules
 pub mod SingletonRepeats

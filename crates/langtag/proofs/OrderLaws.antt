@@ -1,12 +1,8 @@
 -- The derived comparisons of the grandfathered tags, and the order of tags of which one begins the other.
-use Rattle.std.proofs.Common.{◌≡◌, ◌==◌, ℕ, List, refl, ap, ◌∙◌, arith, nat_cmp}
-use Rattle.std.proofs.Math.Facts.{Fits-of_lt}
-use Rattle.std.proofs.lemmas.Grind.{common_steps}
+use Rattle.langtag_scan.proofs.Prelude.{◌≡◌, ◌==◌, ℕ, List, refl, ap, ◌∙◌, arith, nat_cmp, Fits-of_lt, common_steps, Greater}
+use Rattle.langtag_scan.proofs.Grammar.{EndsFirst, case_cmp, IsNormal, IsTag}
 use denote.Enum.Declared.{tag_of}
 use Rattle.std.specs.Hash.{usize}
-use Rattle.std.specs.declared.cmp.Ordering.TheVariants.{Greater}
-use Rattle.langtag_scan.specs.Case.{EndsFirst, case_cmp}
-use Rattle.langtag_scan.specs.Tag.{IsNormal, IsTag}
 use Rattle.langtag_scan.proofs.Ascii.{IsAscii-tag}
 use Rattle.langtag_scan.proofs.CaseOrder.{case_cmp-ends_first}
 use Rattle.langtag_scan.proofs.TagLaws.{tag_normal}

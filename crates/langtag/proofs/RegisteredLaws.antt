@@ -7,11 +7,10 @@ use Rattle.std.proofs.lemmas.List.FromFn.{get_or-range_with_len}
 use Rattle.langtag_scan.proofs.CaseLaw.{alike_tag}
 use Rattle.langtag_scan.proofs.NormalTexts.{spelled_segments}
 use Rattle.langtag_scan.proofs.IrregularTexts.{normal_no_irregular, registered_tag}
-use Rattle.langtag_language.specs.Language.{IsLanguage}
+use Rattle.langtag.proofs.Definitions.{IsLanguage, index_of, text_of, language_of, IsGrandfatheredAt, IsGrandfathered}
 use Rattle.langtag.specs.declared.grandfathered.GrandfatheredLangTag.{GrandfatheredLangTag}
 use Rattle.langtag.specs.declared.grandfathered.GrandfatheredLangTag.TheVariants.{EnGbOed}
 use Rattle.langtag.specs.declared.grandfathered.TheConstants.{GRANDFATHERED}
-use Rattle.langtag.specs.Registered.{index_of, text_of, language_of, IsGrandfatheredAt, IsGrandfathered}
 
 -- some irregular tag has a property exactly where one passes the test that decides it
 module _ (test : List ℕ → Bool) (P : List ℕ → Type 0) (decides : (name : List ℕ) → Decides (test name) (P name)) where

@@ -1,5 +1,4 @@
-use Rattle.std.proofs.Common.{length, arith, lt-ltb}
-use Rattle.std.proofs.lemmas.Grind.{common_steps}
+use Rattle.langtag_scan.proofs.Prelude.{length, arith, lt-ltb, common_steps}
 use Rattle.langtag.proofs.RefusalLaws.{goes_on_by_hyphen}
 use Rattle.langtag.proofs.refusal.ends_too_soon.Goals as goal
 

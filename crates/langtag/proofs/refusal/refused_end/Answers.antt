@@ -1,5 +1,4 @@
-use Rattle.std.proofs.Common.{arith, take_all}
-use Rattle.std.proofs.lemmas.Grind.{common_steps}
+use Rattle.langtag_scan.proofs.Prelude.{arith, take_all, common_steps}
 use Rattle.langtag.proofs.RefusalLaws.{first_end, second_end}
 use Rattle.langtag.proofs.refusal.refused_end.Goals as goal
 

@@ -1,5 +1,4 @@
-use Rattle.langtag_scan.proofs.NormalTexts.{spelled_once}
-use Rattle.langtag_scan.proofs.PartOffsets.{join-parts}
+use Rattle.langtag_scan.proofs.Laws.{spelled_once, join-parts}
 use Rattle.langtag.proofs.PartRules.{parts_stand}
 use Rattle.langtag.proofs.normal_lang_tag.NormalLangTag.new.Goals as goal
 
