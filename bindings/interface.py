@@ -28,6 +28,10 @@ class Parameter(NamedTuple):
     def is_writable(self) -> bool:
         return self.kind.startswith("&mut ")
 
+    def is_out(self) -> bool:
+        """Returns whether it refers to a number or a struct that the function writes."""
+        return self.is_writable() and not self.is_slice()
+
     def target(self) -> str:
         """Returns the type in Rattle of what is referred to."""
         return re.sub(r"^&(mut )?|[\[\]]", "", self.kind)
@@ -86,9 +90,49 @@ class Interface(NamedTuple):
             return OPAQUE[kind][0], f"opaque[{OPAQUE[kind][1]}]"
         return self.type_in_c(kind), name
 
+    def numbers_of(self, name: str, kind: str) -> list[tuple[str, str]]:
+        """Returns the names and types of the numbers in a value, such as range.start."""
+        inner = self.structs[kind].fields if kind in self.structs else []
+        return [number for field, of in inner for number in self.numbers_of(f"{name}.{field}", of)] or [(name, kind)]
+
     def prototype(self, function: Function) -> str:
         taken = ", ".join(f"{kind}{'' if kind.endswith('*') else ' '}{name}" for kind, name in self.parameters_in_c(function))
         return f"{'LANGTAG_PURE ' if function.is_pure() else ''}{INTEGERS[function.result]} {function.name}({taken or 'void'});"
+
+
+class Call:
+    """A function as a scripting language calls it: without the parameters to which it only writes, and with one parameter for a text and
+    the spans in it."""
+
+    def __init__(self, it: Interface, function: Function):
+        self.it, self.function = it, function
+        out = [of for of in function.parameters if of.is_out()]
+        self.state, self.written = [of for of in out if of.is_read], [of for of in out if not of.is_read]
+        self.has_buffer = any(of.name == "buffer" for of in function.parameters)
+        self.has_array = any(of.kind == "&mut [usize]" for of in function.parameters)
+        self.taken: list[tuple[str, str]] = []  # the name of each parameter, and what it is: text, list, site, u32 or u64
+        for of in function.parameters:
+            if of.kind in ("&[Span]", "&[PreparedTag]"):
+                self.taken[-1] = (of.name, "list") if of.kind == "&[Span]" else ("site", "site")
+            elif not of.is_out() and of.name != "buffer" and of.kind != "&mut [usize]":
+                self.taken.append(("text" if of.name == "bytes" else of.name, "text" if of.is_slice() else of.kind))
+
+    def name(self) -> str:
+        return self.function.short().replace("next_", "every_")
+
+    def names(self, kind: str) -> list[str]:
+        """Returns the parameters that are such a kind."""
+        return [name for name, of in self.taken if of == kind]
+
+    def numbers(self) -> list[tuple[str, str]]:
+        """Returns the names and types of the numbers that are written."""
+        return [number for of in self.written or self.state for number in self.it.numbers_of(of.name, of.target())]
+
+
+def calls(it: Interface) -> list[Call]:
+    """Returns the functions whose parameters a scripting language can pass: not those with a value of another crate's type."""
+    opaque = {name for name, struct in it.structs.items() if any(kind in OPAQUE for _, kind in struct.fields)}
+    return [Call(it, function) for function in it.functions if not any(of.is_out() and of.target() in opaque for of in function.parameters)]
 
 
 def pairs(text: str) -> list[tuple[str, str]]:

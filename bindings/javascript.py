@@ -1,7 +1,7 @@
 """Writes bindings/js/calls.js: each function of langtag.h as a function of strings and numbers."""
 from __future__ import annotations
 
-from interface import OPAQUE, Function, Interface, Parameter
+from interface import Call, Interface, calls
 
 HEAD = """\
 /*
@@ -21,9 +21,12 @@ HEAD = """\
 import {{ aligned, close, count, lengthOf, module, open, prepare, read, readSizes, size, SPAN, WORD, write, writeBytes, writeList, written }} from "./memory.js";
 """
 
-KINDS = {"&[u8]", "&[Span]", "&[PreparedTag]", "&mut [u8]", "&mut [usize]", "u32", "u64"}
 RESULTS = {"bool": "{} !== 0", "u32": "{} >>> 0", "usize": "count({})", "u64": "BigInt.asUintN(64, {})"}
 LONGER = 32  # how many bytes longer than its arguments a written string may be before it needs a second call
+# The length of a parameter in bytes, what passes it after its address, and what writes it and returns the address after it.
+LENGTHS = {"text": "{0}.length", "list": "{0}Length", "site": "site.text.length"}
+PASSED = {"text": "size({0}.length)", "list": "size({0}Length), size({0}At), size({0}.length)", "site": "size(site.text.length), size(siteAt), size(site.count)"}
+STEPS = {"text": "write({0}, at{1})", "list": "writeList({0}, at{1}, {0}At)", "site": "writeBytes(site.text, at{1})"}
 
 
 def camel(name: str) -> str:
@@ -31,142 +34,84 @@ def camel(name: str) -> str:
     return first + "".join(map(str.capitalize, others))
 
 
-def name_in_js(function: Function) -> str:
-    return camel(function.short().replace("next_", "every_"))
+def parameters(call: Call) -> list[tuple[str, str]]:
+    return [(camel(name), kind) for name, kind in call.taken]
 
 
-def is_out(it: Parameter) -> bool:
-    return it.is_writable() and not it.is_slice()
+def arguments(call: Call) -> str:
+    """Returns what is passed: strings by the address where they are written, and what C writes by the addresses of its numbers."""
+    passed, steps, outs = [], 0, 0
+    for name, kind in parameters(call):
+        place = f"size(at{steps})" if steps else "module.begin"
+        passed.append(f"{place}, {PASSED[kind].format(name)}" if kind in PASSED else name)
+        steps += kind in PASSED
+    for of in call.state + call.written:
+        passed.append(f"module.outs[{outs}]")
+        outs += len(call.it.numbers_of(of.name, of.target()))
+    if call.has_buffer:
+        passed.append(f"{f'size(at{steps})' if steps else 'module.begin'}, size(room)")
+    if call.has_array:
+        passed.append("size(foundAt), size(room)")
+    return ", ".join(passed)
 
 
-def is_plain(it: Interface, parameter: Parameter) -> bool:
-    """Returns whether a value has only numbers that its type names."""
-    struct = it.structs.get(parameter.target())
-    return struct is None or not any(kind in OPAQUE for _, kind in struct.fields)
+def before(call: Call) -> list[str]:
+    """Returns the lines before the call. The spans of lists come after all strings, and an array comes after the spans."""
+    strings, lists = [(name, kind) for name, kind in parameters(call) if kind in STEPS], call.names("list")
+    found = [f"const {name}Length = lengthOf({name});" for name in lists]
+    lengths = [LENGTHS[kind].format(name) for kind in LENGTHS for name, of in strings if of == kind]
+    needed = [*lengths, *(f"SPAN * {name}.length" for name in lists), *(["room"] if call.has_buffer else []), *(["WORD * room"] if call.has_array else []),
+              *(["site.tags.length"] if call.names("site") else [])]
+    opened = f"open({' + '.join(needed) or '0'});"
+    found.append(f"const at0 = {opened}" if strings or call.has_buffer else opened)
+    place = " + ".join(["at0", *lengths])
+    for name in lists:
+        found.append(f"const {name}At = aligned({place});")
+        place = f"{name}At + SPAN * {name}.length"
+    found += [f"const siteAt = aligned({place});", "writeBytes(site.tags, siteAt);"] if call.names("site") else []
+    found += [f"const foundAt = {place};"] if call.has_array else []
+    for number, (name, kind) in enumerate(strings):
+        is_used = number + 1 < len(strings) or call.has_buffer
+        found.append(f"{f'const at{number + 1} = ' if is_used else ''}{STEPS[kind].format(name, number)};")
+    if call.state:
+        found.append("prepare(0);" if call.state[0].target() == "usize" else f"prepare(0, {parameters(call)[0][0]}.length);")
+    return found
 
 
-def fields(it: Interface, kind: str, name: str) -> list[str]:
-    """Returns the names of the numbers of a value, such as range.start."""
-    inner = it.structs[kind].fields if kind in it.structs else []
-    return [word for field, of in inner for word in fields(it, of, f"{name}.{field}")] or [name]
-
-
-class Lowering:
-    """What the parameters of a function become: the parameters in JavaScript, lines that write them to memory, and the arguments."""
-
-    def __init__(self, it: Interface, function: Function):
-        self.parameters: list[str] = []
-        self.texts: list[str] = []  # the parameters that are strings
-        self.lists: list[str] = []  # the parameters that are lists of strings
-        self.steps: list[str] = []  # what writes each string, and returns the address after it
-        self.passed: list[str] = []
-        self.read: list[str] = []  # the numbers that are read before they are written
-        self.written: list[str] = []  # the other numbers that are written
-        self.has_buffer = function.parameters[-1:] != [] and function.parameters[-1].name == "buffer"
-        self.array = ""  # the array of numbers that is written
-        self.has_site = False
-        followers = [*function.parameters[1:], None]
-        for parameter, follower in zip(function.parameters, followers):
-            self.add(it, parameter, follower)
-
-    def place(self) -> str:
-        """Returns the address of what is written next, as the module takes it."""
-        return f"size(at{len(self.steps)})" if self.steps else "module.begin"
-
-    def add(self, it: Interface, parameter: Parameter, follower: Parameter | None) -> None:
-        name = camel(parameter.name)
-        if is_out(parameter):
-            self.passed.append(f"module.outs[{len(self.read) + len(self.written)}]")
-            (self.read if parameter.is_read else self.written).extend(fields(it, parameter.target(), name))
-        elif name == "buffer":
-            self.passed += [self.place(), "size(room)"]
-        elif parameter.kind == "&mut [usize]":
-            self.array = name
-            self.parameters.append("room")
-            self.passed += [f"size({name}At)", "size(room)"]
-        elif parameter.kind == "&[Span]":
-            self.passed += [f"size({name}At)", f"size({name}.length)"]
-        elif parameter.kind == "&[PreparedTag]":
-            self.passed += ["size(siteAt)", "size(site.count)"]
-        elif follower is not None and follower.kind == "&[PreparedTag]":
-            self.add_text("site", "site.text.length", f"writeBytes(site.text, at{len(self.steps)})")
-            self.has_site = True
-        elif follower is not None and follower.kind == "&[Span]":
-            of = camel(follower.name)
-            self.add_text(of, f"{of}Length", f"writeList({of}, at{len(self.steps)}, {of}At)")
-            self.lists.append(of)
-        elif parameter.is_slice():
-            self.add_text(name, f"{name}.length", f"write({name}, at{len(self.steps)})")
-            self.texts.append(name)
-        else:
-            self.parameters.append(name)
-            self.passed.append(name)
-
-    def add_text(self, name: str, length: str, step: str) -> None:
-        self.parameters.append(name)
-        self.passed += [self.place(), f"size({length})"]
-        self.steps.append(step)
-
-    def lines(self) -> list[str]:
-        """Returns the lines before the call. The spans of lists come after all strings, and an array comes after the spans."""
-        found = [f"const {it}Length = lengthOf({it});" for it in self.lists]
-        lengths = [*(f"{it}.length" for it in self.texts), *(f"{it}Length" for it in self.lists), *(["site.text.length"] if self.has_site else [])]
-        needed = [*lengths, *(f"SPAN * {it}.length" for it in self.lists), *(["room"] if self.has_buffer else []), *(["WORD * room"] if self.array else []),
-                  *(["site.tags.length"] if self.has_site else [])]
-        opened = f"open({' + '.join(needed) or '0'})"
-        found.append(f"const at0 = {opened};" if self.steps or self.has_buffer else f"{opened};")
-        place = " + ".join(["at0", *lengths])
-        for it in self.lists:
-            found.append(f"const {it}At = aligned({place});")
-            place = f"{it}At + SPAN * {it}.length"
-        if self.has_site:
-            found += [f"const siteAt = aligned({place});", "writeBytes(site.tags, siteAt);"]
-        if self.array:
-            found.append(f"const {self.array}At = {place};")
-        for number, step in enumerate(self.steps, 1):
-            is_used = number < len(self.steps) or self.has_buffer
-            found.append(f"const at{number} = {step};" if is_used else f"{step};")
-        if self.read:
-            found.append(f"prepare(0, {self.parameters[0]}.length);" if len(self.read) == 2 else "prepare(0);")
-        return found
-
-
-def ends(function: Function, made: Lowering, call: str) -> tuple[str, list[str]]:
+def ends(call: Call, made: str) -> tuple[str, list[str]]:
     """Returns what a function returns, and the lines of its call."""
-    result = RESULTS.get(function.result, "{}").format(call)
-    first, names = (len(made.read), made.written) if made.written else (0, made.read)
-    numbers = ", ".join(f"written({first + index})" for index in range(len(names)))
-    said = ", ".join(names)
-    if made.read and function.result == "bool":
-        return f"a list of [{said}]", ["const items = [];", f"while ({call} !== 0) {{", f"    items.push([{numbers}]);", "}", "return close(items);"]
-    if made.read:
+    first = sum(len(call.it.numbers_of(of.name, of.target())) for of in call.state) if call.written else 0
+    said = ", ".join(camel(name) if "." not in name else name for name, _ in call.numbers())
+    numbers = ", ".join(f"written({first + index})" for index in range(len(call.numbers())))
+    result, has_result = RESULTS.get(call.function.result, "{}").format(made), call.function.result != "bool"
+    if call.state and not has_result:
+        return f"a list of [{said}]", ["const items = [];", f"while ({made} !== 0) {{", f"    items.push([{numbers}]);", "}", "return close(items);"]
+    if call.state:
         return f"a list of [result, {said}]", ["const items = [];", "for (;;) {", f"    const result = {result};", "    if (result === 0) return close(items);",
                                                f"    items.push([result, {numbers}]);", "}"]
-    if made.written and function.result == "bool":
-        return f"[{said}] or undefined", [f"return close({call} !== 0 ? [{numbers}] : undefined);"]
-    if made.written:
+    if call.written and not has_result:
+        return f"[{said}] or undefined", [f"return close({made} !== 0 ? [{numbers}] : undefined);"]
+    if call.written:
         return f"[result, {said}]", [f"const result = {result};", f"return close([result, {numbers}]);"]
-    if made.has_buffer:
-        again = f"{name_in_js(function)}({', '.join([*made.parameters, 'length'])})"
-        return "the written string", [f"const length = {result};", f"if (length <= room) return close(read(at{len(made.steps)}, length));", "close();", f"return {again};"]
-    if made.array:
-        return "the numbers that C writes", [f"return close(readSizes({made.array}At, {result}));"]
-    if not function.result:
-        return "the changed string", [f"{call};", f"return close(read(at0, {made.parameters[0]}.length));"]
+    if call.has_buffer:
+        again = f"{camel(call.name())}({', '.join([*(name for name, _ in parameters(call)), 'length'])})"
+        place = f"at{sum(kind in STEPS for _, kind in call.taken)}"
+        return "the written string", [f"const length = {result};", f"if (length <= room) return close(read({place}, length));", "close();", f"return {again};"]
+    if call.has_array:
+        return "the numbers that C writes", [f"return close(readSizes(foundAt, {result}));"]
+    if not call.function.result:
+        return "the changed string", [f"{made};", f"return close(read(at0, {parameters(call)[0][0]}.length));"]
     return "", [f"return close({result});"]
 
 
-def function_in_js(it: Interface, function: Function) -> str:
-    made = Lowering(it, function)
-    returned, call = ends(function, made, f"module.calls.{function.name}({', '.join(made.passed)})")
-    room = " + ".join([*(f"{text}.length" for text in made.texts), str(LONGER)])
-    parameters = ", ".join(made.parameters + ([f"room = {room}"] if made.has_buffer else []))
+def function_in_js(call: Call) -> str:
+    returned, lines = ends(call, f"module.calls.{call.function.name}({arguments(call)})")
+    room = " + ".join([*(f"{camel(text)}.length" for text in call.names("text")), str(LONGER)])
+    taken = [name for name, _ in parameters(call)] + ([f"room = {room}"] if call.has_buffer else []) + (["room"] if call.has_array else [])
     comment = f"/** Returns {returned}. */\n" if returned else ""
-    body = "".join(f"    {line}\n" for line in [*made.lines(), *call])
-    return f"\n{comment}export function {name_in_js(function)}({parameters}) {{\n{body}}}\n"
+    body = "".join(f"    {line}\n" for line in [*before(call), *lines])
+    return f"\n{comment}export function {camel(call.name())}({', '.join(taken)}) {{\n{body}}}\n"
 
 
 def javascript(it: Interface, written: str) -> str:
-    """Returns calls.js. A function with a parameter of another kind is not in it."""
-    taken = [function for function in it.functions if all(of.kind in KINDS or (is_out(of) and is_plain(it, of)) for of in function.parameters)]
-    return HEAD.format(written=written) + "".join(function_in_js(it, function) for function in taken)
+    return HEAD.format(written=written) + "".join(map(function_in_js, calls(it)))

@@ -1,8 +1,7 @@
 """Writes the functions of langtag.h for Python twice, with the same parameters and results: in C, and over ctypes."""
 from __future__ import annotations
 
-from interface import INTEGERS, Function, Interface, Parameter
-from javascript import KINDS, fields, is_out, is_plain
+from interface import INTEGERS, Call, Interface, calls
 
 CONVENTIONS = """\
 The functions of langtag.h as functions of Python. {written}
@@ -19,43 +18,14 @@ with these exceptions:
 """
 
 
-class Call:
-    """A function, and what its parameters become in Python."""
-
-    def __init__(self, it: Interface, function: Function):
-        self.it, self.function, self.name = it, function, function.short().replace("next_", "every_")
-        out = [of for of in function.parameters if is_out(of)]
-        self.state, self.written = [of for of in out if of.is_read], [of for of in out if not of.is_read]
-        last = function.parameters[-1] if function.parameters else None
-        self.has_buffer, self.has_array = last is not None and last.name == "buffer", last is not None and last.kind == "&mut [usize]"
-        self.taken: list[tuple[str, str]] = []  # the name of each parameter of Python, and what it is
-        for of in function.parameters:
-            if of.kind in ("&[Span]", "&[PreparedTag]"):
-                self.taken[-1] = (of.name, "list") if of.kind == "&[Span]" else ("site", "site")
-            elif not is_out(of) and of.name != "buffer" and of.kind != "&mut [usize]":
-                self.taken.append(("text" if of.name == "bytes" else of.name, "text" if of.is_slice() else of.kind))
-
-    def is_of_one_text(self) -> bool:
-        return [kind for _, kind in self.taken] == ["text"]
-
-    def numbers(self) -> list[tuple[str, str]]:
-        """Returns the names and types of the numbers of the result, of which the first may be the result of C."""
-        result = [] if self.function.result == "bool" else [("result", self.function.result)]
-        return result + [(name, kind) for of in self.written or self.state
-                         for name, kind in zip(fields(self.it, of.target(), of.name), kinds(self.it, of.target()))]
-
-    def arguments(self, forms: dict[str, str], out: str, *more: str) -> str:
-        """Returns the arguments of the call, each in the form of its kind."""
-        return ", ".join([*(forms.get(kind, "{0}").format(name) for name, kind in self.taken), *(out.format(of.name) for of in self.state + self.written), *more])
+def numbers(call: Call) -> list[tuple[str, str]]:
+    """Returns the names and types of the numbers of the result, of which the first may be the result of C."""
+    return ([] if call.function.result == "bool" else [("result", call.function.result)]) + call.numbers()
 
 
-def kinds(it: Interface, kind: str) -> list[str]:
-    """Returns the types of the numbers of a value."""
-    return [of for _, inner in it.structs[kind].fields for of in kinds(it, inner)] if kind in it.structs else [kind]
-
-
-def calls(it: Interface) -> list[Call]:
-    return [Call(it, function) for function in it.functions if all(of.kind in KINDS or (is_out(of) and is_plain(it, of)) for of in function.parameters)]
+def arguments(call: Call, forms: dict[str, str], out: str, *more: str) -> str:
+    """Returns the arguments of the call, each in the form of its kind."""
+    return ", ".join([*(forms.get(kind, "{0}").format(name) for name, kind in call.taken), *(out.format(of.name) for of in call.state + call.written), *more])
 
 
 def indented(lines: list[str]) -> list[str]:
@@ -74,15 +44,19 @@ CLOSED = {"text": "Py_XDECREF({0}.owner);", "list": "lt_close(&{0});"}
 PASSED = {"text": "{0}.data, {0}.len", "list": "{0}.text, {0}.len, {0}.spans, {0}.count", "site": "site.text, site.len, site.tags, site.count"}
 
 
+def is_of_one_text(call: Call) -> bool:
+    return [kind for _, kind in call.taken] == ["text"]
+
+
 def tuple_in_c(call: Call) -> str:
-    codes = [(*CODES[kind], name) for name, kind in call.numbers()]
+    codes = [(*CODES[kind], name) for name, kind in numbers(call)]
     return f'Py_BuildValue("({"".join(code for code, _, _ in codes)})", {", ".join(cast + name for _, cast, name in codes)})'
 
 
 def made_in_c(call: Call, result: str, *more: str, is_long: bool = True) -> list[str]:
     """Returns the lines of the call. Other threads run during a call on a long text."""
     length = " + ".join(f"{name}.len" for name, kind in call.taken if kind in READ)
-    line = f"{result}{call.function.name}({call.arguments(PASSED, '&{0}', *more)});"
+    line = f"{result}{call.function.name}({arguments(call, PASSED, '&{0}', *more)});"
     return [f"LET_GO({length});", line, "TAKE_BACK();"] if length and is_long else [line]
 
 
@@ -111,23 +85,23 @@ def body_in_c(call: Call) -> list[str]:
 
 
 def function_in_c(call: Call) -> str:
-    given = f"{call.taken[0][0]}_from" if call.is_of_one_text() else "arguments"
-    objects = [f"{name}_from" for name, kind in call.taken if kind in READ and not call.is_of_one_text()]
+    is_one = is_of_one_text(call)
+    objects = [f"{name}_from" for name, kind in call.taken if kind in READ and not is_one]
     lines = [f"PyObject {''.join(f'*{name}, ' for name in objects)}*answer = NULL;"]
     lines += [line.format(name) for name, kind in call.taken for line in DECLARED[kind]]
     lines += [f"{call.it.type_in_c(of.target())} {of.name};" for of in call.written]
-    if not call.is_of_one_text() and call.taken:
+    if call.taken and not is_one:
         codes = "".join("O" if kind in READ else CODES[kind][0] for _, kind in call.taken)
         lines.append(f'if (!PyArg_ParseTuple(arguments, "{codes}", {", ".join(f"&{name}_from" if kind in READ else f"&{name}" for name, kind in call.taken)})) return NULL;')
     body, read = body_in_c(call), " && ".join(READ[kind].format(name) for name, kind in call.taken if kind in READ)
     lines += [f"if ({read}) {{", *indented(body), "}"] if read else body
     lines += [CLOSED[kind].format(name) for name, kind in call.taken if kind in CLOSED] + ["return answer;"]
-    return f"\nstatic PyObject *{call.name}(PyObject *module, PyObject *{given}) {{\n" + "\n".join(indented(lines)) + "\n}\n"
+    return f"\nstatic PyObject *{call.name()}(PyObject *module, PyObject *{call.taken[0][0] + '_from' if is_one else 'arguments'}) {{\n" + "\n".join(indented(lines)) + "\n}\n"
 
 
 def in_c(it: Interface, written: str) -> str:
     comment = "".join(f" * {line}".rstrip() + "\n" for line in CONVENTIONS.format(written=written).splitlines())
-    ways = [(call.name, "METH_O" if call.is_of_one_text() else "METH_VARARGS" if call.taken else "METH_NOARGS") for call in calls(it)]
+    ways = [(call.name(), "METH_O" if is_of_one_text(call) else "METH_VARARGS" if call.taken else "METH_NOARGS") for call in calls(it)]
     table = "".join(f'    {{"{name}", {name}, {way}, NULL}},\n' for name, way in [*ways, ("prepare", "METH_O")])
     return (f'/*\n{comment} */\n#include "native.h"\n{"".join(function_in_c(call) for call in calls(it))}\n'
             f"PyMethodDef lt_functions[] = {{\n{table.replace('prepare, METH', 'lt_prepare, METH')}    {{NULL, NULL, 0, NULL}}}};\n")
@@ -153,9 +127,9 @@ CONVERTED = {"text": "*text_in({0})", "list": "*{0}_in({0})", "site": "*site_in(
 def body_in_python(call: Call) -> tuple[str, list[str]]:
     """Returns the type of the result, and the lines of the function."""
     name = f"library.{call.function.name}"
-    given = call.arguments(CONVERTED, "{0}")
+    given = arguments(call, CONVERTED, "{0}")
     of_type = "bool" if call.function.result == "bool" else "int"
-    said = [number if "." in number or number == "result" else f"{number}.value" for number, _ in call.numbers()]
+    said = [number if "." in number or number == "result" else f"{number}.value" for number, _ in numbers(call)]
     made = "(" + ", ".join(said) + ("," if len(said) == 1 else "") + ")"
     kind = f"tuple[{', '.join(['int'] * len(said))}]"
     new = {of.name: f"c_{INTEGERS[of.target()].replace('_t', '').replace('size', 'size_t')}" if of.target() in INTEGERS else of.target() for of in call.state + call.written}
@@ -181,5 +155,5 @@ def in_python(it: Interface, written: str) -> str:
     for call in calls(it):
         kind, lines = body_in_python(call)
         taken = ", ".join(f"{name}: {TYPES.get(of, 'int')}" for name, of in call.taken)
-        text += f"\n\ndef {call.name}({taken}) -> {kind}:\n" + "\n".join(indented(lines)) + "\n"
+        text += f"\n\ndef {call.name()}({taken}) -> {kind}:\n" + "\n".join(indented(lines)) + "\n"
     return text

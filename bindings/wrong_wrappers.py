@@ -279,7 +279,7 @@ FAULTS = {
         Fault(JS, '"second-extlang", "script", "region"', '"second-extlang", "region", "script"', "table.txt"),
         Fault(JS, 'PARTS = ["language", "script", "region"', 'PARTS = ["language", "region", "script"', "edits.txt"),
         swapped(CALLS, "calls.langtag_matches_basic", "calls.langtag_matches_extended", "table.txt"),
-        tested(CALLS, "return canonical(bytes, length);", "return read(at1, room);", "a range, a tag or a text of a megabyte"),
+        tested(CALLS, "return canonical(text, length);", "return read(at1, room);", "a range, a tag or a text of a megabyte"),
         Fault(MEMORY, "Math.min(length, begin + 8192)", "Math.min(length, 8192)", "table.txt"),
         Fault(JS, "if (!found.has(subtag.toLowerCase()))", "", "table.txt"),
         Fault(JS, 'if (key !== "" && !found.has(key))', 'if (key !== "")', "unicode.txt"),

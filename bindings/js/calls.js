@@ -14,43 +14,43 @@
  */
 import { aligned, close, count, lengthOf, module, open, prepare, read, readSizes, size, SPAN, WORD, write, writeBytes, writeList, written } from "./memory.js";
 
-export function kind(bytes) {
-    const at0 = open(bytes.length);
-    write(bytes, at0);
-    return close(module.calls.langtag_kind(module.begin, size(bytes.length)) >>> 0);
+export function kind(text) {
+    const at0 = open(text.length);
+    write(text, at0);
+    return close(module.calls.langtag_kind(module.begin, size(text.length)) >>> 0);
 }
 
 /** Returns [result, parts.language.start, parts.language.len, parts.script.start, parts.script.len, parts.region.start, parts.region.len, parts.variants.start, parts.variants.len, parts.extensions.start, parts.extensions.len, parts.private_use.start, parts.private_use.len]. */
-export function parse(bytes) {
-    const at0 = open(bytes.length);
-    write(bytes, at0);
-    const result = module.calls.langtag_parse(module.begin, size(bytes.length), module.outs[0]) >>> 0;
+export function parse(text) {
+    const at0 = open(text.length);
+    write(text, at0);
+    const result = module.calls.langtag_parse(module.begin, size(text.length), module.outs[0]) >>> 0;
     return close([result, written(0), written(1), written(2), written(3), written(4), written(5), written(6), written(7), written(8), written(9), written(10), written(11)]);
 }
 
-export function baseLen(bytes) {
-    const at0 = open(bytes.length);
-    write(bytes, at0);
-    return close(count(module.calls.langtag_base_len(module.begin, size(bytes.length))));
+export function baseLen(text) {
+    const at0 = open(text.length);
+    write(text, at0);
+    return close(count(module.calls.langtag_base_len(module.begin, size(text.length))));
 }
 
-export function viableLen(bytes) {
-    const at0 = open(bytes.length);
-    write(bytes, at0);
-    return close(count(module.calls.langtag_viable_len(module.begin, size(bytes.length))));
+export function viableLen(text) {
+    const at0 = open(text.length);
+    write(text, at0);
+    return close(count(module.calls.langtag_viable_len(module.begin, size(text.length))));
 }
 
-export function stopLen(bytes) {
-    const at0 = open(bytes.length);
-    write(bytes, at0);
-    return close(count(module.calls.langtag_stop_len(module.begin, size(bytes.length))));
+export function stopLen(text) {
+    const at0 = open(text.length);
+    write(text, at0);
+    return close(count(module.calls.langtag_stop_len(module.begin, size(text.length))));
 }
 
 /** Returns [result, subtag.start, subtag.len, offset]. */
-export function refused(bytes) {
-    const at0 = open(bytes.length);
-    write(bytes, at0);
-    const result = module.calls.langtag_refused(module.begin, size(bytes.length), module.outs[0], module.outs[2]) >>> 0;
+export function refused(text) {
+    const at0 = open(text.length);
+    write(text, at0);
+    const result = module.calls.langtag_refused(module.begin, size(text.length), module.outs[0], module.outs[2]) >>> 0;
     return close([result, written(0), written(1), written(2)]);
 }
 
@@ -68,101 +68,101 @@ export function cmp(a, b) {
     return close(module.calls.langtag_cmp(module.begin, size(a.length), size(at1), size(b.length)));
 }
 
-export function hash(state, bytes) {
-    const at0 = open(bytes.length);
-    write(bytes, at0);
-    return close(BigInt.asUintN(64, module.calls.langtag_hash(state, module.begin, size(bytes.length))));
+export function hash(state, text) {
+    const at0 = open(text.length);
+    write(text, at0);
+    return close(BigInt.asUintN(64, module.calls.langtag_hash(state, module.begin, size(text.length))));
 }
 
 /** Returns the changed string. */
-export function fold(bytes) {
-    const at0 = open(bytes.length);
-    write(bytes, at0);
-    module.calls.langtag_fold(module.begin, size(bytes.length));
-    return close(read(at0, bytes.length));
+export function fold(text) {
+    const at0 = open(text.length);
+    write(text, at0);
+    module.calls.langtag_fold(module.begin, size(text.length));
+    return close(read(at0, text.length));
 }
 
 /** Returns the changed string. */
-export function recommend(bytes) {
-    const at0 = open(bytes.length);
-    write(bytes, at0);
-    module.calls.langtag_recommend(module.begin, size(bytes.length));
-    return close(read(at0, bytes.length));
+export function recommend(text) {
+    const at0 = open(text.length);
+    write(text, at0);
+    module.calls.langtag_recommend(module.begin, size(text.length));
+    return close(read(at0, text.length));
 }
 
 /** Returns a list of [subtag.start, subtag.len]. */
-export function everySubtag(bytes) {
-    const at0 = open(bytes.length);
-    write(bytes, at0);
-    prepare(0, bytes.length);
+export function everySubtag(text) {
+    const at0 = open(text.length);
+    write(text, at0);
+    prepare(0, text.length);
     const items = [];
-    while (module.calls.langtag_next_subtag(module.begin, size(bytes.length), module.outs[0], module.outs[2]) !== 0) {
+    while (module.calls.langtag_next_subtag(module.begin, size(text.length), module.outs[0], module.outs[2]) !== 0) {
         items.push([written(2), written(3)]);
     }
     return close(items);
 }
 
 /** Returns a list of [extension.start, extension.len]. */
-export function everyExtension(bytes) {
-    const at0 = open(bytes.length);
-    write(bytes, at0);
-    prepare(0, bytes.length);
+export function everyExtension(text) {
+    const at0 = open(text.length);
+    write(text, at0);
+    prepare(0, text.length);
     const items = [];
-    while (module.calls.langtag_next_extension(module.begin, size(bytes.length), module.outs[0], module.outs[2]) !== 0) {
+    while (module.calls.langtag_next_extension(module.begin, size(text.length), module.outs[0], module.outs[2]) !== 0) {
         items.push([written(2), written(3)]);
     }
     return close(items);
 }
 
 /** Returns [value.start, value.len] or undefined. */
-export function keyword(bytes, key) {
-    const at0 = open(bytes.length + key.length);
-    const at1 = write(bytes, at0);
+export function keyword(text, key) {
+    const at0 = open(text.length + key.length);
+    const at1 = write(text, at0);
     write(key, at1);
-    return close(module.calls.langtag_keyword(module.begin, size(bytes.length), size(at1), size(key.length), module.outs[0]) !== 0 ? [written(0), written(1)] : undefined);
+    return close(module.calls.langtag_keyword(module.begin, size(text.length), size(at1), size(key.length), module.outs[0]) !== 0 ? [written(0), written(1)] : undefined);
 }
 
 /** Returns a list of [key.start, key.len, value.start, value.len]. */
-export function everyKeyword(bytes) {
-    const at0 = open(bytes.length);
-    write(bytes, at0);
+export function everyKeyword(text) {
+    const at0 = open(text.length);
+    write(text, at0);
     prepare(0);
     const items = [];
-    while (module.calls.langtag_next_keyword(module.begin, size(bytes.length), module.outs[0], module.outs[1], module.outs[3]) !== 0) {
+    while (module.calls.langtag_next_keyword(module.begin, size(text.length), module.outs[0], module.outs[1], module.outs[3]) !== 0) {
         items.push([written(1), written(2), written(3), written(4)]);
     }
     return close(items);
 }
 
 /** Returns [attributes.start, attributes.len] or undefined. */
-export function attributes(bytes) {
-    const at0 = open(bytes.length);
-    write(bytes, at0);
-    return close(module.calls.langtag_attributes(module.begin, size(bytes.length), module.outs[0]) !== 0 ? [written(0), written(1)] : undefined);
+export function attributes(text) {
+    const at0 = open(text.length);
+    write(text, at0);
+    return close(module.calls.langtag_attributes(module.begin, size(text.length), module.outs[0]) !== 0 ? [written(0), written(1)] : undefined);
 }
 
 /** Returns [language.start, language.len] or undefined. */
-export function transform(bytes) {
-    const at0 = open(bytes.length);
-    write(bytes, at0);
-    return close(module.calls.langtag_transform(module.begin, size(bytes.length), module.outs[0]) !== 0 ? [written(0), written(1)] : undefined);
+export function transform(text) {
+    const at0 = open(text.length);
+    write(text, at0);
+    return close(module.calls.langtag_transform(module.begin, size(text.length), module.outs[0]) !== 0 ? [written(0), written(1)] : undefined);
 }
 
 /** Returns [value.start, value.len] or undefined. */
-export function field(bytes, key) {
-    const at0 = open(bytes.length + key.length);
-    const at1 = write(bytes, at0);
+export function field(text, key) {
+    const at0 = open(text.length + key.length);
+    const at1 = write(text, at0);
     write(key, at1);
-    return close(module.calls.langtag_field(module.begin, size(bytes.length), size(at1), size(key.length), module.outs[0]) !== 0 ? [written(0), written(1)] : undefined);
+    return close(module.calls.langtag_field(module.begin, size(text.length), size(at1), size(key.length), module.outs[0]) !== 0 ? [written(0), written(1)] : undefined);
 }
 
 /** Returns a list of [key.start, key.len, value.start, value.len]. */
-export function everyField(bytes) {
-    const at0 = open(bytes.length);
-    write(bytes, at0);
+export function everyField(text) {
+    const at0 = open(text.length);
+    write(text, at0);
     prepare(0);
     const items = [];
-    while (module.calls.langtag_next_field(module.begin, size(bytes.length), module.outs[0], module.outs[1], module.outs[3]) !== 0) {
+    while (module.calls.langtag_next_field(module.begin, size(text.length), module.outs[0], module.outs[1], module.outs[3]) !== 0) {
         items.push([written(1), written(2), written(3), written(4)]);
     }
     return close(items);
@@ -203,44 +203,44 @@ export function withoutKeyword(tag, key, room = tag.length + key.length + 32) {
 }
 
 /** Returns the written string. */
-export function extensionsForm(bytes, room = bytes.length + 32) {
-    const at0 = open(bytes.length + room);
-    const at1 = write(bytes, at0);
-    const length = count(module.calls.langtag_extensions_form(module.begin, size(bytes.length), size(at1), size(room)));
+export function extensionsForm(text, room = text.length + 32) {
+    const at0 = open(text.length + room);
+    const at1 = write(text, at0);
+    const length = count(module.calls.langtag_extensions_form(module.begin, size(text.length), size(at1), size(room)));
     if (length <= room) return close(read(at1, length));
     close();
-    return extensionsForm(bytes, length);
+    return extensionsForm(text, length);
 }
 
-export function isLocale(bytes) {
-    const at0 = open(bytes.length);
-    write(bytes, at0);
-    return close(module.calls.langtag_is_locale(module.begin, size(bytes.length)) !== 0);
+export function isLocale(text) {
+    const at0 = open(text.length);
+    write(text, at0);
+    return close(module.calls.langtag_is_locale(module.begin, size(text.length)) !== 0);
 }
 
 /** Returns the written string. */
-export function localeForm(bytes, room = bytes.length + 32) {
-    const at0 = open(bytes.length + room);
-    const at1 = write(bytes, at0);
-    const length = count(module.calls.langtag_locale_form(module.begin, size(bytes.length), size(at1), size(room)));
+export function localeForm(text, room = text.length + 32) {
+    const at0 = open(text.length + room);
+    const at1 = write(text, at0);
+    const length = count(module.calls.langtag_locale_form(module.begin, size(text.length), size(at1), size(room)));
     if (length <= room) return close(read(at1, length));
     close();
-    return localeForm(bytes, length);
+    return localeForm(text, length);
 }
 
 /** Returns [result, repeated.variant.start, repeated.variant.len, repeated.singleton.start, repeated.singleton.len]. */
-export function repeats(bytes) {
-    const at0 = open(bytes.length);
-    write(bytes, at0);
-    const result = module.calls.langtag_repeats(module.begin, size(bytes.length), module.outs[0]) >>> 0;
+export function repeats(text) {
+    const at0 = open(text.length);
+    write(text, at0);
+    const result = module.calls.langtag_repeats(module.begin, size(text.length), module.outs[0]) >>> 0;
     return close([result, written(0), written(1), written(2), written(3)]);
 }
 
 /** Returns [result, invalid.start, invalid.len]. */
-export function validity(bytes) {
-    const at0 = open(bytes.length);
-    write(bytes, at0);
-    const result = module.calls.langtag_validity(module.begin, size(bytes.length), module.outs[0]) >>> 0;
+export function validity(text) {
+    const at0 = open(text.length);
+    write(text, at0);
+    const result = module.calls.langtag_validity(module.begin, size(text.length), module.outs[0]) >>> 0;
     return close([result, written(0), written(1)]);
 }
 
@@ -255,19 +255,19 @@ export function suggestion(fault, subtag, room = subtag.length + 32) {
 }
 
 /** Returns the written string. */
-export function canonical(bytes, room = bytes.length + 32) {
-    const at0 = open(bytes.length + room);
-    const at1 = write(bytes, at0);
-    const length = count(module.calls.langtag_canonical(module.begin, size(bytes.length), size(at1), size(room)));
+export function canonical(text, room = text.length + 32) {
+    const at0 = open(text.length + room);
+    const at1 = write(text, at0);
+    const length = count(module.calls.langtag_canonical(module.begin, size(text.length), size(at1), size(room)));
     if (length <= room) return close(read(at1, length));
     close();
-    return canonical(bytes, length);
+    return canonical(text, length);
 }
 
-export function isCanonical(bytes) {
-    const at0 = open(bytes.length);
-    write(bytes, at0);
-    return close(module.calls.langtag_is_canonical(module.begin, size(bytes.length)) !== 0);
+export function isCanonical(text) {
+    const at0 = open(text.length);
+    write(text, at0);
+    return close(module.calls.langtag_is_canonical(module.begin, size(text.length)) !== 0);
 }
 
 export function registryDate() {
@@ -276,23 +276,23 @@ export function registryDate() {
 }
 
 /** Returns the written string. */
-export function maximized(bytes, room = bytes.length + 32) {
-    const at0 = open(bytes.length + room);
-    const at1 = write(bytes, at0);
-    const length = count(module.calls.langtag_maximized(module.begin, size(bytes.length), size(at1), size(room)));
+export function maximized(text, room = text.length + 32) {
+    const at0 = open(text.length + room);
+    const at1 = write(text, at0);
+    const length = count(module.calls.langtag_maximized(module.begin, size(text.length), size(at1), size(room)));
     if (length <= room) return close(read(at1, length));
     close();
-    return maximized(bytes, length);
+    return maximized(text, length);
 }
 
 /** Returns the written string. */
-export function minimized(bytes, room = bytes.length + 32) {
-    const at0 = open(bytes.length + room);
-    const at1 = write(bytes, at0);
-    const length = count(module.calls.langtag_minimized(module.begin, size(bytes.length), size(at1), size(room)));
+export function minimized(text, room = text.length + 32) {
+    const at0 = open(text.length + room);
+    const at1 = write(text, at0);
+    const length = count(module.calls.langtag_minimized(module.begin, size(text.length), size(at1), size(room)));
     if (length <= room) return close(read(at1, length));
     close();
-    return minimized(bytes, length);
+    return minimized(text, length);
 }
 
 /** Returns the written string. */
@@ -305,19 +305,19 @@ export function cldrVersion(room = 32) {
 }
 
 /** Returns the written string. */
-export function parent(bytes, room = bytes.length + 32) {
-    const at0 = open(bytes.length + room);
-    const at1 = write(bytes, at0);
-    const length = count(module.calls.langtag_parent(module.begin, size(bytes.length), size(at1), size(room)));
+export function parent(text, room = text.length + 32) {
+    const at0 = open(text.length + room);
+    const at1 = write(text, at0);
+    const length = count(module.calls.langtag_parent(module.begin, size(text.length), size(at1), size(room)));
     if (length <= room) return close(read(at1, length));
     close();
-    return parent(bytes, length);
+    return parent(text, length);
 }
 
-export function isRightToLeft(bytes) {
-    const at0 = open(bytes.length);
-    write(bytes, at0);
-    return close(module.calls.langtag_is_right_to_left(module.begin, size(bytes.length)) !== 0);
+export function isRightToLeft(text) {
+    const at0 = open(text.length);
+    write(text, at0);
+    return close(module.calls.langtag_is_right_to_left(module.begin, size(text.length)) !== 0);
 }
 
 export function distance(desired, supported) {
@@ -424,13 +424,13 @@ export function fromPosix(name, room = name.length + 32) {
 }
 
 /** Returns the written string. */
-export function toPosix(bytes, room = bytes.length + 32) {
-    const at0 = open(bytes.length + room);
-    const at1 = write(bytes, at0);
-    const length = count(module.calls.langtag_to_posix(module.begin, size(bytes.length), size(at1), size(room)));
+export function toPosix(text, room = text.length + 32) {
+    const at0 = open(text.length + room);
+    const at1 = write(text, at0);
+    const length = count(module.calls.langtag_to_posix(module.begin, size(text.length), size(at1), size(room)));
     if (length <= room) return close(read(at1, length));
     close();
-    return toPosix(bytes, length);
+    return toPosix(text, length);
 }
 
 /** Returns [modifier.start, modifier.len] or undefined. */
@@ -440,16 +440,16 @@ export function unknownModifier(name) {
     return close(module.calls.langtag_unknown_modifier(module.begin, size(name.length), module.outs[0]) !== 0 ? [written(0), written(1)] : undefined);
 }
 
-export function grandfathered(bytes) {
-    const at0 = open(bytes.length);
-    write(bytes, at0);
-    return close(module.calls.langtag_grandfathered(module.begin, size(bytes.length)) >>> 0);
+export function grandfathered(text) {
+    const at0 = open(text.length);
+    write(text, at0);
+    return close(module.calls.langtag_grandfathered(module.begin, size(text.length)) >>> 0);
 }
 
-export function rangeKind(bytes) {
-    const at0 = open(bytes.length);
-    write(bytes, at0);
-    return close(module.calls.langtag_range_kind(module.begin, size(bytes.length)) >>> 0);
+export function rangeKind(text) {
+    const at0 = open(text.length);
+    write(text, at0);
+    return close(module.calls.langtag_range_kind(module.begin, size(text.length)) >>> 0);
 }
 
 export function matchesBasic(range, tag) {
@@ -467,25 +467,25 @@ export function matchesExtended(range, tag) {
 }
 
 /** Returns a list of [rest.start, rest.len]. */
-export function everyFallback(bytes) {
-    const at0 = open(bytes.length);
-    write(bytes, at0);
-    prepare(0, bytes.length);
+export function everyFallback(text) {
+    const at0 = open(text.length);
+    write(text, at0);
+    prepare(0, text.length);
     const items = [];
-    while (module.calls.langtag_next_fallback(module.begin, size(bytes.length), module.outs[0]) !== 0) {
+    while (module.calls.langtag_next_fallback(module.begin, size(text.length), module.outs[0]) !== 0) {
         items.push([written(0), written(1)]);
     }
     return close(items);
 }
 
 /** Returns a list of [result, range.start, range.len, weight]. */
-export function everyAccepted(bytes) {
-    const at0 = open(bytes.length);
-    write(bytes, at0);
-    prepare(0, bytes.length);
+export function everyAccepted(text) {
+    const at0 = open(text.length);
+    write(text, at0);
+    prepare(0, text.length);
     const items = [];
     for (;;) {
-        const result = module.calls.langtag_next_accepted(module.begin, size(bytes.length), module.outs[0], module.outs[2], module.outs[4]) >>> 0;
+        const result = module.calls.langtag_next_accepted(module.begin, size(text.length), module.outs[0], module.outs[2], module.outs[4]) >>> 0;
         if (result === 0) return close(items);
         items.push([result, written(2), written(3), written(4)]);
     }
