@@ -22,13 +22,6 @@ from langtag import (AcceptLanguage, EditError, InvalidTag, Kind, Range, Tag, ki
                      tag_for_header, tag_for_header_lenient, viable_len)
 
 
-class Parts(unittest.TestCase):
-    def test_absent(self):
-        tag = parse(b"de")
-        self.assertEqual((tag.script, tag.region, tag.variants, tag.extensions, tag.private_use), (None, None, (), {}, None))
-        self.assertEqual((tag.grandfathered, tag.repeated_variant, tag.repeated_singleton), (None, None, None))
-
-
 class Kinds(unittest.TestCase):
     def test_none(self):
         for text in ("", "f", "en_US", "zh-x-é", "en\0", b"en\xff", "\ud800", "i-notexist", "K-ab", "\u212a"):
@@ -84,9 +77,6 @@ class Values(unittest.TestCase):
             self.assertEqual((str(tag.canonical()), str(tag.locale_form())), ("he-x" + rest, "he-x" + rest))
             self.assertIsNone(Tag("x" + rest).locale_form())
             self.assertEqual((str(tag.replace(script="Hebr")), tag.folded()), ("iw-Hebr-x" + rest, str(tag)))
-
-    def test_key(self):
-        self.assertEqual({Tag(text).key() for text in ("IW-il", "he-IL", "iw-IL")}, {"he-IL"})
 
     def test_single_letters(self):
         """A bytes object of one byte is shared in all of Python, so it must not be changed in place."""

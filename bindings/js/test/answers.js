@@ -141,7 +141,7 @@ function answerOrder(one, other) {
         return ranges.includes(undefined) ? undefined : ranges[0].equals(ranges[1]) ? "equal" : undefined;
     }
     const order = LanguageTag.compare(...tags);
-    assert((order === 0) === tags[0].equals(tags[1]) && LanguageTag.compare(tags[1], tags[0]) === 0 - order, "order and equality");
+    assert(alike(tags[0].equals(tags[1]), tags[0].equals(other)) === shown(order === 0) && LanguageTag.compare(tags[1], tags[0]) === 0 - order, "order and equality");
     return { "-1": "before", 0: "equal", 1: "after" }[order];
 }
 

@@ -56,15 +56,6 @@ class _Value:
     def __str__(self) -> str:
         return str(self._data, "ascii")
 
-    def __format__(self, form: str) -> str:
-        return format(str(self), form)
-
-    def __repr__(self) -> str:
-        return f"{type(self).__name__}({str(self)!r})"
-
-    def __reduce__(self) -> Any:
-        return type(self), (str(self),)
-
 
 class TagBase(_Value):
     __slots__ = ()

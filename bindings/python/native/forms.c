@@ -79,8 +79,6 @@ static PyObject *folded(PyObject *object, PyObject *unused) {
 }
 
 PyMethodDef lt_tag_methods[] = {
-    {"__reduce__", lt_reduce, METH_NOARGS, NULL},
-    {"__format__", lt_format, METH_O, NULL},
     {"recommended", recommended, METH_NOARGS, "recommended($self, /)\n--\n\n"
      "Returns the tag in the case that RFC 5646 section 2.1.1 recommends: zh-hant-tw becomes zh-Hant-TW."},
     {"canonical", canonical, METH_NOARGS,

@@ -79,8 +79,6 @@ int lt_tag_init(PyObject *self, PyObject *arguments, PyObject *named);
 Value *lt_as_tag(PyObject *object); /* NULL with an exception if it is not a Tag */
 bool lt_is_tag(PyObject *object);
 PyObject *lt_data(PyObject *self, void *unused);
-PyObject *lt_reduce(PyObject *self, PyObject *unused);
-PyObject *lt_format(PyObject *self, PyObject *form);
 
 extern PyType_Slot lt_value_slots[];
 extern PyGetSetDef lt_tag_members[], lt_range_members[];

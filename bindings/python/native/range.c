@@ -32,8 +32,6 @@ static PyObject *matches_basic(PyObject *self, PyObject *tag) { return matches(s
 static PyObject *matches_extended(PyObject *self, PyObject *tag) { return matches(self, tag, langtag_matches_extended); }
 
 PyMethodDef lt_range_methods[] = {
-    {"__reduce__", lt_reduce, METH_NOARGS, NULL},
-    {"__format__", lt_format, METH_O, NULL},
     {"matches_basic", matches_basic, METH_O,
      "matches_basic($self, tag, /)\n--\n\n"
      "Returns whether it matches a tag by basic filtering (section 3.3.1): de-DE matches de-DE-1996, but not de-Latn-DE. It does\n"

@@ -126,25 +126,6 @@ PyObject *lt_data(PyObject *object, void *unused) {
     return self->text.owner;
 }
 
-static PyObject *repr(PyObject *self) {
-    PyObject *text = str(self), *name = text ? PyObject_GetAttrString((PyObject *)Py_TYPE(self), "__name__") : NULL, *made = NULL;
-    if (name) made = PyUnicode_FromFormat("%U(%R)", name, text);
-    Py_XDECREF(text);
-    Py_XDECREF(name);
-    return made;
-}
-
-PyObject *lt_format(PyObject *self, PyObject *form) {
-    PyObject *text = str(self), *made = text ? PyObject_Format(text, form) : NULL;
-    Py_XDECREF(text);
-    return made;
-}
-
-PyObject *lt_reduce(PyObject *self, PyObject *unused) {
-    PyObject *text = str(self);
-    return text ? Py_BuildValue("O(N)", (PyObject *)Py_TYPE(self), text) : NULL;
-}
-
 static Py_hash_t hash(PyObject *object) {
     Value *self = (Value *)object;
     if (self->hash != -1) return self->hash;
@@ -181,5 +162,5 @@ static PyMemberDef members[] = { /* Python 3.9 and later read this; for 3.8 the 
     {"__weaklistoffset__", T_PYSSIZET, offsetof(Value, weak), READONLY, NULL}, {NULL, 0, 0, 0, NULL}};
 
 PyType_Slot lt_value_slots[] = {
-    {Py_tp_new, lt_new}, {Py_tp_dealloc, dealloc}, {Py_tp_str, str}, {Py_tp_repr, repr},
+    {Py_tp_new, lt_new}, {Py_tp_dealloc, dealloc}, {Py_tp_str, str},
     {Py_tp_hash, hash}, {Py_tp_richcompare, compare}, {Py_tp_members, members}, {0, NULL}};
