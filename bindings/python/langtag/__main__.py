@@ -5,8 +5,8 @@ import os
 import sys
 from typing import Callable, Iterable, Iterator, List, NamedTuple, NoReturn
 
-from . import (CLDR_VERSION, REGISTRY_DATE, InvalidRange, InvalidSubtag, InvalidTag, Kind, Range, Tag, __version__,
-               best_for_header, distance)
+from . import CLDR_VERSION, REGISTRY_DATE, InvalidRange, InvalidTag, Kind, Range, Tag, __version__, best_for_header, distance
+from ._texts import bytes_of
 
 HELP = """\
 langtag COMMAND [--tsv] [TEXT..]
@@ -46,11 +46,7 @@ class Answer(NamedTuple):
 
 
 class Stopped(Exception):
-    """Raised to end a run: its message, and the exit status."""
-
-    def __init__(self, words: str, status: int):
-        super().__init__(words)
-        self.words, self.status = words, status
+    """Raised to end a run, with a message and the exit status."""
 
 
 class Options:
@@ -65,9 +61,9 @@ class Options:
             elif argument in ("--tsv", "--basic"):
                 setattr(self, argument[2:], True)
             elif argument in ("--help", "-h"):
-                self.say(HELP)
+                say(HELP)
             elif argument in ("--version", "-V"):
-                self.say(f"langtag {__version__} (IANA's registry of {REGISTRY_DATE}, CLDR {CLDR_VERSION})\n")
+                say(f"langtag {__version__} (IANA's registry of {REGISTRY_DATE}, CLDR {CLDR_VERSION})\n")
             else:
                 wrong(f"unknown option `{argument}`")
         self.take(words)
@@ -87,16 +83,20 @@ class Options:
             wrong("expected two tags: distance A B")
         if self.basic and self.command != "match":
             wrong(f"`{self.command}` does not take --basic")
+        try:
+            self.range = Range(self.first if self.command == "match" else "*")
+        except InvalidRange:
+            raise Stopped("the first argument of `match` is not a language range", 2) from None
 
-    @staticmethod
-    def say(text: str) -> NoReturn:
-        write(text.encode())
-        raise Stopped("", 0)
-
-    def answer(self, text: bytes, columns: List[str], between: str = "") -> Answer:
-        """Returns the answer for a line: its columns, after the text itself if they are separated by tabs."""
+    def line(self, text: bytes, columns: List[str], words: List[str]) -> bytes:
+        """Returns the line about a text: the text and columns, separated by tabs, or some words."""
         column = text.replace(b"\t", b"\\t") + b"\t" if self.tsv else b""
-        return Answer(column + ("\t" if self.tsv else between).join(columns).encode("utf-8", "surrogateescape"))
+        return column + ("\t".join(columns) if self.tsv else " ".join(words)).encode("utf-8", "surrogateescape")
+
+
+def say(text: str) -> NoReturn:
+    write(text.encode())
+    raise Stopped("", 0)
 
 
 def write(data: bytes) -> None:
@@ -113,118 +113,77 @@ def wrong(words: str) -> NoReturn:
     raise Stopped(f"{words}\nlangtag: try `langtag --help`", 2)
 
 
-def tag_of(text: bytes) -> Tag | None:
-    try:
-        return Tag(text)
-    except InvalidTag:
-        return None
-
-
 def show(tag: Tag, options: Options) -> Answer:
     """Returns the line that the proved program langtag_show prints."""
-    text = str(tag)
-    if tag.kind is not Kind.NORMAL:
-        kind, whole = ("private", text) if tag.kind is Kind.PRIVATE_USE else ("irregular", tag.grandfathered or "")
-        if options.tsv:
-            return options.answer(text.encode(), [kind, "", "", "", "", "", whole if kind == "private" else "", ""])
-        return options.answer(text.encode(), [kind, whole], " ")
-    parts = parts_of(tag)
-    if options.tsv:
-        return options.answer(text.encode(), ["normal", *parts.values()])
-    return options.answer(text.encode(), ["normal", *(f"{name}={part}" for name, part in parts.items())], " ")
-
-
-def parts_of(tag: Tag) -> dict[str, str]:
-    """Returns the parts of a normal tag by their names in the answer."""
-    repeats = tag.repeated_variant is not None or tag.repeated_singleton is not None
-    return {"language": tag.language or "", "script": tag.script or "", "region": tag.region or "",
-            "variants": "-".join(tag.variants), "extensions": tag._extensions or "", "private": tag.private_use or "", "repeats": "yes" if repeats else "no"}
+    repeats = "yes" if tag.repeated_variant or tag.repeated_singleton else "no"
+    parts = {"language": tag.language or "", "script": tag.script or "", "region": tag.region or "", "variants": "-".join(tag.variants),
+             "extensions": tag._extensions or "", "private": tag.private_use or "", "repeats": repeats if tag.kind is Kind.NORMAL else ""}
+    kind, words = tag.kind.name.lower().partition("_")[0], [f"{name}={part}" for name, part in parts.items()]
+    whole = [tag.grandfathered or str(tag)]
+    return Answer(options.line(str(tag).encode(), [kind, *parts.values()], [kind, *(words if tag.kind is Kind.NORMAL else whole)]))
 
 
 def check(tag: Tag, options: Options) -> Answer:
     """Returns the line that the proved program langtag_check prints."""
     text, form, invalid = str(tag).encode(), str(tag.canonical()), tag.invalid_subtag
     if invalid is None:
-        return options.answer(text, ["valid", "", "", form] if options.tsv else ["valid", f"canonical={form}"], " ")
-    columns = [invalid.fault, invalid.subtag, form] if options.tsv else [f"{invalid.fault}={invalid.subtag}", f"canonical={form}"]
-    return Answer(options.answer(text, ["invalid", *columns], " ").line, False, why_invalid(text, invalid))
+        return Answer(options.line(text, ["valid", "", "", form], ["valid", f"canonical={form}"]))
+    line = options.line(text, ["invalid", invalid.fault, invalid.subtag, form], ["invalid", f"{invalid.fault}={invalid.subtag}", f"canonical={form}"])
+    return Answer(line, False, f"`{shown(text)}` is not valid: {invalid}{underlined(text, invalid.start, len(invalid.subtag))}")
 
 
-class Asked:
-    """A command that answers each text on its own."""
+def match(tag: Tag, options: Options) -> Answer:
+    is_matched = options.range.matches_basic(tag) if options.basic else options.range.matches_extended(tag)
+    line = options.line(str(tag).encode(), ["yes" if is_matched else "no"], [str(tag)])
+    return Answer(line if options.tsv or is_matched else None, is_matched)
 
-    def __init__(self, options: Options):
-        self.options, self.range = options, None
-        if options.command == "match":
-            try:
-                self.range = Range(options.first)
-            except InvalidRange:
-                raise Stopped("the first argument of `match` is not a language range", 2) from None
 
-    def answer(self, text: bytes) -> Answer:
-        options, tag = self.options, tag_of(text)
-        if tag is None:
-            return self.refused(text)
-        if self.range is not None:
-            return self.matched(tag, self.range)
-        if options.command == "show":
-            return show(tag, options)
-        if options.command == "check":
-            return check(tag, options)
-        return options.answer(text, [str(FORMS[options.command](tag))])
+def form(tag: Tag, options: Options) -> Answer:
+    made = [str(FORMS[options.command](tag))]
+    return Answer(options.line(str(tag).encode(), made, made))
 
-    def refused(self, text: bytes) -> Answer:
-        options = self.options
-        columns = {"show": ["refused"] + [""] * 7, "check": ["refused"] + [""] * 3}.get(options.command, ["-"])
-        answer = options.answer(text, columns if options.tsv else columns[:1])
+
+def answer(text: bytes, options: Options) -> Answer:
+    """Returns the answer of a command that asks each text on its own."""
+    try:
+        return {"show": show, "check": check, "match": match}.get(options.command, form)(Tag(text), options)
+    except InvalidTag as error:
+        first, *others = {"show": ["refused"] + [""] * 7, "check": ["refused"] + [""] * 3}.get(options.command, ["-"])
         is_left_out = options.command == "match" and not options.tsv
-        return Answer(None if is_left_out else answer.line, False, why_refused(text))
-
-    def matched(self, tag: Tag, range: Range) -> Answer:
-        is_matched = range.matches_basic(tag) if self.options.basic else range.matches_extended(tag)
-        if self.options.tsv:
-            return Answer(self.options.answer(str(tag).encode(), ["yes" if is_matched else "no"]).line, is_matched)
-        return Answer(str(tag).encode() if is_matched else None, is_matched)
+        return Answer(None if is_left_out else options.line(text, [first, *others], [first]), False, why(error))
 
 
-def best(options: Options, texts: List[bytes]) -> Answer:
+def best(texts: List[bytes], options: Options) -> Answer:
     """Returns the best tag for a header."""
-    for text in texts:
-        if tag_of(text) is None:
-            return Answer(options.answer(options.first, ["-"]).line, False, why_refused(text))
-    found = best_for_header(options.first, texts)
-    return Answer(options.answer(options.first, ["-" if found is None else found.decode()]).line, found is not None)
+    found, reason = None, ""
+    try:
+        found = best_for_header(options.first, texts)
+    except InvalidTag as error:
+        reason = why(error)
+    words = ["-" if found is None else found.decode()]
+    return Answer(options.line(options.first, words, words), found is not None, reason)
 
 
 def distance_in(line: bytes, options: Options) -> Answer:
     """Returns the answer of `distance` to a line with two tags."""
     words = line.replace(b"\v", b"\x00").split()
     if len(words) == 2:
-        return distance_of(words[0], words[1], options)
-    return Answer(between(line, b"", "-", options).line, False, "expected two tags in a line: A B")
+        return distance_of(words, options)
+    return Answer(options.line(line, ["", "-"], ["-"]), False, "expected two tags in a line: A B")
 
 
-def distance_of(desired: bytes, supported: bytes, options: Options) -> Answer:
-    for text in (desired, supported):
-        if tag_of(text) is None:
-            return Answer(between(desired, supported, "-", options).line, False, why_refused(text))
-    return between(desired, supported, str(distance(desired, supported)), options)
-
-
-def between(desired: bytes, supported: bytes, found: str, options: Options) -> Answer:
-    return options.answer(desired, [supported.decode("utf-8", "replace"), found] if options.tsv else [found])
-
-
-def why_refused(text: bytes) -> str:
+def distance_of(pair: List[bytes], options: Options) -> Answer:
+    found, reason = "-", ""
     try:
-        return f"`{shown(text)}` is a language tag: {Tag(text)}"
+        found = str(distance(*pair))
     except InvalidTag as error:
-        is_character = error.reason.startswith("invalid character")
-        return f"{error}{underlined(text, error.offset, 1 if is_character else len(error.subtag))}"
+        reason = why(error)
+    return Answer(options.line(pair[0], [pair[1].decode("utf-8", "replace"), found], [found]), not reason, reason)
 
 
-def why_invalid(text: bytes, invalid: InvalidSubtag) -> str:
-    return f"`{shown(text)}` is not valid: {invalid}{underlined(text, invalid.start, len(invalid.subtag))}"
+def why(error: InvalidTag) -> str:
+    is_character = error.reason.startswith("invalid character")
+    return f"{error}{underlined(bytes_of(error.text), error.offset, 1 if is_character else len(error.subtag))}"
 
 
 def shown(text: bytes) -> str:
@@ -289,13 +248,12 @@ class Run:
     def answer(self) -> bool:
         options = self.options
         if options.command == "best":
-            self.put(best(options, list(self.texts())))
+            self.put(best(list(self.texts()), options))
         elif options.command == "distance" and options.texts:
-            self.put(distance_of(options.texts[0], options.texts[1], options))
+            self.put(distance_of(options.texts, options))
         else:
-            ask = (lambda line: distance_in(line, options)) if options.command == "distance" else Asked(options).answer
             for text in self.texts():
-                self.put(ask(text))
+                self.put(distance_in(text, options) if options.command == "distance" else answer(text, options))
         return self.some if options.command == "match" else self.all
 
 
@@ -308,12 +266,12 @@ def main(arguments: List[str]) -> int:
             run.write()
         return 0 if good else 1
     except MemoryError:
-        stopped = Stopped("out of memory", 3)
+        words, status = "out of memory", 3
     except Stopped as error:
-        stopped = error
-    if stopped.words:
-        sys.stderr.write(f"langtag: {stopped.words}\n")
-    return stopped.status
+        words, status = error.args
+    if words:
+        sys.stderr.write(f"langtag: {words}\n")
+    return status
 
 
 if __name__ == "__main__":
