@@ -1,6 +1,6 @@
 """Removes the contracts from the Rattle sources. The rest is the Rust crate.
 
-    python3 rust/erase           writes the modules below rust/src/erased
+    python3 rust/erase           writes the modules below rust/src/erased, and those of the C library
     python3 rust/erase --check   prints how the modules differ from what it would write
 """
 import filecmp
@@ -24,6 +24,7 @@ from tokens import Code
 
 RUST = pathlib.Path(__file__).resolve().parent.parent
 CRATES = RUST.parent / "crates"
+LIST = "c/src/erased.rs"  # the modules that the C library shares with the Rust crate
 LAWS = "laws"  # the module of a crate that has only contracts: its functions do nothing, and nothing calls them
 
 
@@ -78,6 +79,9 @@ def write(out):
     for (source, path), code in files.items():
         path.parent.mkdir(parents=True, exist_ok=True)
         path.write_text(head(source) + str(code), encoding="utf-8")
+    shared = sorted(module.folder for module in MODULES if module.folder.startswith("src/"))
+    (out / LIST).write_text("// Made by rust/erase from rust/erase/crates.py. Change that file, not this one.\n\n//! The modules of the Rust crate.\n\n" + "".join(
+        f'#[path = "../../{folder}/mod.rs"]\npub mod {folder.rpartition("/")[2]};\n' for folder in shared), encoding="utf-8")
     roots = [out / module.folder / "mod.rs" for module in MODULES]
     subprocess.run(["rustfmt", "--edition", "2021", *roots], check=True)
 
@@ -93,6 +97,9 @@ def finish(files, inside):
 
 def differences(new, old):
     """Names the files that differ, or that one of the two folders lacks."""
+    if new.is_file():
+        yield from () if old.is_file() and new.read_bytes() == old.read_bytes() else (old,)
+        return
     found = filecmp.dircmp(new, old)
     for name in found.left_only + found.right_only + found.funny_files:
         yield old / name
@@ -106,19 +113,19 @@ def differences(new, old):
 def main(arguments):
     if not shutil.which("rustfmt"):
         sys.exit("rust/erase: there is no rustfmt")
-    folders = [module.folder for module in MODULES]
+    places = [LIST, *(module.folder for module in MODULES)]
     with tempfile.TemporaryDirectory() as folder:
         out = pathlib.Path(folder)
         write(out)
         if arguments == ["--check"]:
-            return check(out, folders)
-        for name in folders:
+            return check(out, places)
+        for name in places:
             shutil.rmtree(RUST / name, ignore_errors=True)
             shutil.move(out / name, RUST / name)
 
 
-def check(out, folders):
-    stale = [path for name in folders for path in differences(out / name, RUST / name)]
+def check(out, places):
+    stale = [path for name in places for path in differences(out / name, RUST / name)]
     for path in stale:
         print(f"rust/erase: {path.relative_to(RUST.parent)} is not what the eraser writes: run python3 rust/erase")
     if stale:

@@ -1,4 +1,6 @@
-//! The modules that rust/erase makes, which are those of the Rust crate.
+// Made by rust/erase from rust/erase/crates.py. Change that file, not this one.
+
+//! The modules of the Rust crate.
 
 #[path = "../../src/erased/case/mod.rs"]
 pub mod case;
