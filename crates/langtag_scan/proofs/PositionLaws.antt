@@ -1,8 +1,11 @@
 -- What a position says is so: which tags may follow the bytes that led to it, where their parts have ended, and what they are as a whole text.
 use Rattle.langtag_scan.proofs.Prelude.{◌≡◌, ℕ, ◌+◌, ◌<◌, ◌≤◌, Bool, true, false, cond, eqb, eqb-true, List, [], ◌∷◌, ◌++◌, length, get_or, set, Option, Some, None, refl, arith, append_assoc, append-nil, sym, ap, ◌∙◌, MatchOption, replicate, ◌&&◌, take, subst, option_map_or, is_none, and-true, cases_lt, and_parts, lt-ltb, ltb-true, both_ways, common_steps, length_push, length-set, map-append, take_more, take_all, length-take, get_or-replicate, position-Some, fold-append, fails_before_first, bytes_eq-Decides, ne_eqb, position, bytes_eq, option_map}
+use Rattle.std.specs.Prelude.{max}
+use Rattle.std.proofs.Math.Nat.{max-le}
 use Rattle.std.proofs.lemmas.Bool.{and_left}
 use Rattle.std.proofs.lemmas.List.{set-get_or}
-use Rattle.langtag_scan.proofs.Grammar.{fold_byte, fold_text, grandfathered_tags, irregular_texts, folded_texts, is_prefix, is_possible, kind_after, kind_of, IsBegun, end_at, HasStopped, ends_at, found_by, outcome, IsRefused, Begun, nothing_read, possible_index, irregular_after, position_after, position_of, part_before, ending_of, is_dead, Stage, Start, after_stage, may_end, IsFoundOf, IsPrivate, IsIrregular, IsIrregularAt, IsTag, IsViable, IsViableLength, IsStop}
+use Rattle.langtag_scan.proofs.Grammar.{fold_byte, fold_text, grandfathered_tags, irregular_texts, folded_texts, is_prefix, is_possible, kind_after, kind_of, IsBegun, end_at, HasStopped, ends_at, found_by, outcome, IsRefused, Begun, nothing_read, possible_index, irregular_after, position_after, position_of, part_before, ending_of, is_dead, Stage, Start, after_stage, may_end, IsFoundOf, IsPrivate, IsIrregular, IsIrregularAt, IsTag, IsViable, IsViableLength, IsStop, Language, Extended, AfterScript, AfterRegion, AfterVariant, AfterSingleton, InExtension, AfterMark, InPrivate, AfterFirstMark, InPrivateTag}
+use Rattle.langtag_scan.specs.Machine.{all_at}
 use Rattle.langtag_scan.specs.Position.{fresh, may_grow, stage_after, begun_after, place_of, ending_after, irregular_ending}
 use Rattle.langtag_scan.specs.declared.ends.Ends.{Ends}
 use Rattle.langtag_scan.proofs.IrregularTexts.{is_prefix-push, seventeen_folded, irregular_from_fold, irregular_fold, possible_viable, possible_prefix}
@@ -10,7 +13,6 @@ use Rattle.langtag_scan.proofs.SubtagFacts.{classes_of-kind}
 use Rattle.langtag_scan.proofs.ReadingLaws.{IsPartRead, reads_nothing, reads_after, refused_stops, stuck_stops, reads_viable, reads_ended}
 use Rattle.langtag_scan.proofs.Running.{empty_begun, begun_push, begun_parts, found_after}
 use Rattle.langtag_scan.proofs.StageLaws.{after_not_start}
-use Rattle.langtag_scan.proofs.PartOffsets.{ends_equal}
 use Rattle.langtag_scan.specs.declared.state.Ending.{Ending}
 use Rattle.langtag_scan.specs.declared.state.Ending.TheVariants.{NoTag, Normal, PrivateUse, Irregular}
 use Rattle.langtag_scan.proofs.FoundLaws.{Decides, decided}
@@ -38,10 +40,67 @@ below_set places k n within below j = let old = below j in grind (arith, common_
 marked_on : (places : List ℕ) (n : ℕ) (e : Ends) → IsMarked places n e → IsMarked (set places 5 n) (n + 1) e
 marked_on places n e m = grind (arith, common_steps, length-set, below_set, placed)
 
+-- the largest of these numbers is the first, or the second
+top : (n a : ℕ) → a ≤ n → max n a ≡ n
+top n a h = omega arith
+
+under : (n a : ℕ) → a ≤ n → max a n ≡ n
+under n a h = omega arith
+
+module _ (places : List ℕ) (n whole : ℕ) (six : length places ≡ 6) (below : (k : ℕ) → get_or places k 0 ≤ n) where
+  at : (k j : ℕ) → k < 6 → get_or (set places k n) j 0 ≡ cond (eqb j k) n (get_or places j 0)
+  at k j within = placed places k n j (omega (arith, six, within))
+
+  past_one : max (get_or places 1 0) (get_or places 0 0) ≤ n
+  past_one = max-le (below 1) (below 0)
+
+  past_two : max (get_or places 2 0) (max (get_or places 1 0) (get_or places 0 0)) ≤ n
+  past_two = max-le (below 2) past_one
+
+  past_three : max (get_or places 3 0) (max (get_or places 2 0) (max (get_or places 1 0) (get_or places 0 0))) ≤ n
+  past_three = max-le (below 3) past_two
+
+  -- the language ends at the index
+  language_ends : all_at n ≡ ends_at (set places 0 n) n
+  language_ends =
+      rw (at 0 0 (omega arith), at 0 1 (omega arith), at 0 2 (omega arith), at 0 3 (omega arith), at 0 4 (omega arith))
+      (rw (under n _ (below 1), under n _ (below 2), under n _ (below 3), under n _ (below 4)) refl)
+
+  -- the extensions end at the index
+  extensions_end : end_at InExtension n (ends_at places whole) ≡ ends_at (set places 4 n) n
+  extensions_end =
+      rw (at 4 0 (omega arith), at 4 1 (omega arith), at 4 2 (omega arith), at 4 3 (omega arith), at 4 4 (omega arith)) (rw (top n _ past_three) refl)
+
+  -- no part before the private use part ends at the index
+  others_end : end_at InPrivate n (ends_at places whole) ≡ ends_at (set places 5 n) n
+  others_end = rw (at 5 0 (omega arith), at 5 1 (omega arith), at 5 2 (omega arith), at 5 3 (omega arith), at 5 4 (omega arith)) refl
+
+  -- the part of a stage ends at the index
+  stage_ends : (after : Stage) → (after ≡ Start → ⊥) → end_at after n (ends_at places whole) ≡ ends_at (set places (place_of after) n) n
+  stage_ends Start past = absurd (past refl)
+  stage_ends (Language taken) past = language_ends
+  stage_ends (Extended taken) past = language_ends
+  stage_ends AfterScript past =
+      rw (at 1 0 (omega arith), at 1 1 (omega arith), at 1 2 (omega arith), at 1 3 (omega arith), at 1 4 (omega arith))
+      (rw (top n _ (below 0), under n _ (below 2), under n _ (below 3), under n _ (below 4)) refl)
+  stage_ends AfterRegion past =
+      rw (at 2 0 (omega arith), at 2 1 (omega arith), at 2 2 (omega arith), at 2 3 (omega arith), at 2 4 (omega arith))
+      (rw (top n _ past_one, under n _ (below 3), under n _ (below 4)) refl)
+  stage_ends AfterVariant past =
+      rw (at 3 0 (omega arith), at 3 1 (omega arith), at 3 2 (omega arith), at 3 3 (omega arith), at 3 4 (omega arith))
+      (rw (top n _ past_two, under n _ (below 4)) refl)
+  stage_ends AfterSingleton past = extensions_end
+  stage_ends InExtension past = extensions_end
+  stage_ends AfterMark past = others_end
+  stage_ends InPrivate past = others_end
+  stage_ends AfterFirstMark past = others_end
+  stage_ends InPrivateTag past = others_end
+
 -- the part of a stage ends at the index
 ends_set : (places : List ℕ) (n : ℕ) (e : Ends) (after : Stage) → (after ≡ Start → ⊥) → IsMarked places n e → end_at after n e ≡ ends_at (set places (place_of after) n) (end_at after n e).whole
-ends_set places n e Start past m = absurd (past refl)
-ends_set places n e after past m = grind (arith, common_steps, placed, ends_equal)
+ends_set places n e after past m =
+    let is = stage_ends places n e.whole m.six m.below after past in
+    subst (λ (d : Ends). end_at after n d ≡ ends_at (set places (place_of after) n) (end_at after n d).whole) (sym m.is) (is ∙ ap (ends_at (set places (place_of after) n)) (sym (ap (λ (d : Ends). d.whole) is)))
 
 pub marked_end : (places : List ℕ) (n : ℕ) (e : Ends) (after : Stage) → (after ≡ Start → ⊥) → IsMarked places n e → IsMarked (set places (place_of after) n) (n + 1) (end_at after n e)
 marked_end places n e after past m = grind (arith, common_steps, length-set, below_set, ends_set)
