@@ -36,3 +36,29 @@ fn forms_of_long_tags() {
     owned.set_keyword("ca", "buddhist").unwrap();
     assert_eq!(owned, format!("iw-u-ca-buddhist-kn-true-x-{tail}"));
 }
+
+/// Returns an extension with each key once, and then with each key again, in the other order and with another value; and its form.
+fn repeated_keys(start: &str, firsts: &str, seconds: &str) -> (String, String) {
+    let keys: Vec<String> = firsts
+        .chars()
+        .flat_map(|first| {
+            seconds
+                .chars()
+                .map(move |second| format!("{first}{second}"))
+        })
+        .collect();
+    let form: String = keys.iter().map(|key| format!("-{key}-foo")).collect();
+    let text: String = keys.iter().rev().map(|key| format!("-{key}-foo")).collect();
+    let again: String = keys.iter().map(|key| format!("-{key}-bar-baz")).collect();
+    (format!("{start}{text}{again}"), format!("{start}{form}"))
+}
+
+#[test]
+fn first_values_of_all_keys() {
+    let (digits, letters) = ("0123456789", "abcdefghijklmnopqrstuvwxyz");
+    let all = &format!("{digits}{letters}");
+    for (start, firsts, seconds) in [("de-t", letters, digits), ("de-u", all, all)] {
+        let (text, form) = repeated_keys(start, firsts, seconds);
+        assert_eq!(extensions_form(LangTag::new(&text).unwrap()), form);
+    }
+}

@@ -20,7 +20,7 @@ pub place-within : (b : ℕ) → is_alphanumeric b ≡ true → place_of b < 36
 unfolding is_letter is_digit fold_byte
 place-within b is = grind (arith, nat_tests)
 
-place-tells : (a b : ℕ) → is_alphanumeric a ≡ true → is_alphanumeric b ≡ true → (place_of a == place_of b) ≡ eqb (fold_byte a) (fold_byte b)
+pub place-tells : (a b : ℕ) → is_alphanumeric a ≡ true → is_alphanumeric b ≡ true → (place_of a == place_of b) ≡ eqb (fold_byte a) (fold_byte b)
 unfolding is_letter is_digit fold_byte
 place-tells a b is_a is_b = grind (arith, nat_tests)
 

@@ -6,13 +6,14 @@ use Rattle.std.proofs.Math.Nat.{mod-eq_of_lt, pow-suc}
 use Rattle.std.specs.Int.{byte_at, bytes_high_first}
 use Rattle.std.proofs.lemmas.Bool.{ltb-false, ltb-true}
 use Rattle.std.proofs.Math.Dec.{ltb}
-use Rattle.std.proofs.lemmas.List.Elements.{filter-append}
+use Rattle.std.specs.List.{All}
+use Rattle.std.proofs.lemmas.List.Elements.{All-filter, All-from_recursion, filter-append}
 use Rattle.std.proofs.lemmas.Nat.{div-mul-add, mul-add-lt}
 use Rattle.langtag_output.specs.Output.{with_subtag}
 use Rattle.langtag_scan.specs.Case.{fold_byte, folded_number}
 use Rattle.langtag_scan.specs.Class.{is_digit, is_letter}
 use Rattle.langtag_keyword.specs.Least.{HoldsLeast, AscendsFrom, has, is_within, left_number}
-use Rattle.langtag_keyword.proofs.AlphabetLaws.{Rise, Under, rise-in_alphabet, any-put, each-put}
+use Rattle.langtag_keyword.proofs.AlphabetLaws.{Rise, Under, rise-in_alphabet, any-put, each-alphabet, each-put}
 use Rattle.langtag_keyword.proofs.LeastLaws.{AllUpTo, above, above-all, above-none, above-split}
 
 -- ---- bytes
@@ -235,6 +236,27 @@ pub put-keys_in_order :
     flat_map (λ n. f (key_of n)) (numbers (in_alphabet ss)) ≡ flat_map f (in_alphabet ss)
 put-keys_in_order f ss all = put-keys f (in_alphabet ss) (each-key ss all)
 
+folded_alphanumeric : (s : List ℕ) → are_alphanumeric s ≡ true → are_alphanumeric (fold_text s) ≡ true
+unfolding is_letter is_digit fold_byte
+folded_alphanumeric [] h = refl
+folded_alphanumeric (b ∷ s) h = let k = and_parts (is_alphanumeric b) (are_alphanumeric s) h in grind (arith, nat_tests, folded_alphanumeric s k.1, k.0)
+
+folded_fits : (s : List ℕ) → IsSubtag s → IsSubtag (fold_text s)
+folded_fits s is = record { some = omega (arith, length-fold s, is.some); short = omega (arith, length-fold s, is.short); alphanumeric = folded_alphanumeric s is.alphanumeric }
+
+-- the number of a subtag of two characters
+abbrev pub NamesKey : ℕ → Type 0
+NamesKey n = IsSubtag (key_of n)
+
+each-named : (ss : List (List ℕ)) → AllByRecursion IsKey ss → AllByRecursion IsSubtag ss → AllByRecursion NamesKey (numbers ss)
+each-named [] keys fit = tt
+each-named (s ∷ ss) keys fit = (subst IsSubtag (sym (key-back s keys.0)) fit.0, each-named ss keys.1 fit.1)
+
+pub named-in_order : (test : ℕ → Bool) (ss : List (List ℕ)) → AreKeys ss → All NamesKey (filter test (numbers (in_alphabet ss)))
+named-in_order test ss all =
+    let ns = numbers (in_alphabet ss) in
+    All-filter test NamesKey ns (All-from_recursion NamesKey ns (each-named (in_alphabet ss) (each-key ss all) (each-alphabet IsSubtag folded_fits ss (keys-fit ss all))))
+
 -- ---- what is put for the numbers of subtags in order, some of them at a time
 
 -- what is put for the numbers above `last` comes after what was put before, and then all is put
@@ -262,15 +284,25 @@ module _ {put : ℕ → List (List ℕ)} {ss : List (List ℕ)} {least : Least} 
       let most : 18446744073709551615 ≤ least.last = ltb-false least.last 18446744073709551615 (sym rounds.ended ∙ no_more) in
       rounds.so_far out (pushes_ended _ out (ap (flat_map put) (above-none least.last (numbers (in_alphabet ss)) (up_to least.last (in_alphabet ss) most (each-number ss rounds.fits)))))
 
+  rounds-hold : (offered : Least) → more ≡ true → IsOffered (map order_number ss) least offered → HoldsLeast offered (numbers (in_alphabet ss))
+  rounds-hold offered is_more these =
+      let all = these.holds [] (rounds.empty is_more) in
+      record { order = all.order; same = λ n. all.same n ∙ ap (λ b. is_within offered.last offered.limit n && b) (has-in_order n ss) }
+
+  -- what is kept are the numbers within the limits
+  pub rounds-kept :
+      (offered sorted : Least) → more ≡ true → IsOffered (map order_number ss) least offered →
+      ((all : List ℕ) → AscendsFrom 0 all → HoldsLeast offered all → sorted.kept ≡ filter (is_within offered.last offered.limit) all) →
+      sorted.kept ≡ filter (is_within offered.last offered.limit) (numbers (in_alphabet ss))
+  rounds-kept offered sorted is_more these kept = kept (numbers (in_alphabet ss)) (rise-in_order ss rounds.fits) (rounds-hold offered is_more these)
+
   module _
       {offered : Least} (sorted new : Least) (is_more : more ≡ true) (these : IsOffered (map order_number ss) least offered)
       (kept : (all : List ℕ) → AscendsFrom 0 all → HoldsLeast offered all → sorted.kept ≡ filter (is_within offered.last offered.limit) all)
       (limit : sorted.limit ≡ offered.limit) (next : new.last ≡ sorted.limit)
     where
       holds : HoldsLeast offered (numbers (in_alphabet ss))
-      holds =
-          let all = these.holds [] (rounds.empty is_more) in
-          record { order = all.order; same = λ n. all.same n ∙ ap (λ b. is_within offered.last offered.limit n && b) (has-in_order n ss) }
+      holds = rounds-hold offered is_more these
 
       pub rounds-smaller : 18446744073709551615 - new.last < 18446744073709551615 - least.last
       rounds-smaller = omega (arith, ltb-true least.last 18446744073709551615 (sym rounds.ended ∙ is_more), holds.order, limit, next, these.last)

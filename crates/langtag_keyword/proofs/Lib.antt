@@ -6,6 +6,7 @@ pub mod KeywordLaws
 pub mod ExtensionsPut
 pub mod Found
 pub mod KeySetLaws
+pub mod KeyValues
 pub mod KeywordBlocks
 pub mod KeywordsInForm
 pub mod LeastLaws

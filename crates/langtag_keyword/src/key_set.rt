@@ -7,7 +7,7 @@ ghost use Rattle.langtag_keyword.specs.KeySets as spec;
 use langtag_scan::into_smallcase;
 
 /// The number of characters of a key: letters, ignoring case, and digits.
-const CHARACTERS: usize = 36;
+pub(crate) const CHARACTERS: usize = 36;
 
 /// A set of keys, which ignores case. It stores a `u64` for each first character, with a bit for each second character.
 #[derive(Clone, Copy, Debug, Drop)]
@@ -43,7 +43,7 @@ impl KeySet {
 }
 
 /// Returns the place of a character: 0 to 9 for a digit, and 10 to 35 for a letter, ignoring case.
-fn place_of(byte: u8) -> usize
+pub(crate) fn place_of(byte: u8) -> usize
     requires { is_alphanumeric byte ≡ true }
     ensures place { result ≡ spec.place_of byte }
     ensures within { result < 36 }

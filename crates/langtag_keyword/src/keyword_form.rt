@@ -1,15 +1,19 @@
 //! Keywords and fields with their canonical values, in the order of their keys, written to an output.
-ghost use Rattle.std.specs.Prelude.{◌≡◌, ◌≤◌, map};
-ghost use Rattle.std.specs.List.{AllByRecursion, filter, flat_map};
+ghost use Rattle.std.specs.Prelude.{◌≡◌, ◌≤◌, List, map, ℕ};
+ghost use Rattle.std.specs.List.{All, AllByRecursion, filter, flat_map};
+ghost use Rattle.std.specs.Option.{option_map};
 ghost use Rattle.langtag_output.specs.Output.{Pushes};
 ghost use Rattle.langtag_scan.proofs.SubtagFacts.{IsSubtag};
-ghost use Rattle.langtag_scan.specs.Subtags.{subtags};
+ghost use Rattle.langtag_scan.specs.Subtags.{join, subtags};
 ghost use Rattle.langtag_keyword.specs.Form as spec;
 ghost use Rattle.langtag_keyword.specs.Keys.{canonical_value_of, opens_keyword};
+ghost use Rattle.langtag_keyword.specs.Keywords.{value_of};
 ghost use Rattle.langtag_keyword.specs.Least.{IsOffered, key_of, order_number};
 
 use crate::alias::canonical_value;
 use crate::alphabet::{are_few, push_each_lowercase};
+use crate::key_set::place_of;
+use crate::key_values::values_after;
 use crate::keys::Keys;
 use crate::least_numbers::{FEW, LeastNumbers, MANY, order_number};
 use crate::subtags::value_in;
@@ -18,7 +22,8 @@ use langtag_scan::Subtags;
 
 /// Appends the keywords of a string, each once, in the order of their keys.
 ///
-/// The string is read once to find its keys, or several times if they are many, and up to each key to find its value.
+/// The string is read once to find its keys, or several times if they are many. If it is short, it is read up to each key to
+/// find its value, and otherwise once for each first character of the keys.
 pub fn push_keywords(out: &mut Output<'_>, text: &str, keys: Keys)
     requires { AllByRecursion IsSubtag (subtags text.now) }
     ensures { Pushes (spec.keywords_form (opens_keyword keys) (canonical_value_of keys) (subtags text.now)) out.old out.new }
@@ -61,10 +66,41 @@ fn offer_keys<const ROOM: usize>(least: &mut LeastNumbers<ROOM>, text: &str, key
 
 /// Appends the keywords whose keys have these numbers.
 fn push_each(out: &mut Output<'_>, text: &str, keys: Keys, numbers: &[u64])
+    requires subtags { AllByRecursion IsSubtag (subtags text.now) }
+    requires numbers { All (λ number. IsSubtag (key_of number)) numbers.now }
+    ensures { Pushes (flat_map (λ number. spec.keyword_form (opens_keyword keys) (canonical_value_of keys) (subtags text.now) (key_of number)) numbers.now) out.old out.new }
+{
+    if are_few(Some(text)) {
+        return push_each_of_few(out, text, keys, numbers);
+    }
+    push_each_of_many(out, text, keys, numbers);
+}
+
+/// Appends what [`push_each`] appends. The string is read up to each key.
+fn push_each_of_few(out: &mut Output<'_>, text: &str, keys: Keys, numbers: &[u64])
     ensures { Pushes (flat_map (λ number. spec.keyword_form (opens_keyword keys) (canonical_value_of keys) (subtags text.now) (key_of number)) numbers.now) out.old out.new }
 {
     for number in numbers {
-        push_keyword(out, text, keys, &key_of(*number));
+        let key = key_of(*number);
+        push_keyword(out, keys, key, value_in(text, keys, &key));
+    }
+}
+
+/// Appends what [`push_each`] appends. The string is read once for each first character of the keys.
+fn push_each_of_many(out: &mut Output<'_>, text: &str, keys: Keys, numbers: &[u64])
+    requires subtags { AllByRecursion IsSubtag (subtags text.now) }
+    requires numbers { All (λ number. IsSubtag (key_of number)) numbers.now }
+    ensures { Pushes (flat_map (λ number. spec.keyword_form (opens_keyword keys) (canonical_value_of keys) (subtags text.now) (key_of number)) numbers.now) out.old out.new }
+{
+    let mut first = b'0';
+    let mut values = values_after(first, text, keys);
+    for number in numbers {
+        let key = key_of(*number);
+        if key[0] != first {
+            first = key[0];
+            values = values_after(first, text, keys);
+        }
+        push_keyword(out, keys, key, values[place_of(key[1])]);
     }
 }
 
@@ -76,12 +112,13 @@ fn key_of(number: u64) -> [u8; 2]
     [first, second]
 }
 
-/// Appends a key with its canonical value, if the key occurs in the string.
-fn push_keyword(out: &mut Output<'_>, text: &str, keys: Keys, key: &[u8])
-    ensures { Pushes (spec.keyword_form (opens_keyword keys) (canonical_value_of keys) (subtags text.now) key.now) out.old out.new }
+/// Appends a key with its canonical value, if there is a value.
+fn push_keyword(out: &mut Output<'_>, keys: Keys, key: [u8; 2], value: Option<&str>)
+    ensures { (ss : List (List ℕ)) → option_map (λ v. v.now) value.entry ≡ option_map join (value_of (opens_keyword keys) key ss)
+        → Pushes (spec.keyword_form (opens_keyword keys) (canonical_value_of keys) ss key) out.old out.new }
 {
-    if let Some(value) = value_in(text, keys, key) {
-        out.push_subtag(key);
-        push_each_lowercase(out, canonical_value(keys, key, value));
+    if let Some(value) = value {
+        out.push_subtag(&key);
+        push_each_lowercase(out, canonical_value(keys, &key, value));
     }
 }

@@ -8,6 +8,7 @@ mod alphabet;
 mod edited_subtags;
 mod extension_form;
 mod key_set;
+mod key_values;
 mod keys;
 mod keyword_check;
 mod keyword_edit;

@@ -5,7 +5,7 @@
 use crate::erased::scan::into_smallcase;
 
 /// The number of characters of a key: letters, ignoring case, and digits.
-const CHARACTERS: usize = 36;
+pub(crate) const CHARACTERS: usize = 36;
 
 /// A set of keys, which ignores case. It stores a `u64` for each first character, with a bit for
 /// each second character.
@@ -40,7 +40,7 @@ impl KeySet {
 
 /// Returns the place of a character: 0 to 9 for a digit, and 10 to 35 for a letter, ignoring case.
 #[inline]
-fn place_of(byte: u8) -> usize {
+pub(crate) fn place_of(byte: u8) -> usize {
     if byte.is_ascii_digit() {
         return usize::from(byte - b'0');
     }

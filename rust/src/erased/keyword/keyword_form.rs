@@ -5,6 +5,8 @@
 
 use crate::erased::keyword::alias::canonical_value;
 use crate::erased::keyword::alphabet::{are_few, push_each_lowercase};
+use crate::erased::keyword::key_set::place_of;
+use crate::erased::keyword::key_values::values_after;
 use crate::erased::keyword::keys::Keys;
 use crate::erased::keyword::least_numbers::{order_number, LeastNumbers, FEW, MANY};
 use crate::erased::keyword::subtags::value_in;
@@ -13,8 +15,9 @@ use crate::erased::scan::Subtags;
 
 /// Appends the keywords of a string, each once, in the order of their keys.
 ///
-/// The string is read once to find its keys, or several times if they are many, and up to each key
-/// to find its value.
+/// The string is read once to find its keys, or several times if they are many. If it is short, it
+/// is read up to each key to find its value, and otherwise once for each first character of the
+/// keys.
 #[inline]
 pub fn push_keywords(out: &mut Output<'_>, text: &str, keys: Keys) {
     if are_few(Some(text)) {
@@ -51,8 +54,33 @@ fn offer_keys<const ROOM: usize>(least: &mut LeastNumbers<ROOM>, text: &str, key
 /// Appends the keywords whose keys have these numbers.
 #[inline]
 fn push_each(out: &mut Output<'_>, text: &str, keys: Keys, numbers: &[u64]) {
+    if are_few(Some(text)) {
+        return push_each_of_few(out, text, keys, numbers);
+    }
+    push_each_of_many(out, text, keys, numbers);
+}
+
+/// Appends what [`push_each`] appends. The string is read up to each key.
+#[inline]
+fn push_each_of_few(out: &mut Output<'_>, text: &str, keys: Keys, numbers: &[u64]) {
     for number in numbers {
-        push_keyword(out, text, keys, &key_of(*number));
+        let key = key_of(*number);
+        push_keyword(out, keys, key, value_in(text, keys, &key));
+    }
+}
+
+/// Appends what [`push_each`] appends. The string is read once for each first character of the
+/// keys.
+fn push_each_of_many(out: &mut Output<'_>, text: &str, keys: Keys, numbers: &[u64]) {
+    let mut first = b'0';
+    let mut values = values_after(first, text, keys);
+    for number in numbers {
+        let key = key_of(*number);
+        if key[0] != first {
+            first = key[0];
+            values = values_after(first, text, keys);
+        }
+        push_keyword(out, keys, key, values[place_of(key[1])]);
     }
 }
 
@@ -62,11 +90,10 @@ fn key_of(number: u64) -> [u8; 2] {
     [first, second]
 }
 
-/// Appends a key with its canonical value, if the key occurs in the string.
-#[inline]
-fn push_keyword(out: &mut Output<'_>, text: &str, keys: Keys, key: &[u8]) {
-    if let Some(value) = value_in(text, keys, key) {
-        out.push_subtag(key);
-        push_each_lowercase(out, canonical_value(keys, key, value));
+/// Appends a key with its canonical value, if there is a value.
+fn push_keyword(out: &mut Output<'_>, keys: Keys, key: [u8; 2], value: Option<&str>) {
+    if let Some(value) = value {
+        out.push_subtag(&key);
+        push_each_lowercase(out, canonical_value(keys, &key, value));
     }
 }

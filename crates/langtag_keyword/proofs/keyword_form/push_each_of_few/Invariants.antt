@@ -1,5 +1,5 @@
 use Rattle.langtag_keyword.proofs.Common.{ℕ, List, drop, flat_map, Output, Pushes, subtags, keyword_form, canonical_value_of, opens_keyword, key_of}
-use Rattle.langtag_keyword.proofs.keyword_form.push_each.Given as goal
+use Rattle.langtag_keyword.proofs.keyword_form.push_each_of_few.Given as goal
 
 -- the keywords of the numbers that are left are put after those before them
 abbrev pub invariant-loop-number : goal.invariant-loop-number
