@@ -109,6 +109,30 @@ const EDITS: &[(&str, &str)] = &[
     ("de-a-bb-x-c|extensions|", "de-x-c"),
     ("de-1996|private_use|x-12345678-y", "de-1996-x-12345678-y"),
     ("de-x-y|private_use|", "de"),
+    ("en|language|abcdefgh", "abcdefgh"),
+    ("EN-us|language|zh-yue", "zh-yue-us"),
+    (
+        "de-Latn-DE-1996-a-bb-x-y|language|zh-yue",
+        "zh-yue-Latn-DE-1996-a-bb-x-y",
+    ),
+    ("de-1996|script|Latn", "de-Latn-1996"),
+    ("zh-min-nan-TW|script|Hant", "zh-min-nan-Hant-TW"),
+    ("de-DE-u-co-phonebk|script|Latn", "de-Latn-DE-u-co-phonebk"),
+    ("de-1996|region|AT", "de-AT-1996"),
+    ("es-x-y|region|419", "es-419-x-y"),
+    ("zh-cmn-Hans|region|CN", "zh-cmn-Hans-CN"),
+    ("en-a-bb|variants|1996", "en-1996-a-bb"),
+    ("sl-IT-x-a|variants|nedis", "sl-IT-nedis-x-a"),
+    ("sl-rozaj|variants|rozaj-biske-1994", "sl-rozaj-biske-1994"),
+    ("en-x-a|extensions|u-co-phonebk", "en-u-co-phonebk-x-a"),
+    ("qaa-Qaaa-QM|extensions|1-22-A-bb", "qaa-Qaaa-QM-1-22-A-bb"),
+    ("fr-CA-a-bb|extensions|a-bb-U-co", "fr-CA-a-bb-U-co"),
+    ("fr-CA|private_use|X-Y", "fr-CA-X-Y"),
+    ("en-u-co|private_use|x-1", "en-u-co-x-1"),
+    (
+        "en-x-y|private_use|x-12345678-12345678",
+        "en-x-12345678-12345678",
+    ),
 ];
 
 #[test]

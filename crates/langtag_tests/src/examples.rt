@@ -59,20 +59,29 @@ const BREAKS: &[(&str, &str)] = &[
 /// moved, and then the strings of both tags.
 fn moved(alloc: Global, question: &str) -> Result<String, AllocError> {
     let (from, to) = cut(question);
-    let mut catalogue = Catalogue::new(alloc);
-    catalogue.put(owned(alloc, "iw")?, String::from_str(alloc, "Shalom")?)?;
-    let is_moved = catalogue.rename(&owned(alloc, from)?, owned(alloc, to)?)?;
+    let mut catalogue = catalogue_of(alloc, "iw")?;
+    let is_moved = renamed(alloc, &mut catalogue, from, to)?;
     let old = catalogue.find(alloc, from)?.unwrap_or("none");
     let new = catalogue.find(alloc, to)?.unwrap_or("none");
     format!(in alloc; "{is_moved} {old} {new}")
 }
 
+/// Moves the string of one tag to another tag. Returns whether there was a string.
+fn renamed(
+    alloc: Global,
+    catalogue: &mut Catalogue,
+    from: &str,
+    to: &str,
+) -> Result<bool, AllocError> {
+    catalogue.rename(&owned(alloc, from)?, owned(alloc, to)?)
+}
+
 const MOVES: &[(&str, &str)] = &[
-    ("IW|he", "true none Shalom"),
-    ("IW|HE", "true none Shalom"),
-    ("iw|Iw", "true Shalom Shalom"),
+    ("IW|he", "true none Zdravo"),
+    ("IW|HE", "true none Zdravo"),
+    ("iw|Iw", "true Zdravo Zdravo"),
     ("fr|he", "false none none"),
-    ("fr|iw", "false none Shalom"),
+    ("fr|iw", "false none Zdravo"),
     ("iw|x_0", "true none none"),
 ];
 

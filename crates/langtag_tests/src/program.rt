@@ -2,7 +2,7 @@
 //! test how the program ends.
 use crate::feed::{Feed, Text};
 use crate::sheet::{Fault, Sheet};
-use crate::support::expect_true;
+use crate::support::{expect_true, repeated};
 use langtag_answers::{ShowError, run};
 use langtag_lines::conclude;
 use std::alloc::{AllocError, Global};
@@ -222,14 +222,20 @@ fn a_read_is_of_one_page(rt: HostRuntime) {
 }
 
 /// Returns the answer to a tag for private use of this many bytes, at least three.
-fn private_answer(alloc: Global, len: usize) -> Result<Vec<u8>, AllocError> {
-    let mut answer = Vec::new(alloc);
-    answer.extend_from_slice(b"private x")?;
-    for _ in 0..len.saturating_sub(3) / 2 {
-        answer.extend_from_slice(b"-a")?;
-    }
-    answer.extend_from_slice(if len % 2 == 0 { b"-aa\n" } else { b"-a\n" })?;
+fn private_answer(alloc: Global, len: usize) -> Result<String, AllocError> {
+    let mut answer = repeated(alloc, "private x+-a", len.saturating_sub(3) / 2)?;
+    answer.push_str(if len % 2 == 0 { "-aa\n" } else { "-a\n" })?;
     Ok(answer)
+}
+
+/// Returns the same, and makes it again if allocation failed.
+fn private_answer_again(rt: &impl Abort, alloc: Global, len: usize) -> String {
+    match private_answer(alloc, len) {
+        Ok(answer) => answer,
+        Err(_) => private_answer(alloc, len)
+            .ok()
+            .expect(rt, "memory was refused twice"),
+    }
 }
 
 /// The length of a tag for private use, and the number of writes. The answers fill a page to its last byte, or go
@@ -239,13 +245,10 @@ const PAGES: [(usize, u64); 4] = [(16_375, 1), (16_376, 2), (16_377, 2), (20_000
 #[test]
 fn a_page_is_filled_to_its_last_byte(rt: HostRuntime) {
     for (len, writes) in PAGES {
-        let answer = private_answer(rt.alloc(), len).or_else(|_| private_answer(rt.alloc(), len));
-        let answer = answer.ok().expect(&rt, "memory was refused twice");
-        let tag = answer
-            .as_slice()
-            .get(8..len.saturating_add(8))
-            .unwrap_or(&[]);
-        let ended = ran(&rt, rt.alloc(), Given::new(tag, 16_384, answer.as_slice()));
+        let answer = private_answer_again(&rt, rt.alloc(), len);
+        let answer = answer.as_str().as_bytes();
+        let tag = answer.get(8..len.saturating_add(8)).unwrap_or(&[]);
+        let ended = ran(&rt, rt.alloc(), Given::new(tag, 16_384, answer));
         expect_true(&rt, ended.is(Ok(())) && ended.writes == writes, len);
     }
 }
@@ -363,8 +366,14 @@ const OUTCOMES: [(Result<(), ShowError>, &[u8], u8, &str); 4] = [
     (Err(ShowError::Write), b"write failed\n", 5, "Err(Write)"),
 ];
 
-fn debug_text(alloc: Global, outcome: Result<(), ShowError>) -> Result<String, AllocError> {
-    format!(in alloc; "{outcome:?}")
+/// Returns the debug text of an outcome, and makes it again if allocation failed.
+fn debug_text(rt: &impl Abort, alloc: Global, outcome: Result<(), ShowError>) -> String {
+    match format!(in alloc; "{outcome:?}") {
+        Ok(text) => text,
+        Err(_) => format!(in alloc; "{outcome:?}")
+            .ok()
+            .expect(rt, "memory was refused twice"),
+    }
 }
 
 #[test]
@@ -382,8 +391,7 @@ fn each_outcome_is_said(rt: HostRuntime) {
         let mut full = Sheet::new(all(b""), Fault::None, &owed);
         let is_said = conclude(outcome, &mut full) == ExitCode::from(status);
         expect_true(&rt, is_said, words.len());
-        let debug = debug_text(rt.alloc(), outcome).or_else(|_| debug_text(rt.alloc(), outcome));
-        let debug = debug.ok().expect(&rt, "memory was refused twice");
+        let debug = debug_text(&rt, rt.alloc(), outcome);
         expect_true(&rt, debug.as_str() == shown, words.len());
     }
 }

@@ -42,11 +42,9 @@ fn cut_at(text: &str, mark: char) -> (&str, &str) {
 }
 
 /// Returns the string before the first `+`, and then the piece after it, this many times.
-pub(crate) fn repeated(alloc: Global, text: &str, times: u32) -> Result<String, AllocError> {
+pub(crate) fn repeated(alloc: Global, text: &str, times: usize) -> Result<String, AllocError> {
     let (start, piece) = cut_at(text, '+');
-    let mut whole = String::from_str(alloc, start)?;
-    for _ in 0..times {
-        whole.push_str(piece)?;
-    }
+    let mut whole = piece.repeat(alloc, times)?;
+    whole.insert_str(0, start)?;
     Ok(whole)
 }

@@ -20,21 +20,23 @@ macro_rules! told {
     };
 }
 
-/// Returns `accepted` if a value and its copy display its text, and otherwise what they display.
+/// Returns `accepted` if a copy of a value and the value itself display its text. Otherwise it returns what the first of
+/// them that differs displays.
 fn shown<T: Display, U: Display + Drop>(
     alloc: Global,
     text: &str,
     value: &T,
     copy: Result<U, AllocError>,
 ) -> Result<String, AllocError> {
-    let mut lent = value.to_string(alloc)?;
     let kept = copy?.to_string(alloc)?;
-    if lent.as_str() == text && kept.as_str() == text {
-        return String::from_str(alloc, "accepted");
+    if kept.as_str() != text {
+        return Ok(kept);
     }
-    lent.push_str(" ")?;
-    lent.push_str(kept.as_str())?;
-    Ok(lent)
+    let lent = value.to_string(alloc)?;
+    if lent.as_str() != text {
+        return Ok(lent);
+    }
+    String::from_str(alloc, "accepted")
 }
 
 fn primary_language(text: &str, alloc: Global) -> Result<String, AllocError> {
