@@ -4,22 +4,13 @@ qemu_root=/usr/$cross
 # The loader and the C library are both those of the cross compiler, since this machine may have other versions for aarch64.
 under_qemu="qemu-aarch64 -L $qemu_root -E LD_LIBRARY_PATH=$qemu_root/lib"
 
-aarch64_missing() {
-    has $cross-gcc || echo "there is no $cross-gcc (in Debian: apt-get install gcc-aarch64-linux-gnu libc6-dev-arm64-cross)"
-    has qemu-aarch64 || echo "there is no qemu-aarch64 (in Debian: apt-get install qemu-user)"
-    [ -e "$qemu_root/lib/libc.so.6" ] || echo "there is no C library for it (in Debian: libc6-dev-arm64-cross)"
-}
+missing= # what release.sh lacks, too
 aarch64_archive=${LANGTAG_AARCH64_ARCHIVE:-$(python3 "$here/targets.py" archive aarch64-unknown-linux-gnu 2>"$work/log")}
-if [ -z "$aarch64_archive" ]; then
-    not_run "aarch64: everything" "there is no archive for it: $(tail -1 "$work/log")"
-    return 0
-fi
-
-missing=$(aarch64_missing | head -1)
-if [ -n "$missing" ]; then
-    not_run "aarch64: the tests under qemu" "$missing"
-    return 0
-fi
+lacks "aarch64: everything" '[ -n "$aarch64_archive" ]' "there is no archive for it: $(tail -1 "$work/log" 2>/dev/null)" && return 0
+missing=$(lacks "aarch64: the tests under qemu" \
+    'has $cross-gcc' "there is no $cross-gcc (in Debian: apt-get install gcc-aarch64-linux-gnu libc6-dev-arm64-cross)" \
+    'has qemu-aarch64' "there is no qemu-aarch64 (in Debian: apt-get install qemu-user)" \
+    '[ -e "$qemu_root/lib/libc.so.6" ]' "there is no C library for it (in Debian: libc6-dev-arm64-cross)") && echo "$missing" && return 0
 on_aarch64() { $under_qemu "$@"; }
 aarch64_compile() { $cross-gcc -std=c99 -O2 -Wall -Wextra -Wpedantic -Werror -Iinclude "$@" "$aarch64_archive"; }
 
@@ -61,10 +52,6 @@ rust_on_aarch64() {
     cd "$rust_crate" && CARGO_TARGET_AARCH64_UNKNOWN_LINUX_GNU_LINKER=$cross-gcc \
         CARGO_TARGET_AARCH64_UNKNOWN_LINUX_GNU_RUNNER=$under_qemu cargo test -q --release --target aarch64-unknown-linux-gnu --test rows --test habits
 }
-if ! has cargo; then
-    not_run "aarch64: the Rust crate" "there is no cargo"
-elif [ -d "$(rustc --print sysroot)/lib/rustlib/aarch64-unknown-linux-gnu" ]; then
+lacks "aarch64: the Rust crate" 'has cargo' "there is no cargo" '[ -d "$(rustc --print sysroot)/lib/rustlib/aarch64-unknown-linux-gnu" ]' \
+    "there is no standard library of Rust for it (rustup target add aarch64-unknown-linux-gnu; in Debian 12 rustc-web, libstd-rust-web-dev:arm64)" ||
     check "aarch64: the tests of the Rust crate, under qemu" rust_on_aarch64
-else
-    not_run "aarch64: the tests of the Rust crate" "there is no standard library of Rust for it (rustup target add aarch64-unknown-linux-gnu; in Debian 12 rustc-web, libstd-rust-web-dev:arm64)"
-fi

@@ -7,5 +7,6 @@ if [ -z "$archive" ]; then
         { tail -20 "$work/log"; give_up "there is no archive: see above, or name one by LANGTAG_ARCHIVE"; }
 fi
 [ -f "$archive" ] || give_up "there is no $archive"
+cargo_built() { ar t "$archive" | grep -q '^langtag_verified'; }
 prover=$(python3 "$here/targets.py" proved "$archive" 2>/dev/null) || prover=
 echo "the archive is $archive, $([ -n "$prover" ] && echo "proved by $prover" || echo "which has no record that it is proved")"

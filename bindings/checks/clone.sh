@@ -38,20 +38,15 @@ said_without_cargo() {
     ! outside 'python3 -m pip install -q --no-index --target t ../bare/bindings/python' >"$work/said" 2>&1 && grep 'there is no cargo' "$work/said" &&
         ! outside 'cd ../bare/bindings/js && ./build' >"$work/said" 2>&1 && [ "$(wc -l <"$work/said")" = 1 ] && grep 'there is no cargo' "$work/said"
 }
-if ! has cargo; then
-    not_run "a clone: pip and npm" "there is no cargo"
-    return 0
-fi
+lacks "a clone: pip and npm" 'has cargo' "there is no cargo" && return 0
 check "a clone: a copy of its files" cloned
-if python3 -c 'import venv, ensurepip' >/dev/null 2>&1; then
+if ! lacks "a clone: pip install" "python3 -c 'import venv, ensurepip' >/dev/null 2>&1" \
+    "python3 has no venv and ensurepip (in Debian: apt-get install python3-venv)"; then
     check "a clone: pip install, and the rows" pip_installs
     check "a clone: without cargo, pip and npm say so" said_without_cargo
-else
-    not_run "a clone: pip install" "python3 has no venv and ensurepip (in Debian: apt-get install python3-venv)"
 fi
-if ! node_is_new || ! has npm; then
-    not_run "a clone: npm install" "there is no npm, or no Node of version 20 or later"
-elif outside 'cd ../clone/bindings/js && ./build' >"$work/log" 2>&1; then
+lacks "a clone: npm install" 'node_is_new && has npm' "there is no npm, or no Node of version 20 or later" && return 0
+if outside 'cd ../clone/bindings/js && ./build' >"$work/log" 2>&1; then
     check "a clone: npm install, and the rows" npm_installs
 else
     not_run "a clone: npm install" "$(tail -1 "$work/log")"

@@ -34,9 +34,21 @@ check() {
 not_run() { echo "not run: $1: $2"; }
 
 has() { command -v "$1" >/dev/null; }
+has_header() { echo "#include <$1>" | cc -E - >/dev/null 2>&1; }
+
+# lacks NAME [CONDITION REASON]..: says why something is not run: the reason beside the first condition that does not hold.
+lacks() {
+    local name=$1
+    shift
+    while [ $# -gt 0 ]; do
+        eval "$1" || { not_run "$name" "$2"; return 0; }
+        shift 2
+    done
+    return 1
+}
 
 # needs CONDITION REASON NAME COMMAND..: runs a check if a condition holds, or else says why it is not run.
-needs() { if eval "$1"; then check "${@:3}"; else not_run "$3" "$2"; fi; }
+needs() { lacks "$3" "$1" "$2" || check "${@:3}"; }
 
 # give_up REASON: ends the run, because nothing can be checked.
 give_up() {

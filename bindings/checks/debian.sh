@@ -35,10 +35,8 @@ debian_installed() {
 can_overlay() { [ "$(id -u)" = 0 ] && mkdir -p "$work/try/upper" "$work/try/work" "$work/try/merged" &&
     unshare -m mount -t overlay overlay -o "lowerdir=/,upperdir=$work/try/upper,workdir=$work/try/work" "$work/try/merged" 2>/dev/null; }
 
-if ! ls "$work"/dist/*.deb >/dev/null 2>&1; then
-    not_run "Debian packages" "bindings/release made none (in Debian: apt-get install build-essential debhelper dh-python python3-pip)"
-else
-    needs 'has lintian' "it is not there" "Debian: lintian says nothing" debian_lintian
-    needs 'can_overlay' "this user cannot make a copy of the system by overlayfs" \
-        "Debian: apt installs the packages, each works, and nothing is left of them" debian_installed
-fi
+lacks "Debian packages" 'ls "$work"/dist/*.deb >/dev/null 2>&1' \
+    "bindings/release made none (in Debian: apt-get install build-essential debhelper dh-python python3-pip)" && return 0
+needs 'has lintian' "it is not there" "Debian: lintian says nothing" debian_lintian
+needs 'can_overlay' "this user cannot make a copy of the system by overlayfs" \
+    "Debian: apt installs the packages, each works, and nothing is left of them" debian_installed

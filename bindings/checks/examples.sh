@@ -34,11 +34,7 @@ sqlite_extension() {
     ! nm -D --defined-only sqlite/sqlite_langtag.so | grep ' T langtag_' && mv sqlite/sqlite_langtag.so "$work/built"
 }
 sqlite_version() { sqlite3 :memory: ".load $work/built/sqlite_langtag" "SELECT langtag_version()" | diff - <(python3 -m langtag --version); }
-if ! has sqlite3; then
-    not_run "SQLite: the extension" "there is no sqlite3"
-elif ! echo '#include <sqlite3ext.h>' | cc -E - >/dev/null 2>&1; then
-    not_run "SQLite: the extension" "the headers of SQLite are not installed"
-else
+if ! lacks "SQLite: the extension" 'has sqlite3' "there is no sqlite3" 'has_header sqlite3ext.h' "the headers of SQLite are not installed"; then
     check "SQLite: the extension builds" sqlite_extension
     check "SQLite: SQL says the versions of the program" sqlite_version
     check "SQLite: the rows, and what only SQL has" env -C sqlite EXTENSION="$work/built/sqlite_langtag.so" python3 -m unittest test_sqlite

@@ -14,10 +14,7 @@ without_archive=$(why_without_archive)
 # Without the archive, everything runs over the module that cargo builds.
 js_build() { if [ -z "$without_archive" ]; then js/build "$wasm_archive"; else "$here/js/build" --cargo "$PWD/js"; fi; }
 if [ -n "$without_archive" ]; then
-    if ! js_build >"$work/log" 2>&1; then
-        not_run "JavaScript: everything" "$without_archive; $(tail -1 "$work/log")"
-        return 0
-    fi
+    js_build >"$work/log" 2>&1 || { not_run "JavaScript: everything" "$without_archive; $(tail -1 "$work/log")" && return 0; }
     not_run "JavaScript: the proved module" "$without_archive"
 fi
 js_built() { js_build && cp js/module.js "$work/module.js" && js_build && cmp js/module.js "$work/module.js"; }
@@ -33,10 +30,7 @@ wasm_symbols() {
 
 # node_is_new
 node_is_new() { has node && node -e 'process.exit(Number(process.versions.node.split(".")[0]) >= 20 ? 0 : 1)'; }
-if ! node_is_new; then
-    not_run "JavaScript: tests" "there is no Node of version 20 or later"
-    return 0
-fi
+lacks "JavaScript: tests" node_is_new "there is no Node of version 20 or later" && return 0
 echo "Node $(node --version)$(has wasm-opt && echo ", $(wasm-opt --version)")"
 check "JavaScript: no import, and the functions of the header" wasm_symbols
 js_tests() { (cd js && LANGTAG_ANSWERS=$work/answers node --test --test-reporter=spec test/rows.test.js test/langtag.test.js test/examples.test.js); }

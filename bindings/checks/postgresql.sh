@@ -1,22 +1,13 @@
 # Checks the extension for PostgreSQL, in servers that this script starts. Nothing is installed in the system. The servers listen
 # only on the loopback, and run as a user other than root.
 pg_config=${PG_CONFIG:-pg_config}
-if ! has "$pg_config"; then
-    not_run "PostgreSQL: everything" "there is no pg_config (in Debian: apt-get install postgresql postgresql-server-dev-15)"
-    return 0
-elif [ ! -x "$("$pg_config" --bindir)/initdb" ]; then
-    not_run "PostgreSQL: everything" "there is no server (in Debian: apt-get install postgresql)"
-    return 0
-elif [ ! -f "$("$pg_config" --includedir-server)/postgres.h" ] || [ ! -f "$("$pg_config" --pgxs)" ]; then
-    not_run "PostgreSQL: everything" "its headers are not installed (in Debian: apt-get install postgresql-server-dev-15)"
-    return 0
-elif ! "$pg_config" --version | grep -qE '^PostgreSQL 1[5-7]\.'; then
-    not_run "PostgreSQL: everything" "this is $("$pg_config" --version), and 15 to 17 are asked"
-    return 0
-elif [ "$(id -u)" = 0 ] && ! has setpriv; then
-    not_run "PostgreSQL: everything" "a server does not run as root, and there is no setpriv"
-    return 0
-fi
+lacks "PostgreSQL: everything" \
+    'has "$pg_config"' "there is no pg_config (in Debian: apt-get install postgresql postgresql-server-dev-15)" \
+    '[ -x "$("$pg_config" --bindir)/initdb" ]' "there is no server (in Debian: apt-get install postgresql)" \
+    '[ -f "$("$pg_config" --includedir-server)/postgres.h" ] && [ -f "$("$pg_config" --pgxs)" ]' \
+    "its headers are not installed (in Debian: apt-get install postgresql-server-dev-15)" \
+    '"$pg_config" --version | grep -qE "^PostgreSQL 1[5-7]\."' "this is $("$pg_config" --version 2>/dev/null), and 15 to 17 are asked" \
+    '[ "$(id -u)" != 0 ] || has setpriv' "a server does not run as root, and there is no setpriv" && return 0
 
 . "$here/postgresql/test/cluster.sh"
 path_before=$PATH

@@ -46,9 +46,6 @@ mistake() {
     cd python && printf '%s\n' 'import langtag' 'langtag.Tag("de").replace(script=5)' >"$work/mistake.py"
     ($mypy --strict "$work/mistake.py" || true) | grep 'mistake.py:2: error: Argument "script"'
 }
-if [ -n "$mypy" ]; then
-    check "Python: types" env MYPYPATH=. bash -c type_check
-    check "Python: types of a call that is wrong" env MYPYPATH=. bash -c mistake
-else
-    not_run "Python: types" "there is no mypy (in Debian: apt-get install mypy)"
-fi
+lacks "Python: types" '[ -n "$mypy" ]' "there is no mypy (in Debian: apt-get install mypy)" && return 0
+check "Python: types" env MYPYPATH=. bash -c type_check
+check "Python: types of a call that is wrong" env MYPYPATH=. bash -c mistake

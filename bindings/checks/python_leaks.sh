@@ -42,10 +42,6 @@ real=$("$header" -c 'import sys; print(sys.executable)')
 check "Python: no reference is kept" by_references
 check "Python: a lost reference is seen" seen "$lost" "edit: .* references more" by_references
 check "Python: a keyword that is not released is seen" seen "$unreleased" "keywords: .* references more" by_references
-if has valgrind; then
-    check "Python: no block is kept, by valgrind" by_blocks
-    check "Python: a block that is not freed is seen" seen "$unfreed" "list\.c" by_blocks
-else
-    not_run "Python: blocks" "there is no valgrind"
-fi
+needs 'has valgrind' "there is no valgrind" "Python: no block is kept, by valgrind" by_blocks
+needs 'has valgrind' "there is no valgrind" "Python: a block that is not freed is seen" seen "$unfreed" "list\.c" by_blocks
 check "Python: the C module under sanitizers" by_sanitizers

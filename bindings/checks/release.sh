@@ -117,12 +117,10 @@ crate_tests() {
     away 'tar -xzf ../dist/*.crate; cd langtag-verified-*; cp -r ../../with-serde/.cargo .cargo; export CARGO_TARGET_DIR=$PWD/../../released CARGO_HOME=$PWD/cargo-home
         cargo test -q --offline --all-features >log 2>&1 || { cat log; exit 1; }; cargo run -q --offline --example parts zh-Hant-TW'
 }
-if [ -d "$work/with-serde" ]; then
+if ! lacks "release: the Rust crate and its tests" '[ -d "$work/with-serde" ]' "there is no cargo, or no serde in $registry"; then
     check "release: the tests of the Rust crate, with all features" crate_tests
     check "release: the Rust crate" crate ""
     check "release: the Rust crate with serde" crate "--features serde"
-else
-    not_run "release: the Rust crate and its tests" "there is no cargo, or no serde in $registry"
 fi
 
 # python_package PYTHON COMMANDS: the environment of a Python is made once, and copied for each package.
@@ -169,36 +167,28 @@ wheel_of_aarch64() {
     python3 -m pip install -q --no-index --no-deps --target "$work/foreign" --platform manylinux_2_17_aarch64 --only-binary=:all: "$work"/dist/*_aarch64.whl &&
         readelf -h "$work/foreign/langtag/liblangtag_verified.so.1" | grep 'Machine:.*AArch64'
 }
-if [ -z "${aarch64_archive:-}" ] || [ -n "${missing:-}" ]; then
-    not_run "release: aarch64" "${missing:-there is no archive for it}"
-else
+if ! lacks "release: aarch64" '[ -n "${aarch64_archive:-}" ]' "there is no archive for it" '[ -z "${missing:-}" ]' "${missing#*qemu: }"; then
     check "release: C for aarch64 by the tarball, under qemu" released_aarch64
     if python3 -m pip --version >/dev/null 2>&1; then check "release: the wheel for aarch64" wheel_of_aarch64; fi
 fi
 
 # Installs the package for npm in an empty folder, and uses it in Node and in a web page. Then checks the page of the release.
+echo 'import { LanguageTag } from "langtag-verified"; const tag = LanguageTag.parse("zh-Hant-TW");
+    for (const name of ["language", "script", "region"]) console.log(name, tag[name]);' >"$work/first.mjs"
 npm_package() {
     away 'mkdir empty && cd empty && npm install --offline --no-audit --no-fund --loglevel=error ../../dist/langtag-verified-*.tgz >&2
-        echo "import { LanguageTag } from \"langtag-verified\"; const tag = LanguageTag.parse(\"zh-Hant-TW\");
-            for (const name of [\"language\", \"script\", \"region\"]) console.log(name, tag[name]);" >first.mjs
-        node first.mjs; cp -r node_modules/langtag-verified ../../npm'
+        cp ../../first.mjs . && node first.mjs; cp -r node_modules/langtag-verified ../../npm'
 }
 npm_pack() { cd "$work/npm" && diff <(npm pack --dry-run --json 2>/dev/null | sed -n 's/.*"path": "\(.*\)",/\1/p' | sort) <(find . -type f | cut -c3- | sort); }
 npm_bundled() {
-    away 'mkdir -p node_modules && cp -r ../npm node_modules/langtag-verified; echo "import { LanguageTag } from \"langtag-verified\";
-        const tag = LanguageTag.parse(\"zh-Hant-TW\"); for (const name of [\"language\", \"script\", \"region\"]) console.log(name, tag[name]);" >first.mjs
+    away 'mkdir -p node_modules && cp -r ../npm node_modules/langtag-verified; cp ../first.mjs .
         esbuild first.mjs --bundle --format=esm --outfile=esm.mjs --log-level=error; esbuild first.mjs --bundle --outfile=iife.cjs --log-level=error
         node esm.mjs >esm; node iife.cjs | tee iife; cmp esm iife'
 }
 npm_in_page() { cd js && PACKAGE=$work/npm PAGE=$(echo "$work"/dist/langtag-*.html) node --test --test-reporter=spec test/browser.test.js test/page.test.js; }
-if ! ls "$work"/dist/*.tgz >/dev/null 2>&1; then
-    not_run "release: the package for npm" "it was not made"
-elif ! has npm; then
-    not_run "release: the package for npm" "there is no npm"
-else
-    check "release: the package for npm in Node" npm_package
-    check "release: npm packs the same files" npm_pack
-    check "release: its archive" proves 'langtag-verified-*.tgz' "$wasm_archive" wasm64-unknown-unknown
-    needs 'has esbuild' "there is no esbuild" "release: the package for npm in a bundle" npm_bundled
-    if [ -n "${CHROMIUM:-}" ]; then check "release: the package for npm in a page, and the page" npm_in_page; fi
-fi
+lacks "release: the package for npm" 'ls "$work"/dist/*.tgz >/dev/null 2>&1' "it was not made" 'has npm' "there is no npm" && return 0
+check "release: the package for npm in Node" npm_package
+check "release: npm packs the same files" npm_pack
+check "release: its archive" proves 'langtag-verified-*.tgz' "$wasm_archive" wasm64-unknown-unknown
+needs 'has esbuild' "there is no esbuild" "release: the package for npm in a bundle" npm_bundled
+if [ -n "${CHROMIUM:-}" ]; then check "release: the package for npm in a page, and the page" npm_in_page; fi

@@ -8,10 +8,7 @@ CARGO_INCREMENTAL=0
 CARGO_PROFILE_DEV_DEBUG=0
 CARGO_PROFILE_TEST_DEBUG=0
 
-if ! has cargo; then
-    not_run "Rust: everything" "there is no cargo"
-    return 0
-fi
+lacks "Rust: everything" 'has cargo' "there is no cargo" && return 0
 
 # Everything except serde and the other crates is built as on a machine without a registry of crates.
 CARGO_HOME=$work/cargo-home

@@ -1,10 +1,8 @@
 # Checks the DLL for Windows with mingw and wine: runs the tests of C and C++ with all rows, over the DLL and its import library.
 mingw=x86_64-w64-mingw32
 wine=$(command -v wine64 || ls /usr/lib/wine/wine64 2>/dev/null || true)
-if ! has $mingw-gcc; then
-    not_run "Windows: everything" "there is no mingw (in Debian: apt-get install gcc-mingw-w64-x86-64 g++-mingw-w64-x86-64)"
-    return 0
-fi
+lacks "Windows: everything" 'has $mingw-gcc' \
+    "there is no mingw (in Debian: apt-get install gcc-mingw-w64-x86-64 g++-mingw-w64-x86-64)" && return 0
 
 # ld would put the addresses of a table that a DLL does not have into the code.
 windows_refused() {
@@ -12,10 +10,7 @@ windows_refused() {
     ! windows/build "$work/by_cargo.a" "$work/refused" 2>"$work/refused.why" && grep 'R_X86_64_GOTPCREL' "$work/refused.why"
 }
 if has cargo; then check "Windows: an archive that a DLL cannot have is refused" windows_refused; fi
-if ar t "$archive" | grep -q '^langtag_verified'; then
-    not_run "Windows: the DLL" "cargo built the archive"
-    return 0
-fi
+lacks "Windows: the DLL" '! cargo_built' "cargo built the archive" && return 0
 
 windows_built() {
     windows/build "$archive" "$work/windows" && windows/build "$archive" "$work/windows-again" && diff -r "$work/windows" "$work/windows-again" || return 1
@@ -38,10 +33,7 @@ END
 }
 check "Windows: each function that takes a page of the stack touches it before" windows_stack
 
-if [ -z "$wine" ] || ! has $mingw-g++; then
-    not_run "Windows: the tests" "there is no wine64, or no $mingw-g++ (in Debian: apt-get install wine64)"
-    return 0
-fi
+lacks "Windows: the tests" '[ -n "$wine" ] && has $mingw-g++' "there is no wine64, or no $mingw-g++ (in Debian: apt-get install wine64)" && return 0
 export WINEDEBUG=-all WINEPREFIX=$work/wine WINEARCH=win64
 # of_windows NAME COMPILER SOURCE..: builds a program with the DLL beside it.
 of_windows() {
