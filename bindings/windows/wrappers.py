@@ -17,8 +17,9 @@ HEADER = pathlib.Path(__file__).resolve().parent.parent / "include/langtag.h"
 DECLARATION = r"^(?:LANGTAG_PURE )?(\w+) (langtag_\w+)\(([^)]*)\);"
 
 # Windows gives a thread one page of its stack after another, so code that uses more than a page has to touch each page in order.
-# The code of these functions does not, so their wrappers do it first. Other functions use less than a page, which .ci/stack tests.
-DEEP = {name: 16 * 1024 for name in ("langtag_repeats", "langtag_extensions_form", "langtag_is_locale", "langtag_locale_form")}
+# The code of the functions for which the header's sentence asks more than 4 KiB does not, so their wrappers do it first. .ci/stack
+# tests that sentence.
+SENTENCE = r"4 KiB of the stack is free for each call, and (\d+) KiB for ([\w\s,*]+)\."
 
 HEAD = """\
 /* Written by wrappers.py. */
@@ -39,19 +40,22 @@ __attribute__((noinline)) static void probe_{name}(void) {{
 """
 
 
-def wrapper(result, name, taken):
+def wrapper(deep, result, name, taken):
     given = "" if taken == "void" else ", ".join(re.findall(r"\w+(?=,|$)", taken))
     inner = name.replace("langtag_", "langtag_sysv_", 1)
-    probe = f"probe_{name}(); " if name in DEEP else ""
+    probe = f"probe_{name}(); " if name in deep else ""
     answers = "" if result == "void" else "return "
-    head = PROBE.format(name=name, size=DEEP[name]) if name in DEEP else ""
+    head = PROBE.format(name=name, size=deep[name]) if name in deep else ""
     return f"{head}\nSYSV {result} {inner}({taken});\n{result} {name}({taken}) {{ {probe}{answers}{inner}({given}); }}\n"
 
 
 def main(folder):
-    declared = re.findall(DECLARATION, HEADER.read_text(encoding="utf-8"), flags=re.M)
+    header = HEADER.read_text(encoding="utf-8")
+    declared = re.findall(DECLARATION, header, flags=re.M)
     functions = [name for _, name, _ in declared]
-    (folder / "wrappers.c").write_text(HEAD + "".join(wrapper(*function) for function in declared))
+    size, named = re.search(SENTENCE, header).groups()
+    deep = dict.fromkeys(re.findall(r"langtag_\w+", named), 1024 * int(size))
+    (folder / "wrappers.c").write_text(HEAD + "".join(wrapper(deep, *function) for function in declared))
     (folder / "langtag.def").write_text("LIBRARY langtag.dll\nEXPORTS\n" + "".join(f"    {name}\n" for name in functions))
     names = [(name, name.replace("langtag_", "langtag_sysv_", 1)) for name in functions]
     names += [(name, f"langtag_sysv_{name}") for name in ("memcpy", "memmove", "memset")]
