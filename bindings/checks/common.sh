@@ -34,6 +34,7 @@ check() {
 not_run() { echo "not run: $1: $2"; }
 
 has() { command -v "$1" >/dev/null; }
+node_is_new() { has node && node -e 'process.exit(Number(process.versions.node.split(".")[0]) >= 20 ? 0 : 1)'; }
 has_header() { echo "#include <$1>" | cc -E - >/dev/null 2>&1; }
 
 # lacks NAME [CONDITION REASON]..: says why something is not run: the reason beside the first condition that does not hold.

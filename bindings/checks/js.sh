@@ -28,8 +28,6 @@ wasm_symbols() {
         sort | diff "$work/declared" -
 }
 
-# node_is_new
-node_is_new() { has node && node -e 'process.exit(Number(process.versions.node.split(".")[0]) >= 20 ? 0 : 1)'; }
 lacks "JavaScript: tests" node_is_new "there is no Node of version 20 or later" && return 0
 echo "Node $(node --version)$(has wasm-opt && echo ", $(wasm-opt --version)")"
 check "JavaScript: no import, and the functions of the header" wasm_symbols
