@@ -104,7 +104,8 @@ windows_released() {
     away 'export WINEDEBUG=-all WINEPREFIX=$PWD/prefix; python3 -m zipfile -e ../dist/*-windows.zip .; cd liblangtag-verified-*-windows
         x86_64-w64-mingw32-gcc ../parts.c -Iinclude lib/liblangtag.dll.a -o bin/parts.exe; '"$wine"' bin/parts.exe zh-Hant-TW | tr -d "\r"'
 }
-needs '[ -n "${wine:-}" ]' "there is no mingw, or no wine64" "release: C by the DLL for Windows" windows_released
+needs '[ -n "${wine:-}" ] && ls "$work"/dist/*-windows.zip >/dev/null 2>&1' "there is no mingw, no wine64, or no DLL" \
+    "release: C by the DLL for Windows" windows_released
 
 # The crate names serde, which cargo looks up even if the feature is off.
 crate() {
