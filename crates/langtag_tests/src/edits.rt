@@ -129,6 +129,15 @@ const EDITS: &[(&str, &str)] = &[
     ("fr-CA-a-bb|extensions|a-bb-U-co", "fr-CA-a-bb-U-co"),
     ("fr-CA|private_use|X-Y", "fr-CA-X-Y"),
     ("en-u-co|private_use|x-1", "en-u-co-x-1"),
+    ("en-Latn|language|zh-min-nan", "zh-min-nan-Latn"),
+    ("az-x-y|script|Cyrl", "az-Cyrl-x-y"),
+    ("mn-Cyrl-u-co|region|MN", "mn-Cyrl-MN-u-co"),
+    (
+        "de-CH-x-y|variants|1996-AbCdEfGh",
+        "de-CH-1996-AbCdEfGh-x-y",
+    ),
+    ("ja-JP|extensions|u-ca-japanese", "ja-JP-u-ca-japanese"),
+    ("ar-a-bb|private_use|x-12345678", "ar-a-bb-x-12345678"),
     (
         "en-x-y|private_use|x-12345678-12345678",
         "en-x-12345678-12345678",
