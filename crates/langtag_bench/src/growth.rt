@@ -6,6 +6,7 @@ ghost use Rattle.langtag_scan.specs.Tag.{IsTag};
 ghost use Rattle.langtag_range.specs.Fallback.{fallbacks};
 ghost use Rattle.langtag_range.specs.Range.{is_language_range};
 
+use crate::headers::ranges_of;
 use crate::matching::{range_of, read_tags, tag_of};
 use langtag::{
     ExtendedLangTag, ExtendedLangTagBuf, Extension, ExtensionBuf, ExtensionSubtag,
@@ -14,7 +15,7 @@ use langtag::{
     PrivateUseBuf, PrivateUseSubtag, PrivateUseSubtagBuf, Region, RegionBuf, Script, ScriptBuf,
     Variant, VariantBuf, Variants, VariantsBuf,
 };
-use langtag_match::{LanguageRange, filter_basic, filter_extended, look_up};
+use langtag_match::{filter_basic, filter_extended, look_up};
 use std::alloc::{AllocError, Global};
 use std::hash::{DefaultHasher, Hash, Hasher};
 
@@ -71,15 +72,25 @@ pub extern "C" fn langtag_bench_part(alloc: Global, bytes: &[u8]) -> bool
 
 /// Returns whether a string is a part of a tag, by the borrowed types.
 fn is_lent_part(text: &str) -> bool {
+    is_lent_language(text) || is_lent_place(text) || is_lent_extension(text)
+}
+
+fn is_lent_language(text: &str) -> bool {
     PrimaryLanguage::new(text).is_ok()
         || ExtendedLangTag::new(text).is_ok()
         || Language::new(text).is_ok()
         || LanguageExtension::new(text).is_ok()
-        || Script::new(text).is_ok()
+}
+
+fn is_lent_place(text: &str) -> bool {
+    Script::new(text).is_ok()
         || Region::new(text).is_ok()
         || Variant::new(text).is_ok()
         || Variants::new(text).is_ok()
-        || ExtensionSubtag::new(text).is_ok()
+}
+
+fn is_lent_extension(text: &str) -> bool {
+    ExtensionSubtag::new(text).is_ok()
         || Extension::new(text).is_ok()
         || Extensions::new(text).is_ok()
         || PrivateUseSubtag::new(text).is_ok()
@@ -89,18 +100,42 @@ fn is_lent_part(text: &str) -> bool {
 /// Returns whether a string is a part of a tag, by the owned types.
 fn is_owned_part(alloc: Global, text: &str) -> Result<bool, AllocError> {
     Ok(
+        is_owned_language(alloc, text)?
+            || is_owned_place(alloc, text)?
+            || is_owned_extension(alloc, text)?
+            || is_owned_private_use(alloc, text)?,
+    )
+}
+
+fn is_owned_language(alloc: Global, text: &str) -> Result<bool, AllocError> {
+    Ok(
         PrimaryLanguageBuf::new(String::from_str(alloc, text)?).is_ok()
             || ExtendedLangTagBuf::new(String::from_str(alloc, text)?).is_ok()
             || LanguageBuf::new(String::from_str(alloc, text)?).is_ok()
-            || LanguageExtensionBuf::new(String::from_str(alloc, text)?).is_ok()
-            || ScriptBuf::new(String::from_str(alloc, text)?).is_ok()
+            || LanguageExtensionBuf::new(String::from_str(alloc, text)?).is_ok(),
+    )
+}
+
+fn is_owned_place(alloc: Global, text: &str) -> Result<bool, AllocError> {
+    Ok(
+        ScriptBuf::new(String::from_str(alloc, text)?).is_ok()
             || RegionBuf::new(String::from_str(alloc, text)?).is_ok()
             || VariantBuf::new(String::from_str(alloc, text)?).is_ok()
-            || VariantsBuf::new(String::from_str(alloc, text)?).is_ok()
-            || ExtensionSubtagBuf::new(String::from_str(alloc, text)?).is_ok()
+            || VariantsBuf::new(String::from_str(alloc, text)?).is_ok(),
+    )
+}
+
+fn is_owned_extension(alloc: Global, text: &str) -> Result<bool, AllocError> {
+    Ok(
+        ExtensionSubtagBuf::new(String::from_str(alloc, text)?).is_ok()
             || ExtensionBuf::new(String::from_str(alloc, text)?).is_ok()
-            || ExtensionsBuf::new(String::from_str(alloc, text)?).is_ok()
-            || PrivateUseSubtagBuf::new(String::from_str(alloc, text)?).is_ok()
+            || ExtensionsBuf::new(String::from_str(alloc, text)?).is_ok(),
+    )
+}
+
+fn is_owned_private_use(alloc: Global, text: &str) -> Result<bool, AllocError> {
+    Ok(
+        PrivateUseSubtagBuf::new(String::from_str(alloc, text)?).is_ok()
             || PrivateUseBuf::new(String::from_str(alloc, text)?).is_ok(),
     )
 }
@@ -165,15 +200,4 @@ pub extern "C" fn langtag_bench_look_up(alloc: Global, bytes: &[u8]) -> bool
         Ok(ranges) => look_up(ranges.as_slice(), &tags, english) != english,
         Err(_) => false,
     }
-}
-
-/// Returns the comma-separated ranges in a string.
-fn ranges_of(alloc: Global, text: &str) -> Result<Vec<LanguageRange<'_>>, AllocError> {
-    let mut ranges = Vec::new(alloc);
-    for item in text.split(',') {
-        if let Ok(range) = LanguageRange::new(item) {
-            ranges.push(range).map_err(AllocError::from)?;
-        }
-    }
-    Ok(ranges)
 }

@@ -110,11 +110,13 @@ fn suitable_count_for_ranges(alloc: Global, ranges: &str, tags: &str) -> Result<
 }
 
 /// Returns the comma-separated ranges in a string.
-fn ranges_of(alloc: Global, text: &str) -> Result<Vec<LanguageRange<'_>>, AllocError> {
+pub(crate) fn ranges_of(alloc: Global, text: &str) -> Result<Vec<LanguageRange<'_>>, AllocError> {
     let mut ranges = Vec::new(alloc);
     for item in text.split(',') {
-        if let Ok(range) = LanguageRange::new(item) {
-            ranges.push(range).map_err(AllocError::from)?;
+        if let Ok(range) = LanguageRange::new(item)
+            && ranges.push(range).is_err()
+        {
+            return Err(AllocError);
         }
     }
     Ok(ranges)
@@ -124,8 +126,10 @@ fn ranges_of(alloc: Global, text: &str) -> Result<Vec<LanguageRange<'_>>, AllocE
 fn tags_of(alloc: Global, text: &str) -> Result<Vec<LangTag<'_>>, AllocError> {
     let mut tags = Vec::new(alloc);
     for item in text.split(',') {
-        if let Ok(tag) = LangTag::new(item) {
-            tags.push(tag).map_err(AllocError::from)?;
+        if let Ok(tag) = LangTag::new(item)
+            && tags.push(tag).is_err()
+        {
+            return Err(AllocError);
         }
     }
     Ok(tags)
