@@ -27,10 +27,9 @@ def numbers(row: str) -> Iterator[int]:
 def rows(lines: "list[str]") -> Iterator[str]:
     for line in lines:
         bound = re.match(r"N(<=|>)(\d+) ", line)
-        row = line[bound.end() if bound else 0 :]
-        for n in numbers(row) if row and row[0] != "#" else ():
-            if not bound or (n <= int(bound[2])) == (bound[1] == "<="):
-                yield filled(row, n)
+        call, first, *others = (line[bound.end() if bound else 0 :] + " | ").split(" | ")
+        for row in [" | ".join([call, one, *others[:-1]]) for one in first.split(" / ")] if line and line[0] != "#" else ():
+            yield from (filled(row, n) for n in numbers(row) if not bound or (n <= int(bound[2])) == (bound[1] == "<="))
 
 
 def main() -> None:
