@@ -1,18 +1,9 @@
 -- The tags that a filter finds, a tag and a range at a time, are those that some range matches, in another order.
-use Rattle.std.proofs.Common.{◌≡◌, ℕ, ◌+◌, ◌<◌, ◌&&◌, Bool, true, not, List, ◌∷◌, Some, length, drop, get_or, arith, ◌≤◌, false, [], ◌++◌, refl}
-use Rattle.std.specs.List.{list_any, slice_get, filter}
-use Rattle.std.proofs.lemmas.List.{at_drop_more}
-use Rattle.std.proofs.lemmas.Option.{get_or_from_slice_get}
-use Rattle.std.proofs.lemmas.Grind.{common_steps}
+use Rattle.langtag_scan.proofs.Prelude.{◌≡◌, ℕ, ◌+◌, ◌<◌, ◌&&◌, Bool, true, not, List, ◌∷◌, Some, length, drop, get_or, arith, ◌≤◌, false, [], ◌++◌, refl, list_any, slice_get, filter, at_drop_more, get_or_from_slice_get, common_steps, IsPermutation, and-true, filter_agree, list_any-append, length_permutation, length-filter, count_by-le-length}
 use Rattle.langtag.specs.declared.lang_tag.LangTag.{LangTag}
 use Rattle.langtag_match.specs.Filter.{finds, newly_found, found_after, found_from, is_found, filtered, AreFoundOnce}
 use Rattle.langtag_match.specs.declared.language_range.LanguageRange.{LanguageRange}
-use Rattle.std.specs.List.Sorted.{IsPermutation}
-use Rattle.std.proofs.Math.Bool.{and-true}
-use Rattle.std.proofs.lemmas.List.Elements.{filter_agree}
-use Rattle.std.proofs.lemmas.List.Folds.{list_any-append}
-use Rattle.std.proofs.lemmas.List.Sorted.{IsPermutation-refl, IsPermutation-trans, IsPermutation-append_right, IsPermutation-filter_both, length_permutation}
-use Rattle.std.proofs.lemmas.List.Sums.{length-filter, count_by-le-length}
+use Rattle.std.proofs.lemmas.List.Sorted.{IsPermutation-refl, IsPermutation-trans, IsPermutation-append_right, IsPermutation-filter_both}
 
 module _ (matches : List ℕ → List ℕ → Bool) (before : List LanguageRange) (range : LanguageRange) where
   abbrev is_here : LangTag → Bool

@@ -1,24 +1,11 @@
 -- What a loop over the items of a header has read, and that a header has one reading, which is the one that a sort makes.
-use Rattle.std.proofs.Common.{◌≡◌, ◌≢◌, ℕ, Bool, true, false, eqb, List, [], ◌∷◌, ap, refl, ◌∙◌, subst, arith, ◌+◌, ◌≤◌, not, ◌&&◌, nat_lt, suc, filter, map, get_or, sym, ◌-◌, ◌<◌, ◌++◌, None, IsTrue, length, length-append, take, inl, inr, ◌⊎◌, cond, drop, count_by}
-use Rattle.std.specs.List.{AllByRecursion, after_first, before_first, position_or_len}
-use Rattle.std.proofs.lemmas.Bool.{eqb-true, eq-eqb, ne_eqb}
-use Rattle.std.proofs.lemmas.Bool.Decides.{eqb_tells, nat_tests}
-use Rattle.std.proofs.lemmas.Grind.{common_steps}
+use Rattle.langtag_scan.proofs.Prelude.{◌≡◌, ◌≢◌, ℕ, Bool, true, false, eqb, List, [], ◌∷◌, ap, refl, ◌∙◌, subst, arith, ◌+◌, ◌≤◌, not, ◌&&◌, nat_lt, suc, filter, map, get_or, sym, ◌-◌, ◌<◌, ◌++◌, None, IsTrue, length, length-append, take, inl, inr, ◌⊎◌, cond, drop, count_by, AllByRecursion, after_first, before_first, position_or_len, eqb-true, eq-eqb, ne_eqb, eqb_tells, nat_tests, common_steps, IsPermutation, is_lt, nat_cmp, Ordering, nil_from_length, append_assoc, append-nil, take-append-drop, filter_agree, length_permutation, get_or-append_seam, take-append_seam, list_all-append, length-slice_split, sum_by-append, slice_get_read}
 use Rattle.langtag_match.specs.Stable.{IsOrderedBy, IsStableOrder, with_key}
-use Rattle.std.specs.List.Sorted.{ties, IsSorted, IsStable, IsPermutation}
-use Rattle.std.specs.Ordering.{is_lt, nat_cmp}
-use Rattle.std.specs.declared.cmp.Ordering.{Ordering}
-use Rattle.std.proofs.lemmas.List.{nil_from_length, append_assoc, append-nil, take-append-drop}
-use Rattle.std.proofs.lemmas.List.Elements.{filter_agree, filter_map-append}
-use Rattle.std.proofs.lemmas.List.Sorted.{length_permutation}
+use Rattle.std.specs.List.Sorted.{ties, IsSorted, IsStable}
+use Rattle.std.proofs.lemmas.List.Elements.{filter_map-append}
 use Rattle.langtag_match.specs.AcceptLanguage.{FallsTo, HasOneReading, IsByWeight, acceptable, elements, reading, weight_in, IsFirstBad, are_good, bad_part, is_good}
 use Rattle.langtag_range.specs.Element.{Element, element, is_comma, items}
 use Rattle.langtag_match.specs.declared.weighted_range.WeightedRange.{WeightedRange}
-use Rattle.std.proofs.Math.Seq.{get_or-append_seam, take-append_seam}
-use Rattle.std.proofs.lemmas.List.Folds.{list_all-append}
-use Rattle.std.proofs.lemmas.List.Splits.{length-slice_split}
-use Rattle.std.proofs.lemmas.List.Sums.{sum_by-append}
-use Rattle.std.proofs.lemmas.Option.{slice_get_read}
 use Rattle.langtag_match.specs.declared.accept_language_error.ElementPart.{ElementPart}
 use Rattle.langtag_range.proofs.WantedTexts.{cut_or_whole, shorter}
 

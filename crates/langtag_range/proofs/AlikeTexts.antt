@@ -1,12 +1,9 @@
 -- The case of letters changes no mark, no digit and no range in a text; so alike headers have alike elements.
 use Rattle.langtag_scan.proofs.Prelude.{◌≡◌, ℕ, ◌+◌, Bool, List, [], ◌∷◌, map, reverse, refl, arith, ◌<◌, eqb, ap, true, cond, Option, None, Some, option_map, sym, ◌∙◌, list_any, slice_split, before_first, after_first, position_or_len, list_all, take-map, drop-map, map-append, reverse-append, length-map, common_steps, nat_tests, eqb_tells, and_parts}
 use Rattle.langtag_scan.proofs.Grammar.{fold_byte, fold_text, is_letter, is_private_subtag, are_digits, is_digit, subtags, Classes}
-use Rattle.langtag_scan.proofs.CaseLaw.{all-fold, is_letter-fold, length-fold, segments-fold, classes-fold, is_digit-fold}
-use Rattle.langtag_range.specs.Element.{from_first, trimmed, Element, is_comma, is_semicolon, range_of, items}
-use Rattle.langtag_range.specs.Range.{is_star, is_first_subtag, is_basic_range}
-use Rattle.langtag_range.specs.Wanted.{hyphened, wanted_text, is_point, number_weight, value_weight, is_equals, is_q_name, is_q_parameter, wanted_weight, parameters, wanted, digits_behind, wanted_items, wanted_elements, folded, ElementsIgnoreCase}
+use Rattle.langtag_scan.proofs.CaseLaw.{all-fold, is_letter-fold, length-fold, classes-fold, is_digit-fold, subtags-fold}
+use Rattle.langtag_range.proofs.Definitions.{from_first, trimmed, Element, is_comma, is_semicolon, range_of, items, is_star, is_first_subtag, is_basic_range, hyphened, wanted_text, is_point, number_weight, value_weight, is_equals, is_q_name, is_q_parameter, wanted_weight, parameters, wanted, digits_behind, wanted_items, wanted_elements, folded, ElementsIgnoreCase, ends_locale, front_of, is_hash, place_before, locale_place, without_mark}
 use Rattle.std.proofs.Math.ListN.{get_or-map}
-use Rattle.langtag_range.specs.Locale.{ends_locale, front_of, is_hash, place_before, locale_place, without_mark}
 
 module _ (p : ℕ → Bool) (same : (b : ℕ) → p (fold_byte b) ≡ p b) where
   pub list_any-fold : (text : List ℕ) → list_any p (fold_text text) ≡ list_any p text
@@ -70,9 +67,6 @@ is_first_subtag-fold subtag = rw (length-fold subtag, all-fold is_letter is_lett
 are_private-fold : (subtags : List (List ℕ)) → list_all is_private_subtag (map fold_text subtags) ≡ list_all is_private_subtag subtags
 are_private-fold [] = refl
 are_private-fold (subtag ∷ subtags) = rw (ap (λ (c : Classes). c.private_subtag) (classes-fold subtag), are_private-fold subtags) refl
-
-pub subtags-fold : (text : List ℕ) → subtags (fold_text text) ≡ map fold_text (subtags text)
-subtags-fold text = grind (arith, common_steps, segments-fold text)
 
 pub is_basic_range-fold : (text : List ℕ) → is_basic_range (fold_text text) ≡ is_basic_range text
 is_basic_range-fold text = grind (arith, common_steps, is_star-fold text, subtags-fold text, is_first_subtag-fold, are_private-fold)

@@ -1,16 +1,10 @@
 -- A range beside a tag: what each subtag of the tag says of the subtags of the range, and what stands before each hyphen.
-use Rattle.langtag_scan.proofs.Prelude.{◌≡◌, ◌↔◌, ℕ, Bool, true, false, not, subst, IsTrue, List, [], ◌∷◌, ◌++◌, refl, ap, append_assoc, arith, ◌+◌, ◌-◌, ◌<◌, ◌≤◌, cond, map, take, drop, length, get_or, ◌∙◌, eqb, ◌&&◌, sym, rules, and_parts, both_ways, not-true, or_cases, or_right, cases_lt, eq-eqb, length-map, get_or-drop, at_drop_more, take-append-drop, take_all, take_at, list_all-append, common_steps, All-tail, length-filter, count_by-le-length, length-slice_split}
-use Rattle.std.proofs.Common.{length-drop}
-use Rattle.std.proofs.lemmas.Bool.{eqb-true}
-use Rattle.std.proofs.lemmas.List.{length-append, get_or-append_right}
+use Rattle.langtag_scan.proofs.Prelude.{◌≡◌, ◌↔◌, ℕ, Bool, true, false, not, subst, IsTrue, List, [], ◌∷◌, ◌++◌, refl, ap, append_assoc, arith, ◌+◌, ◌-◌, ◌<◌, ◌≤◌, cond, map, take, drop, length, get_or, ◌∙◌, eqb, ◌&&◌, sym, rules, and_parts, both_ways, not-true, or_cases, or_right, cases_lt, eq-eqb, length-map, get_or-drop, at_drop_more, take-append-drop, take_all, take_at, list_all-append, common_steps, All-tail, length-filter, count_by-le-length, length-slice_split, length-drop, eqb-true, length-append}
+use Rattle.std.proofs.lemmas.List.{get_or-append_right}
 use Rattle.langtag_scan.proofs.Grammar.{fold_byte, are_alike, Alike, subtags, is_hyphen, IsHyphenFree, NoHyphenWithin, segments, is_single}
-use Rattle.langtag_range.specs.Extended.{have_no_single, StandAmong, without_stars, MatchesExtended, stand_among, test_extended}
-use Rattle.langtag_range.specs.Range.{is_star, is_range_subtag, are_extended_range, is_language_range}
+use Rattle.langtag_range.proofs.Definitions.{have_no_single, StandAmong, without_stars, MatchesExtended, stand_among, test_extended, is_star, is_range_subtag, are_extended_range, is_language_range, before_hyphens, fallbacks, begins_with_wildcard, basic_form, BeginsWithRange, MatchesBasic, ends_subtag, test_basic}
 use Rattle.langtag_scan.proofs.SubtagLists.{slice_split-push}
-use Rattle.langtag_range.specs.Fallback.{before_hyphens, fallbacks}
 use Rattle.std.specs.Char.{to_ascii_lowercase}
-use Rattle.langtag_range.specs.BasicForm.{begins_with_wildcard, basic_form}
-use Rattle.langtag_range.specs.Basic.{BeginsWithRange, MatchesBasic, ends_subtag, test_basic}
 
 -- texts that are alike are as long
 alike_single : (w t : List ℕ) → are_alike w t ≡ true → is_single t ≡ is_single w

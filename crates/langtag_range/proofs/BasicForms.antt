@@ -1,24 +1,12 @@
 -- The texts of language ranges: they are ASCII, each basic range is a range, and what stays of a range without its "*".
-use Rattle.langtag_scan.proofs.Prelude.{◌≡◌, Bool, true, ℕ, List, [], ◌∷◌, refl, arith, ◌∙◌, ◌<◌, false, eqb, ◌||◌, cond, ap, ◌≤◌, not, ◌++◌, length, inl, inr, list_all, before_first, list_any, AllByRecursion, and_parts, or_cases, or_right, bytes_eq-Decides, common_steps, nat_tests, IsUtf8-from_ascii, All-from_recursion}
-use Rattle.std.proofs.Common.{filter}
+use Rattle.langtag_scan.proofs.Prelude.{◌≡◌, Bool, true, ℕ, List, [], ◌∷◌, refl, arith, ◌∙◌, ◌<◌, false, eqb, ◌||◌, cond, ap, ◌≤◌, not, ◌++◌, length, inl, inr, list_all, before_first, list_any, AllByRecursion, and_parts, or_cases, or_right, bytes_eq-Decides, common_steps, nat_tests, IsUtf8-from_ascii, All-from_recursion, filter, IsAscii, IsUtf8}
 use Rattle.langtag_scan.proofs.Grammar.{subtags, segments, IsHyphenFree, join, is_letter, is_digit, is_alphanumeric, is_private_subtag, has_length, are_alphanumeric, Alike, fold_text}
-use Rattle.langtag_range.specs.Range.{is_star, is_language_range, are_basic_range, is_basic_range, is_range_subtag, are_extended_range, is_first_subtag, are_basic_subtags, are_range_subtags}
-use Rattle.std.specs.Str.{IsAscii, IsUtf8}
-use Rattle.langtag_scan.proofs.Ascii.{IsAscii-each}
-use Rattle.langtag_range.specs.Locale.{ends_locale, is_hash, locale_place, place_before, without_mark}
-use Rattle.langtag_range.specs.Wanted.{hyphened, hyphened_byte}
+use Rattle.langtag_range.proofs.Definitions.{is_star, is_language_range, are_basic_range, is_basic_range, is_range_subtag, are_extended_range, is_first_subtag, are_basic_subtags, are_range_subtags, ends_locale, is_hash, locale_place, place_before, without_mark, hyphened, hyphened_byte, basic_text, basic_form, begins_with_wildcard}
+use Rattle.langtag_scan.proofs.Laws.{IsAscii-each, hyphenated, join-hyphenated, length-join, no_hyphen_each, of_private_subtag, join-subtags, segments-join, subtags-segments}
 use Rattle.langtag_range.proofs.WantedTexts.{extended_parts, first_in_range}
-use Rattle.langtag_scan.proofs.Joins.{hyphenated, join-hyphenated, length-join}
-use Rattle.langtag_scan.proofs.SubtagFacts.{no_hyphen_each, of_private_subtag}
-use Rattle.langtag_scan.proofs.SubtagLists.{join-subtags, segments-join, subtags-segments}
 use Rattle.langtag_range.proofs.AlikeTexts.{hyphened-fold, mark-fold}
 use Rattle.langtag_range.proofs.Among.{basic_form-byte}
-use Rattle.langtag_range.specs.Listed.{basic_text}
-use Rattle.langtag_range.specs.BasicForm.{basic_form, begins_with_wildcard}
-
-pub list_all-weaker : {X : Type 0} (p q : X → Bool) → ((x : X) → p x ≡ true → q x ≡ true) → (xs : List X) → list_all p xs ≡ true → list_all q xs ≡ true
-list_all-weaker p q weaker [] each = refl
-list_all-weaker p q weaker (x ∷ xs) each = grind (arith, common_steps, and_parts (p x) (list_all p xs) each, weaker x, list_all-weaker p q weaker xs)
+use Rattle.langtag_scan.proofs.BoolFacts.{list_all-weaker}
 
 pub is_language_range-from_basic : (text : List ℕ) → is_basic_range text ≡ true → is_language_range text ≡ true
 is_language_range-from_basic text is =

@@ -1,6 +1,4 @@
-use Rattle.std.proofs.Common.{◌<◌, length, refl, arith}
-use Rattle.std.proofs.lemmas.Grind.{common_steps}
-use Rattle.std.proofs.lemmas.List.{append-nil, map-append}
+use Rattle.langtag_scan.proofs.Prelude.{◌<◌, length, refl, arith, common_steps, append-nil, map-append}
 use Rattle.langtag_match.proofs.Readings.{first_bad, read_all, read_first, read_next}
 use Rattle.langtag_match.proofs.accept_language.elements.Goals as goal
 use Rattle.langtag_match.proofs.accept_language.elements.Goals.{in-Ok+in_ok-map_err-in-Ok, in-Err}

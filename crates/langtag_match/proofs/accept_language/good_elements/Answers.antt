@@ -1,6 +1,4 @@
-use Rattle.std.proofs.Common.{arith}
-use Rattle.std.proofs.lemmas.Grind.{common_steps}
-use Rattle.std.proofs.lemmas.List.{append-nil, map-append, nil_from_length}
+use Rattle.langtag_scan.proofs.Prelude.{arith, common_steps, append-nil, map-append, nil_from_length}
 use Rattle.langtag_match.proofs.Readings.{more_elements, no_element}
 use Rattle.langtag_match.proofs.accept_language.good_elements.Goals as goal
 

@@ -1,6 +1,4 @@
-use Rattle.std.proofs.Common.{arith}
-use Rattle.std.proofs.lemmas.Str.{IsCharBoundary-from_ascii}
-use Rattle.std.proofs.lemmas.Grind.{common_steps}
+use Rattle.langtag_scan.proofs.Prelude.{arith, IsCharBoundary-from_ascii, common_steps}
 use Rattle.langtag_range.proofs.BasicForms.{IsAscii-language_range}
 use Rattle.langtag_match.proofs.fallbacks.shortened.Goals as goal
 

@@ -1,6 +1,5 @@
-use Rattle.std.proofs.Common.{nat_lt, rules, tests}
+use Rattle.langtag_scan.proofs.Prelude.{nat_lt, rules, tests, answers_always}
 use Rattle.std.proofs.lemmas.List.Elements.{filter_from_retain}
-use Rattle.std.proofs.lemmas.List.Sorted.{answers_always}
 use Rattle.langtag_match.proofs.Readings.{IsByWeight-sorted}
 use Rattle.langtag_match.proofs.accept_language.AcceptLanguage.by_weight.Goals as goal
 

@@ -1,5 +1,4 @@
-use Rattle.std.proofs.Common.{arith}
-use Rattle.std.proofs.lemmas.Grind.{common_steps}
+use Rattle.langtag_scan.proofs.Prelude.{arith, common_steps}
 use Rattle.langtag_range.proofs.Among.{same_test, test_extended-decides}
 use Rattle.langtag_match.proofs.language_range.LanguageRange.matches_extended.Goals as goal
 
