@@ -1,17 +1,9 @@
 -- Likely subtags that are added again change nothing, since the rows have what it takes.
-use Rattle.std.proofs.Common.{◌≡◌, ◌%◌, true, false, Bool, cond, not, ◌≤◌, List, [], ◌∷◌, ℕ, Option, None, Some, is_some, refl, sym, ap, subst, ◌∙◌, arith, ◌&&◌, ◌||◌, codes, option_map, ◌⊎◌, rules}
-use Rattle.std.proofs.lemmas.Bool.{and_parts}
-use Rattle.std.proofs.lemmas.Bool.Decides.{nat_tests}
-use Rattle.std.specs.List.{list_all}
-use Rattle.std.specs.Option.{is_none, option_map_or}
-use Rattle.langtag_scan.specs.Case.{are_alike, Alike, fold_text}
-use Rattle.langtag_scan.specs.Class.{are_letters}
+use Rattle.langtag_scan.proofs.Prelude.{◌≡◌, ◌%◌, true, false, Bool, cond, not, ◌≤◌, List, [], ◌∷◌, ℕ, Option, None, Some, is_some, refl, sym, ap, subst, ◌∙◌, arith, ◌&&◌, ◌||◌, codes, option_map, ◌⊎◌, rules, and_parts, nat_tests, list_all, is_none, option_map_or}
+use Rattle.langtag_scan.proofs.Grammar.{are_alike, Alike, fold_text, are_letters}
 use Rattle.langtag_tables.specs.Numbers.{letter_number}
-use Rattle.langtag_likely.specs.Likely.{Likely, likely_for, looked_up, or_else, are_alike_fields, or_other, filled, known, known_fields, add_likely, language_alone}
+use Rattle.langtag_likely.proofs.Definitions.{Likely, likely_for, looked_up, or_else, are_alike_fields, or_other, filled, known, known_fields, add_likely, language_alone, language_rows, other_rows, likely_subtags, region_aliases, region_alone}
 use Rattle.langtag.specs.Fields.{Fields}
-use Rattle.langtag_likely.specs.LikelySubtags.{language_rows, other_rows, likely_subtags}
-use Rattle.langtag_likely.specs.Aliases.{region_aliases}
-use Rattle.langtag_likely.specs.Matching.{region_alone}
 use Rattle.langtag_likely.specs.Rows.{of_language}
 use Rattle.langtag_likely.proofs.AlikeFields.{alike_fields, likely_for-alike, looked_up-alike, alone_alike}
 use Rattle.langtag.proofs.Alike.{AlikeFields, alike_is}

@@ -1,14 +1,9 @@
 -- Fields that are equal but for case have likely subtags that are. A language that is there stays in the matching form.
-use Rattle.std.proofs.Common.{◌≡◌, ℕ, ◌<◌, List, length, option_map, arith, true, false, Bool, cond, [], ◌∷◌, Option, None, Some, refl, ap, ◌∙◌, subst}
+use Rattle.langtag_scan.proofs.Prelude.{◌≡◌, ℕ, ◌<◌, List, length, option_map, arith, true, false, Bool, cond, [], ◌∷◌, Option, None, Some, refl, ap, ◌∙◌, subst, common_steps, option_map_or}
+use Rattle.langtag_scan.proofs.Grammar.{Alike}
 use Rattle.langtag.specs.Fields.{Fields}
-use Rattle.langtag_likely.specs.Matching.{completed, letters_replaced, matching_form, most_likely, region_replaced, replaced_form, language_replaced}
-use Rattle.std.proofs.lemmas.Grind.{common_steps}
-use Rattle.std.specs.Option.{option_map_or}
-use Rattle.langtag_scan.specs.Case.{Alike}
+use Rattle.langtag_likely.proofs.Definitions.{completed, letters_replaced, matching_form, most_likely, region_replaced, replaced_form, language_replaced, Likely, are_alike_fields, likely_for, looked_up, filled, or_other, known, known_fields, add_likely, language_alone, without_script, without_region, likely_subtags, add_likely_subtags, canonical_fields, least, remove_likely_subtags, suffices}
 use Rattle.langtag_scan.proofs.CaseLaw.{length-fold}
-use Rattle.langtag_likely.specs.Likely.{Likely, are_alike_fields, likely_for, looked_up, filled, or_other, known, known_fields, add_likely, language_alone, without_script, without_region}
-use Rattle.langtag_likely.specs.LikelySubtags.{likely_subtags}
-use Rattle.langtag_likely.specs.Maximal.{add_likely_subtags, canonical_fields, least, remove_likely_subtags, suffices}
 use Rattle.langtag.proofs.Alike.{AlikeFields, alike_is, are_alike-left, are_alike-right}
 
 pub form_completed : (text : List ℕ) → matching_form text ≡ option_map completed (replaced_form text)

@@ -1,23 +1,12 @@
 -- Likely subtags that are added again change nothing, also where deprecated subtags are replaced before the lookup. A
 -- language that has a row is not deprecated.
-use Rattle.std.proofs.Common.{◌≡◌, ℕ, ◌==◌, ◌%◌, ◌&&◌, ◌||◌, true, false, Bool, leb, ltb, not, List, [], length, Option, None, Some, is_some, option_map, refl, sym, ap, subst, ◌∙◌, arith, codes}
-use Rattle.std.proofs.lemmas.Bool.{and_parts, eqb-true}
-use Rattle.std.proofs.lemmas.Bool.Decides.{nat_tests}
-use Rattle.std.proofs.lemmas.List.{nil_from_length}
-use Rattle.std.specs.List.{list_all}
-use Rattle.std.specs.Option.{is_none, option_map_or}
-use Rattle.langtag_scan.specs.Case.{Alike, are_alike, fold_byte}
-use Rattle.langtag_scan.specs.CaseLaws.{are_alike-decides}
-use Rattle.langtag_scan.specs.Class.{are_letters, is_letter}
+use Rattle.langtag_scan.proofs.Prelude.{◌≡◌, ℕ, ◌==◌, ◌%◌, ◌&&◌, ◌||◌, true, false, Bool, leb, ltb, not, List, [], length, Option, None, Some, is_some, option_map, refl, sym, ap, subst, ◌∙◌, arith, codes, and_parts, eqb-true, nat_tests, nil_from_length, list_all, is_none, option_map_or}
+use Rattle.langtag_scan.proofs.Grammar.{Alike, are_alike, fold_byte, are_alike-decides, are_letters, is_letter}
 use Rattle.langtag_scan.proofs.CaseLaw.{all-fold, is_letter-fold}
 use Rattle.langtag.specs.Fields.{Fields}
 use Rattle.langtag_tables.specs.Numbers.{letter_number}
 use Rattle.langtag_tables.proofs.Letters.{letter_number-tells}
-use Rattle.langtag_likely.specs.Aliases.{language_aliases, region_aliases}
-use Rattle.langtag_likely.specs.Likely.{Likely, add_likely, filled, known_fields, language_alone, likely_for}
-use Rattle.langtag_likely.specs.LikelySubtags.{likely_subtags}
-use Rattle.langtag_likely.specs.Matching.{language_replaced, region_alone, region_replaced, with_language_from, with_region_from}
-use Rattle.langtag_likely.specs.Maximal.{add_likely_subtags, canonical_fields}
+use Rattle.langtag_likely.proofs.Definitions.{language_aliases, region_aliases, Likely, add_likely, filled, known_fields, language_alone, likely_for, likely_subtags, language_replaced, region_alone, region_replaced, with_language_from, with_region_from, add_likely_subtags, canonical_fields}
 use Rattle.langtag_likely.proofs.AddedTwice.{AreKnown, some_value, IsAdded, absent, added, either_way, found_of, found_row, known_stays, not_first, or_other_absent, or_other_there, other_test, there_alike, there_other}
 use Rattle.langtag_likely.proofs.RowLaws.{aliases_listed}
 use Rattle.langtag_likely.proofs.TableRows.{has_bit, from_bit, is_there, rows_listed}
@@ -97,7 +86,7 @@ canonical_added : (f m : Fields) → canonical_fields f ≡ f → add_likely lik
 unfolding add_likely_subtags
 canonical_added f m stays is = rw stays (grind (arith, filled-twice))
 
-none_is : {A : Type 0} (o : Option A) → is_none o ≡ true → o ≡ None
+pub none_is : {A : Type 0} (o : Option A) → is_none o ≡ true → o ≡ None
 none_is o h = grind (arith, nat_tests)
 
 pub current_added : (f m : Fields) → is_none (likely_for region_aliases (region_alone f)) ≡ true → add_likely likely_subtags f ≡ Some m → add_likely_subtags f ≡ Some m

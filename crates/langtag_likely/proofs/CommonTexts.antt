@@ -1,21 +1,11 @@
 -- The subtags of a text in which "_" is read as "-", and a range and a text without what both begin with.
-use Rattle.std.proofs.Common.{◌≡◌, ℕ, true, false, cond, codes, Some, None, List, [], ◌∷◌, inl, inr, refl, sym, ap, ◌∙◌, arith, ◌+◌, ◌-◌, ◌<◌, ◌≤◌, ◌==◌, length, length-drop, get_or, take, drop, ◌&&◌}
-use Rattle.std.specs.List.{before_first, after_first}
-use Rattle.langtag_scan.specs.Class.{is_primary}
-use Rattle.langtag_scan.specs.Subtags.{subtags}
-use Rattle.langtag_range.specs.Wanted.{hyphened, is_separator, hyphened_byte}
+use Rattle.langtag_scan.proofs.Prelude.{◌≡◌, ℕ, true, false, cond, codes, Some, None, List, [], ◌∷◌, inl, inr, refl, sym, ap, ◌∙◌, arith, ◌+◌, ◌-◌, ◌<◌, ◌≤◌, ◌==◌, length, length-drop, get_or, take, drop, ◌&&◌, before_first, after_first, nat_tests, length-map, take_all, common_steps}
+use Rattle.langtag_scan.proofs.Grammar.{is_primary, subtags, are_alike, fold_byte}
+use Rattle.langtag_range.proofs.Definitions.{hyphened, is_separator, hyphened_byte, basic_text, begins_with_wildcard}
 use Rattle.langtag_range.proofs.WantedTexts.{cut_or_whole, segments-read}
-use Rattle.langtag_likely.specs.Likely.{known}
-use Rattle.langtag_likely.specs.TextFields.{counts, fields_of_subtags, text_fields, after_language, after_script, last_language, counted_parts, region_of, script_of}
-use Rattle.std.proofs.lemmas.Bool.Decides.{nat_tests}
-use Rattle.std.proofs.lemmas.List.{length-map, take_all}
-use Rattle.std.proofs.lemmas.Grind.{common_steps}
-use Rattle.langtag_scan.specs.Case.{are_alike, fold_byte}
-use Rattle.langtag_range.specs.Listed.{basic_text}
-use Rattle.langtag_range.specs.BasicForm.{begins_with_wildcard}
+use Rattle.langtag_likely.proofs.Definitions.{known, counts, fields_of_subtags, text_fields, after_language, after_script, last_language, counted_parts, region_of, script_of, after_common, BeginsPlain}
 use Rattle.langtag_range.proofs.BasicForms.{length-basic}
 use Rattle.langtag_range.proofs.Among.{basic_form-byte}
-use Rattle.langtag_likely.specs.Ranges.{after_common, BeginsPlain}
 use Rattle.langtag_likely.proofs.AddedTwice.{either_way}
 
 -- the first subtag, if it counts, and those of the rest

@@ -1,19 +1,13 @@
 -- What the class of a field says of its letters and its length, and which scripts are written from right to left.
-use Rattle.std.proofs.Common.{◌≡◌, ℕ, ◌<◌, ◌≤◌, true, Bool, List, [], ◌∷◌, length, refl, arith, map, is_some}
-use Rattle.langtag_scan.specs.Class.{are_letters, are_alphanumeric, is_primary, is_extended, is_digit, is_letter}
+use Rattle.langtag_scan.proofs.Prelude.{◌≡◌, ℕ, ◌<◌, ◌≤◌, true, Bool, List, [], ◌∷◌, length, refl, arith, map, is_some, list_all, list_any}
+use Rattle.langtag_scan.proofs.Grammar.{are_letters, are_alphanumeric, is_primary, is_extended, is_digit, is_letter, are_alike, fold_byte, folded_number}
 use Rattle.langtag_tables.specs.Numbers.{letter_number}
 use Rattle.langtag_tables.proofs.Letters.{primary_letters, extended_primary}
-use Rattle.langtag.specs.FieldClasses.{is_language_field, is_script_field, is_region_field}
-use Rattle.langtag_likely.specs.Likely.{known}
-use Rattle.langtag.specs.Fields.{Fields}
+use Rattle.langtag.proofs.Definitions.{is_language_field, is_script_field, is_region_field, Fields}
+use Rattle.langtag_likely.proofs.Definitions.{known, first_index}
 use Rattle.langtag_likely.proofs.TableRows.{are_plain}
-use Rattle.langtag_scan.proofs.Disjoint.{script_four, region_two_three}
-use Rattle.langtag_scan.proofs.SubtagFacts.{of_primary, of_script, of_region}
+use Rattle.langtag_scan.proofs.Laws.{script_four, region_two_three, of_primary, of_script, of_region, folded_number-tells}
 use Rattle.langtag.proofs.FieldClasses.{from_primary}
-use Rattle.std.specs.List.{list_all, list_any}
-use Rattle.langtag_scan.specs.Case.{are_alike, fold_byte, folded_number}
-use Rattle.langtag_scan.proofs.FoldedNumbers.{folded_number-tells}
-use Rattle.langtag_likely.specs.Numbers.{first_index}
 use Rattle.langtag_likely.specs.RightToLeft.{right_to_left_scripts}
 use Rattle.langtag_likely.specs.declared.tables.TheConstants.{RIGHT_TO_LEFT_KEYS}
 

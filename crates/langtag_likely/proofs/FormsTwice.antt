@@ -1,16 +1,9 @@
 -- The maximal and the minimal record of a record are their own, and each undoes the other.
-use Rattle.std.proofs.Common.{◌≡◌, ℕ, true, false, List, [], ◌∷◌, Option, None, Some, option_map, refl, sym, ap, ◌∙◌, arith, codes, ◌≤◌, length, map, inl, inr, ◌⊎◌, IsTrue}
-use Rattle.std.specs.List.{AllByRecursion}
-use Rattle.std.specs.Option.{option_map_or}
-use Rattle.langtag_scan.specs.AlikeRecords.{AlikeRecords, fold_record}
-use Rattle.langtag_scan.specs.Case.{Alike, fold_text, are_alike}
-use Rattle.langtag_scan.specs.Class.{is_extended}
-use Rattle.langtag_scan.specs.Record.{Record, IsWellFormed}
+use Rattle.langtag_scan.proofs.Prelude.{◌≡◌, ℕ, true, false, List, [], ◌∷◌, Option, None, Some, option_map, refl, sym, ap, ◌∙◌, arith, codes, ◌≤◌, length, map, inl, inr, ◌⊎◌, IsTrue, AllByRecursion, option_map_or}
+use Rattle.langtag_scan.proofs.Grammar.{AlikeRecords, fold_record, Alike, fold_text, are_alike, is_extended, Record, IsWellFormed}
 use Rattle.langtag_tables.proofs.Letters.{primary_length, extended_primary}
-use Rattle.langtag_likely.specs.Likely.{or_other, filled, known, known_fields, add_likely, language_alone, without_script, without_region}
+use Rattle.langtag_likely.proofs.Definitions.{or_other, filled, known, known_fields, add_likely, language_alone, without_script, without_region, likely_subtags, add_likely_subtags, canonical_fields, fields_of, language_field, least, put_fields, put_language, maximal_record, minimal_record, suffices}
 use Rattle.langtag.specs.Fields.{Fields}
-use Rattle.langtag_likely.specs.LikelySubtags.{likely_subtags}
-use Rattle.langtag_likely.specs.Maximal.{add_likely_subtags, canonical_fields, fields_of, language_field, least, put_fields, put_language, maximal_record, minimal_record, suffices}
 use Rattle.langtag_likely.proofs.AddedTwice.{either_way, some_value, AreKnown, or_other_there}
 use Rattle.langtag_likely.proofs.CanonicalFields.{likely_added}
 use Rattle.langtag_likely.proofs.TableRows.{is_there}

@@ -1,16 +1,13 @@
 -- A bit of the table of languages tells whether a language has a row, and the bits from it on where the row stands.
-use Rattle.std.proofs.Common.{◌≡◌, ℕ, zero, suc, ◌+◌, ◌*◌, ◌-◌, ◌/◌, ◌%◌, ◌^◌, ◌<◌, ◌≤◌, true, false, ◌==◌, Bool, cond, ltb, List, [], ◌∷◌, ◌++◌, length, get_or, map, take, Option, None, Some, count_ones, refl, ap, sym, ◌∙◌, arith}
-use Rattle.std.specs.List.{list_all}
+use Rattle.langtag_scan.proofs.Prelude.{◌≡◌, ℕ, zero, suc, ◌+◌, ◌*◌, ◌-◌, ◌/◌, ◌%◌, ◌^◌, ◌<◌, ◌≤◌, true, false, ◌==◌, Bool, cond, ltb, List, [], ◌∷◌, ◌++◌, length, get_or, map, take, Option, None, Some, refl, ap, sym, ◌∙◌, arith, list_all, and_parts, eq-eqb, ne_eqb, ltb-true, get_or_append_left, get_or-append-add, take-append-le}
+use Rattle.std.proofs.Common.{count_ones}
 use Rattle.std.specs.Int.Count.{ones_step}
 use Rattle.std.proofs.Math.Nat.{div-one, pow-succ', two-pow-succ, div-div-eq-div-mul}
 use Rattle.std.proofs.Math.Seq.{take-append-add}
-use Rattle.std.proofs.lemmas.Bool.{and_parts, eq-eqb, ne_eqb, ltb-true}
-use Rattle.std.proofs.lemmas.List.{get_or_append_left, get_or-append-add, take-append-le}
 use Rattle.std.proofs.lemmas.Nat.{ones_le_self}
 use Rattle.langtag_tables.specs.Numbers.{letter_number, places}
 use Rattle.langtag_likely.specs.declared.tables.TheConstants.{LANGUAGE_BITS, LANGUAGE_ENDS}
-use Rattle.langtag_likely.specs.LikelySubtags.{language_rows}
-use Rattle.langtag_likely.specs.Numbers.{first_index}
+use Rattle.langtag_likely.proofs.Definitions.{language_rows, first_index}
 use Rattle.langtag_likely.proofs.TableRows.{bits, words, from_bit, rows_listed}
 
 -- ---- the bits of a word

@@ -1,3 +1,4 @@
+pub mod Definitions
 pub mod AddedTwice
 pub mod AlikeFields
 pub mod CanonicalFields

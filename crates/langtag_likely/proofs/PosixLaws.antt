@@ -1,39 +1,17 @@
 -- The tag of a POSIX locale's name: its parts, its length, and the keyword va-posix for an only variant POSIX.
-use Rattle.std.proofs.Common.{◌≡◌, ℕ, ◌+◌, ◌-◌, ◌≤◌, true, false, List, [], ◌∷◌, ◌++◌, length, take, drop, take_at, drop_at, IsTrue, refl, sym, ap, inl, ◌∙◌, arith, codes, flat_map, append_assoc, append-nil, length-append, Bool, cond, Option, None, Some, IfSome, MatchOption, Bor, IsUtf8, subst}
-use Rattle.std.specs.List.{AllByRecursion}
-use Rattle.std.proofs.lemmas.Bool.{and_parts, false_from_ne_true}
-use Rattle.langtag_scan.specs.Case.{are_alike, fold_byte}
-use Rattle.langtag_scan.specs.Class.{is_extension_subtag, is_mark, is_singleton, is_letter, is_digit, is_variant, is_script}
-use Rattle.langtag_scan.specs.Ends.{ends_of, to_region}
-use Rattle.langtag_scan.specs.Record.{Extension, Record, IsWellFormed, extension_flat, private_part_flat, spell, EachRecord, Spells}
-use Rattle.langtag_scan.specs.Subtags.{join}
-use Rattle.langtag_scan.specs.Tag.{IsNormal, IsTag}
-use Rattle.langtag_scan.proofs.PartOffsets.{ends_in_order, length-spell}
-use Rattle.langtag_scan.proofs.Joins.{hyphenated, hyphenated-append, join-hyphenated, length-join}
-use Rattle.langtag_scan.proofs.Disjoint.{variant_long, script_four}
+use Rattle.langtag_scan.proofs.Prelude.{◌≡◌, ℕ, ◌+◌, ◌-◌, ◌≤◌, true, false, List, [], ◌∷◌, ◌++◌, length, take, drop, take_at, drop_at, IsTrue, refl, sym, ap, inl, ◌∙◌, arith, codes, flat_map, append_assoc, append-nil, length-append, Bool, cond, Option, None, Some, IfSome, MatchOption, Bor, IsUtf8, subst, AllByRecursion, and_parts, false_from_ne_true, option_map, option_or, IsUtf8-from_ascii, common_steps}
+use Rattle.langtag_scan.proofs.Grammar.{are_alike, fold_byte, is_extension_subtag, is_mark, is_singleton, is_letter, is_digit, is_variant, is_script, ends_of, to_region, Extension, Record, IsWellFormed, extension_flat, private_part_flat, spell, EachRecord, Spells, join, IsNormal, IsTag}
+use Rattle.langtag_scan.proofs.Laws.{ends_in_order, length-spell, hyphenated, hyphenated-append, join-hyphenated, length-join, script_four, IsAscii-spelled, of_script, variant_four}
 use Rattle.langtag.proofs.Alike.{alike_length}
-use Rattle.langtag_likely.specs.Posix.{IsAroundPosix, is_posix_alone, posix_extension, posix_replaced, modifier_of, said_script, script_behind, with_said, with_said_script, with_said_variant}
-use Rattle.std.specs.Option.{option_map, option_or}
-use Rattle.std.proofs.lemmas.Str.{IsUtf8-from_ascii}
-use Rattle.std.proofs.lemmas.Grind.{common_steps}
-use Rattle.langtag_scan.proofs.Ascii.{IsAscii-spelled}
-use Rattle.langtag_scan.proofs.SubtagFacts.{of_script}
-use Rattle.langtag.specs.Edit.{with_script}
+use Rattle.langtag_likely.proofs.Definitions.{IsAroundPosix, is_posix_alone, posix_extension, posix_replaced, modifier_of, said_script, script_behind, with_said, with_said_script, with_said_variant, or_else, is_script_code, modifier_script, modifier_variant}
+use Rattle.langtag.proofs.Definitions.{with_script, script_text, IsVariants, IsForm}
 use Rattle.langtag.proofs.EditLaws.{script-replaces}
-use Rattle.langtag_place.specs.Text.{script_text}
 use Rattle.langtag_place.specs.declared.script.Script.{Script}
-use Rattle.langtag_place.specs.Variants.{IsVariants}
 use Rattle.langtag_output.specs.Writes.{Writes}
 use Rattle.langtag_likely.specs.declared.tables.TheConstants.{SCRIPT_NAMES}
 use Rattle.langtag_likely.specs.Scripts.{script_codes}
-use Rattle.langtag_likely.specs.Likely.{or_else}
-use Rattle.langtag.specs.Form.{IsForm}
-use Rattle.langtag_likely.specs.Modifiers.{is_script_code, modifier_script, modifier_variant}
 
 -- ---- the only variant
-
-variant_four : (s : List ℕ) → is_variant s ≡ true → 4 ≤ length s
-variant_four s is = grind (arith, variant_long)
 
 -- the text of the variants tells whether POSIX is the only one, since two variants have nine bytes or more
 pub alone : (vs : List (List ℕ)) → AllByRecursion (λ s. IsTrue (is_variant s)) vs → are_alike (join vs) (codes "POSIX") ≡ is_posix_alone vs

@@ -1,25 +1,10 @@
 -- The text of a name, and that it is read as it stands: neither Android nor .NET writes a tag so.
-use Rattle.std.proofs.Common.{◌≡◌, ℕ, ◌+◌, ◌≤◌, not, true, false, Bool, cond, suc, List, [], ◌∷◌, ◌++◌, length, drop, IfSome, refl, sym, ap, ◌∙◌, arith, flat_map, append_assoc, append-nil, unwrap_or, ◌<◌, ◌==◌, inl, inr, None, subst, ◌⊎◌, codes, length-append}
-use Rattle.std.specs.List.{AllByRecursion, after_first, before_first, list_any, position_or_len}
-use Rattle.std.proofs.lemmas.Bool.{and_parts, or_parts, false_from_ne_true}
-use Rattle.std.proofs.lemmas.Bool.Decides.{nat_tests}
-use Rattle.std.proofs.lemmas.List.{map-append}
-use Rattle.std.proofs.lemmas.List.Folds.{list_any-append}
-use Rattle.std.proofs.lemmas.List.Sums.{take_while-cons}
-use Rattle.langtag_scan.specs.Case.{Alike, fold_byte, are_alike}
-use Rattle.langtag_scan.specs.Class.{are_alphanumeric, is_alphanumeric, is_digit, is_letter, is_primary, is_region, is_script}
-use Rattle.langtag_scan.specs.Record.{Record, extension_flat, one_flat, private_part_flat, spell}
-use Rattle.langtag_scan.specs.Subtags.{join, is_hyphen}
-use Rattle.langtag_scan.proofs.Joins.{drop-join, hyphenated, hyphenated-append, join-hyphenated}
+use Rattle.langtag_scan.proofs.Prelude.{◌≡◌, ℕ, ◌+◌, ◌≤◌, not, true, false, Bool, cond, suc, List, [], ◌∷◌, ◌++◌, length, drop, IfSome, refl, sym, ap, ◌∙◌, arith, flat_map, append_assoc, append-nil, unwrap_or, ◌<◌, ◌==◌, inl, inr, None, subst, ◌⊎◌, codes, length-append, AllByRecursion, after_first, before_first, list_any, position_or_len, and_parts, or_parts, false_from_ne_true, nat_tests, map-append, list_any-append, take_while-cons}
+use Rattle.langtag_scan.proofs.Grammar.{Alike, fold_byte, are_alike, are_alphanumeric, is_alphanumeric, is_digit, is_letter, is_region, is_script, Record, extension_flat, one_flat, private_part_flat, spell, join, is_hyphen, are_alike-decides}
+use Rattle.langtag_scan.proofs.Laws.{drop-join, hyphenated, hyphenated-append, join-hyphenated, alike_region, region_short, script_four, of_region}
 use Rattle.langtag_range.specs.Wanted.{hyphened, hyphened_byte}
-use Rattle.langtag_likely.specs.Modifiers.{is_empty, is_script_code}
-use Rattle.langtag_likely.specs.ToPosix.{after_variants, marked}
-use Rattle.langtag_scan.specs.CaseLaws.{are_alike-decides}
-use Rattle.langtag_scan.proofs.CaseLaw.{alike_region}
-use Rattle.langtag_scan.proofs.Disjoint.{region_short, script_four}
-use Rattle.langtag_scan.proofs.SubtagFacts.{of_region}
+use Rattle.langtag_likely.proofs.Definitions.{is_empty, is_script_code, after_variants, marked, is_plus, marked_region, platform_behind, platform_read, read_place, region_now}
 use Rattle.langtag.proofs.Alike.{alike_is, alike_length}
-use Rattle.langtag_likely.specs.PlatformNames.{is_plus, marked_region, platform_behind, platform_read, read_place, region_now}
 
 -- ---- marks
 
@@ -191,11 +176,6 @@ both_behind region is =
     }
 
 -- ---- a name
-
--- a language has two letters or more
-pub primary_two : (language : List ℕ) → is_primary language ≡ true → 2 ≤ length language
-unfolding is_primary
-primary_two language is = grind (arith, nat_tests)
 
 -- a territory and a variant of a name
 pub record IsTerritory (b c : List ℕ) : Type 0 where

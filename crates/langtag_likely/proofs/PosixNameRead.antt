@@ -1,42 +1,18 @@
 -- `from_posix` reads the name of a tag as the tag.
-use Rattle.std.proofs.Common.{◌≡◌, ℕ, ◌+◌, ◌≤◌, not, true, false, Bool, cond, List, [], ◌∷◌, ◌++◌, length, Option, None, Some, IfSome, IsTrue, IsAscii, IsUtf8, ◌<◌, refl, sym, ap, subst, inl, inr, ◌∙◌, ◌⊎◌, arith, codes, find, flat_map, append_assoc, append-nil, length-append, option_map, unwrap_or, Bor, ◌&&◌, leb}
-use Rattle.std.specs.List.{AllByRecursion, after_first, before_first, list_all, list_any}
-use Rattle.std.specs.Option.{option_and_then}
-use Rattle.std.proofs.lemmas.Bool.{and_parts, false_from_ne_true, leb-true, or_right}
-use Rattle.std.proofs.lemmas.Grind.{common_steps}
-use Rattle.std.proofs.lemmas.Bool.Decides.{nat_tests}
-use Rattle.std.proofs.lemmas.List.Folds.{list_any-append}
-use Rattle.std.proofs.lemmas.Str.{IsAscii-append, IsUtf8-from_ascii}
-use Rattle.std.proofs.lemmas.Str.Ascii.{IsAscii-cons, IsAscii-nil, lowercase-uppercase}
-use Rattle.langtag_scan.specs.Case.{Alike, are_alike, fold_byte, fold_text}
-use Rattle.langtag_scan.specs.CaseLaws.{are_alike-decides}
-use Rattle.langtag_scan.specs.Class.{are_alphanumeric, are_letters, is_alphanumeric, is_digit, is_letter, is_region, is_script, is_variant}
-use Rattle.langtag_scan.specs.Parts.{language_part, variants_part}
-use Rattle.langtag_scan.specs.Record.{Extension, IsWellFormed, Record, extension_flat, one_flat, spell}
-use Rattle.langtag_scan.specs.Subtags.{is_hyphen, join}
-use Rattle.langtag_scan.specs.Tag.{IsNormal, IsTag}
-use Rattle.langtag_scan.proofs.CaseLaw.{alike_primary, alike_region, fold_text-twice, hyphen-fold, length-fold}
-use Rattle.langtag_scan.proofs.Disjoint.{extended_three, region_short}
-use Rattle.langtag_scan.proofs.Joins.{hyphenated, length-join}
-use Rattle.langtag_scan.proofs.Ascii.{IsAscii-each, alphanumeric_below}
-use Rattle.langtag_scan.proofs.NormalTexts.{normal_or_not}
-use Rattle.langtag_scan.proofs.SubtagFacts.{letters_alphanumeric, of_primary, of_region, of_script, of_variant}
+use Rattle.langtag_scan.proofs.Prelude.{◌≡◌, ℕ, ◌+◌, ◌≤◌, not, true, false, Bool, cond, List, [], ◌∷◌, ◌++◌, length, Option, None, Some, IfSome, IsTrue, IsAscii, IsUtf8, ◌<◌, refl, sym, ap, subst, inl, inr, ◌∙◌, ◌⊎◌, arith, codes, find, flat_map, append_assoc, append-nil, length-append, option_map, unwrap_or, Bor, ◌&&◌, leb, AllByRecursion, after_first, before_first, list_all, list_any, option_and_then, and_parts, false_from_ne_true, leb-true, or_right, common_steps, nat_tests, list_any-append, IsAscii-append, IsUtf8-from_ascii, IsAscii-cons, IsAscii-nil, lowercase-uppercase}
+use Rattle.langtag_scan.proofs.Grammar.{Alike, are_alike, fold_byte, fold_text, are_alike-decides, are_alphanumeric, are_letters, is_alphanumeric, is_digit, is_letter, is_region, is_script, is_variant, language_part, variants_part, Extension, IsWellFormed, Record, extension_flat, one_flat, spell, is_hyphen, join, IsNormal, IsTag}
+use Rattle.langtag_scan.proofs.Laws.{alike_primary, alike_region, fold_text-twice, hyphen-fold, length-fold, extended_three, region_short, hyphenated, length-join, IsAscii-each, alphanumeric_below, normal_or_not, letters_alphanumeric, of_primary, of_region, of_script, of_variant}
 use Rattle.langtag_case.specs.RecommendedCase.{capital_text}
-use Rattle.langtag.specs.Edit.{with_script}
-use Rattle.langtag.specs.Fields.{Fields}
+use Rattle.langtag.proofs.Definitions.{with_script, Fields}
 use Rattle.langtag.proofs.Alike.{alike_is, alike_length}
-use Rattle.langtag_range.specs.Locale.{ends_locale, front_of, is_hash, locale_place, place_before, without_mark}
-use Rattle.langtag_range.specs.Wanted.{hyphened}
+use Rattle.langtag_range.proofs.Definitions.{ends_locale, front_of, is_hash, locale_place, place_before, without_mark, hyphened}
 use Rattle.langtag_range.proofs.AlikeTexts.{list_any-fold}
-use Rattle.langtag_likely.specs.Likely.{language_alone, or_else, without_script}
-use Rattle.langtag_likely.specs.Maximal.{fields_of}
-use Rattle.langtag_likely.specs.Modifiers.{is_empty, modifier_for, modifier_script, modifier_variant, modifiers, names}
-use Rattle.langtag_likely.specs.Posix.{IsLocalePlace, IsTagOfName, is_at, is_underscore, modifier_of, posix_extension, posix_replaced, said_script, script_behind, with_said, with_said_script, with_said_variant}
-use Rattle.langtag_likely.specs.ToPosix.{IsPosixName, IsReadBack, NameParts, ReadsBack, after_variants, is_likely, is_named, marked, name_modifier, name_parts, name_text, name_variant}
-use Rattle.langtag_likely.specs.PlatformNames.{read_place}
-use Rattle.langtag_likely.proofs.PosixNameLaws.{no_mark, place_kept, primary_two, IsPlain, after_others, after_rest, alike_text, before_rest, marked_cut, others, place_free, place_hyphened, place_text, spelled_text, tag_text}
+use Rattle.langtag_likely.proofs.Definitions.{language_alone, or_else, without_script, fields_of, is_empty, modifier_for, modifier_script, modifier_variant, modifiers, names, IsLocalePlace, IsTagOfName, is_at, is_underscore, modifier_of, posix_extension, posix_replaced, said_script, script_behind, with_said, with_said_script, with_said_variant, IsPosixName, IsReadBack, NameParts, ReadsBack, after_variants, is_likely, is_named, marked, name_modifier, name_parts, name_variant, read_place}
+use Rattle.langtag_likely.specs.ToPosix.{name_text}
+use Rattle.langtag_likely.proofs.PosixNameLaws.{no_mark, place_kept, IsPlain, after_others, after_rest, alike_text, before_rest, marked_cut, others, place_free, place_hyphened, place_text, spelled_text, tag_text}
 use Rattle.langtag_likely.proofs.AddedTwice.{some_value}
 use Rattle.langtag_likely.proofs.PosixLaws.{said_well_formed, others_stay}
+use Rattle.langtag_tables.proofs.Letters.{primary_length}
 
 -- ---- the parts of the name of a record
 
@@ -309,7 +285,7 @@ module _ (r : Record) (fits : IsWellFormed r) (short : IsShort r) (v m s : List 
   spelled_place = grind (arith, common_steps, nat_tests, spelled_text, plain_place, tag_text, unwrap-capital, place_hyphened, letters_first, letters_second)
 
   read_kept : read_place place ≡ hyphened place
-  read_kept = grind (arith, common_steps, nat_tests, place_kept, letters_first, letters_second, primary_two, fits_place, unwrap-capital)
+  read_kept = grind (arith, common_steps, nat_tests, place_kept, letters_first, letters_second, primary_length, fits_place, unwrap-capital)
 
   spelled_read : spell (place_record r v) ≡ read_place place
   spelled_read = spelled_place ∙ sym read_kept
@@ -397,9 +373,9 @@ some_name tag name is = elim (normal_or_not tag) [
 ]
 
 -- there is one name, or none
-pub one_name : (tag : List ℕ) (name other : Option (List ℕ)) → IsPosixName tag name → IsPosixName tag other → name ≡ other
+pub one_name : (tag : List ℕ) (one other : Option (List ℕ)) → IsPosixName tag one → IsPosixName tag other → one ≡ other
 unfolding IsNormal
-one_name tag name other a b = elim (normal_or_not tag) [
+one_name tag one other a b = elim (normal_or_not tag) [
   | inl (r, spells) ↦ a.part r spells ∙ sym (b.part r spells)
   | inr never ↦ a.absent never ∙ sym (b.absent never)
 ]

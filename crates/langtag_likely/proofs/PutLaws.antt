@@ -1,17 +1,10 @@
 -- A tag with other fields, piece by piece.
-use Rattle.std.proofs.Common.{◌≡◌, ℕ, ◌+◌, ◌≤◌, true, List, [], ◌∷◌, ◌++◌, length, drop, arith, append_assoc, rules, codes, flat_map, length-append, append-nil}
-use Rattle.std.proofs.lemmas.Grind.{common_steps}
-use Rattle.langtag_scan.specs.Case.{are_alike}
-use Rattle.langtag_scan.specs.Ends.{ends_of}
-use Rattle.langtag_scan.specs.Record.{Record, one_flat, extension_flat, private_part_flat, spell}
-use Rattle.langtag_scan.specs.Subtags.{join}
-use Rattle.langtag_scan.proofs.Joins.{hyphenated, hyphenated-append, join-append, drop-join}
-use Rattle.langtag_scan.proofs.PartOffsets.{ends_in_order, length-spell}
-use Rattle.langtag_language.specs.Language.{SpellsLanguage}
+use Rattle.langtag_scan.proofs.Prelude.{◌≡◌, ℕ, ◌+◌, ◌≤◌, true, List, [], ◌∷◌, ◌++◌, length, drop, arith, append_assoc, rules, codes, flat_map, length-append, append-nil, common_steps}
+use Rattle.langtag_scan.proofs.Grammar.{are_alike, ends_of, Record, one_flat, extension_flat, private_part_flat, spell, join}
+use Rattle.langtag_scan.proofs.Laws.{hyphenated, hyphenated-append, join-append, drop-join, ends_in_order, length-spell}
+use Rattle.langtag.proofs.Definitions.{SpellsLanguage, Fields, subtag_of}
 use Rattle.langtag_tables.proofs.Letters.{primary_length, extended_primary}
-use Rattle.langtag_likely.specs.Likely.{or_other}
-use Rattle.langtag.specs.Fields.{Fields, subtag_of}
-use Rattle.langtag_likely.specs.Maximal.{put_fields, put_language}
+use Rattle.langtag_likely.proofs.Definitions.{or_other, put_fields, put_language}
 
 -- ---- the language
 

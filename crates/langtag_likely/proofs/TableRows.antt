@@ -1,32 +1,20 @@
 -- The numbers of fields tell them apart but for case, so a row is found by the number of its left side. The tables have the rows
 -- of the lists: by computation.
-use Rattle.std.proofs.Common.{◌≡◌, ◌≢◌, ℕ, zero, suc, ◌<◌, true, ltb, List, [], ◌∷◌, length, get_or, None, Some, refl, sym, ap, ◌∙◌, arith, Bool, rules, Result, nat_cmp, map, ◌+◌, ◌*◌, ◌≤◌, ◌==◌, leb, ◌&&◌, false, cond, ◌++◌, Option, option_map, ◌-◌, ◌/◌, ◌%◌, ◌^◌, not, flat_map, ◌||◌, codes}
-use Rattle.std.proofs.lemmas.Bool.Decides.{nat_tests}
-use Rattle.std.proofs.lemmas.Bool.{ltb-true, eq-eqb, ne_eqb, and_parts}
+use Rattle.langtag_scan.proofs.Prelude.{◌≡◌, ◌≢◌, ℕ, zero, suc, ◌<◌, true, ltb, List, [], ◌∷◌, length, get_or, None, Some, refl, sym, ap, ◌∙◌, arith, Bool, rules, Result, nat_cmp, map, ◌+◌, ◌*◌, ◌≤◌, ◌==◌, leb, ◌&&◌, false, cond, ◌++◌, Option, option_map, ◌-◌, ◌/◌, ◌%◌, ◌^◌, not, flat_map, ◌||◌, codes, nat_tests, ltb-true, eq-eqb, ne_eqb, and_parts, searched, get_or-map, length-map, list_all, option_map_or, is_none, result_ok}
+use Rattle.langtag_scan.proofs.Grammar.{are_alike, fold_byte, folded_number, are_letters, are_alphanumeric, is_letter, is_digit, is_primary, is_script, is_region}
 use Rattle.langtag_tables.proofs.Elements.{list_all_get}
-use Rattle.std.proofs.lemmas.List.Sorted.{searched}
-use Rattle.std.proofs.lemmas.List.{get_or-map, length-map}
 use Rattle.std.specs.List.Sorted.{IsBinarySearchResult}
-use Rattle.std.specs.List.{list_all}
-use Rattle.std.specs.Option.{option_map_or, is_none}
-use Rattle.std.specs.Result.{result_ok}
-use Rattle.langtag_scan.specs.Case.{are_alike, fold_byte, folded_number}
-use Rattle.langtag_scan.specs.Class.{are_letters, are_alphanumeric, is_letter, is_digit, is_primary, is_script, is_region}
 use Rattle.langtag_scan.proofs.FoldedNumbers.{folded_number-tells}
 use Rattle.langtag_tables.specs.Numbers.{climbs_from, letter_number, places}
 use Rattle.langtag_tables.proofs.Letters.{letter_number-tells}
 use Rattle.langtag_tables.proofs.Rising.{climb_searched, above_first}
-use Rattle.langtag_likely.specs.Likely.{Likely, are_alike_fields, likely_for, or_else, looked_up}
-use Rattle.langtag.specs.Fields.{Fields}
-use Rattle.langtag_likely.specs.Numbers.{first_index, name_at, name_text, place, key_number}
+use Rattle.langtag_likely.proofs.Definitions.{Likely, are_alike_fields, likely_for, or_else, looked_up, first_index, name_at, place, key_number, region_aliases, language_rows, other_rows, likely_subtags, region_alone}
+use Rattle.langtag.proofs.Definitions.{Fields, is_language_field, is_script_field, is_region_field}
+use Rattle.langtag_likely.specs.Numbers.{name_text}
 use Rattle.langtag_likely.specs.declared.tables.TheConstants.{SCRIPT_KEYS, REGION_KEYS}
 use Rattle.langtag_likely.specs.Rows.{no_row}
 use Rattle.langtag.proofs.Alike.{alike_length}
 use Rattle.langtag_likely.specs.declared.tables.TheConstants as table
-use Rattle.langtag.specs.FieldClasses.{is_language_field, is_script_field, is_region_field}
-use Rattle.langtag_likely.specs.Aliases.{region_aliases}
-use Rattle.langtag_likely.specs.LikelySubtags.{language_rows, other_rows, likely_subtags}
-use Rattle.langtag_likely.specs.Matching.{region_alone}
 
 -- ---- where a number stands first, and what a binary search says of it
 

@@ -1,6 +1,4 @@
-use Rattle.std.proofs.Common.{sym, ap, ◌∙◌}
-use Rattle.std.proofs.lemmas.Bool.{eqb-true}
-use Rattle.std.specs.Option.{is_none}
+use Rattle.langtag_scan.proofs.Prelude.{sym, ap, ◌∙◌, eqb-true, is_none}
 use Rattle.langtag_likely.specs.Texts.{field_texts}
 use Rattle.langtag_likely.proofs.CanonicalFields.{no_region}
 use Rattle.langtag_likely.proofs.aliases.is_current_region.Goals as goal

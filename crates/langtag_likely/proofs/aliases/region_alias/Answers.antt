@@ -1,8 +1,7 @@
 use Rattle.std.proofs.Common.{◌<◌, Some, option_map, refl, ap, ◌∙◌, arith, length}
 use Rattle.langtag_likely.specs.declared.alias_tables.TheConstants.{REGION_ALIAS_NAMES}
 use Rattle.langtag.specs.FieldClasses.{is_region_field}
-use Rattle.langtag_likely.specs.Aliases.{region_aliases}
-use Rattle.langtag_likely.specs.Texts.{field_texts}
+use Rattle.langtag_likely.proofs.Definitions.{region_aliases, field_texts}
 use Rattle.langtag_likely.proofs.RowLaws.{region_at, region_found, region_aliases_listed}
 use Rattle.langtag_likely.proofs.TableRows.{name_good}
 use Rattle.langtag_likely.proofs.FieldClasses.{region_alphanumeric}

@@ -1,8 +1,7 @@
 use Rattle.std.proofs.Common.{◌≤◌, sym, subst, arith}
-use Rattle.langtag.specs.Text.{lang_tag_text}
+use Rattle.langtag.proofs.Definitions.{lang_tag_text, IsForm}
 use Rattle.langtag_output.proofs.Taken.{written_taken}
 use Rattle.langtag_likely.specs.Maximal.{minimal_record}
-use Rattle.langtag.specs.Form.{IsForm}
 use Rattle.langtag_likely.proofs.GoodForms.{form_bounded, minimal_length}
 use Rattle.langtag_likely.proofs.forms.minimal_bytes.Goals as goal
 

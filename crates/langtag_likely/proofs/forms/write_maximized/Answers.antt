@@ -1,7 +1,5 @@
-use Rattle.std.proofs.Common.{refl, sym, ap, ◌∙◌}
-use Rattle.std.specs.Option.{option_map_or}
-use Rattle.langtag_scan.specs.Record.{spell}
-use Rattle.langtag_scan.specs.Tag.{IsNormal}
+use Rattle.langtag_scan.proofs.Prelude.{refl, sym, ap, ◌∙◌, option_map_or}
+use Rattle.langtag_scan.proofs.Grammar.{spell, IsNormal}
 use Rattle.langtag_likely.specs.Maximal.{add_likely_subtags, maximal_record, put_fields}
 use Rattle.langtag.proofs.FormLaws.{kept_written, record_written}
 use Rattle.langtag_likely.proofs.forms.write_maximized.Goals as goal

@@ -1,7 +1,5 @@
-use Rattle.std.proofs.Common.{refl, sym, ap, ◌∙◌}
-use Rattle.std.specs.Option.{option_map_or}
-use Rattle.langtag_scan.specs.Record.{spell}
-use Rattle.langtag_scan.specs.Tag.{IsNormal}
+use Rattle.langtag_scan.proofs.Prelude.{refl, sym, ap, ◌∙◌, option_map_or}
+use Rattle.langtag_scan.proofs.Grammar.{spell, IsNormal}
 use Rattle.langtag_likely.specs.Maximal.{minimal_record, put_fields, remove_likely_subtags}
 use Rattle.langtag.proofs.FormLaws.{kept_written, record_written}
 use Rattle.langtag_likely.proofs.forms.write_minimized.Goals as goal

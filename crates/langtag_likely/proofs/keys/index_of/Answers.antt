@@ -1,5 +1,4 @@
-use Rattle.std.proofs.Common.{◌∙◌, ap, rules}
-use Rattle.std.proofs.lemmas.List.Sorted.{answers_always}
+use Rattle.langtag_scan.proofs.Prelude.{◌∙◌, ap, rules, answers_always}
 use Rattle.langtag_likely.specs.Numbers.{first_index}
 use Rattle.langtag_likely.proofs.TableRows.{index_searched}
 use Rattle.langtag_likely.proofs.keys.index_of.Goals as goal

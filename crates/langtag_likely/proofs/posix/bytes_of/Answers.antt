@@ -1,10 +1,9 @@
 use Rattle.std.proofs.Common.{◌≡◌, length, sym, ap, subst, arith, take_at}
 use Rattle.langtag_range.specs.Locale.{locale_place}
-use Rattle.langtag_likely.specs.Posix.{IsTagOfName, with_said}
+use Rattle.langtag_likely.proofs.Definitions.{IsTagOfName, with_said, read_place}
 use Rattle.langtag.proofs.FormLaws.{written_whole}
 use Rattle.langtag_likely.proofs.PosixLaws.{written_of}
 use Rattle.langtag_likely.proofs.posix.bytes_of.Goals as goal
-use Rattle.langtag_likely.specs.PlatformNames.{read_place}
 
 -- both calls write the one tag, and the second one has just the room for it
 pub returns-clause-tag : goal.returns-clause-tag

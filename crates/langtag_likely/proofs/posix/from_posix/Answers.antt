@@ -1,10 +1,9 @@
 use Rattle.std.proofs.Common.{sym, subst}
 use Rattle.langtag_range.specs.Locale.{locale_place}
-use Rattle.langtag_likely.specs.Posix.{IsTagOfName, with_said}
+use Rattle.langtag_likely.proofs.Definitions.{IsTagOfName, with_said, read_place}
 use Rattle.langtag.proofs.FormLaws.{form_is_tag, one_form}
 use Rattle.langtag_likely.proofs.PosixLaws.{said_well_formed}
 use Rattle.langtag_likely.proofs.posix.from_posix.Goals as goal
-use Rattle.langtag_likely.specs.PlatformNames.{read_place}
 
 pub tag_of-requires : goal.tag_of-requires
 tag_of-requires c =

@@ -1,7 +1,5 @@
 use Rattle.std.proofs.Common.{◌≤◌, length, take, drop, refl, sym, ap, subst, ◌∙◌, arith, take_at, Some}
-use Rattle.langtag.specs.Text.{lang_tag_text}
-use Rattle.langtag_place.specs.Text.{script_text}
-use Rattle.langtag.specs.Edit.{SetsScript}
+use Rattle.langtag.proofs.Definitions.{lang_tag_text, script_text, SetsScript}
 use Rattle.langtag_scan.specs.Tag.{IsTag}
 use Rattle.langtag.proofs.FormLaws.{kept_form}
 use Rattle.langtag_likely.proofs.PosixLaws.{set_script}

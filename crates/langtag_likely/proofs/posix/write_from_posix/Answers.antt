@@ -1,15 +1,10 @@
 use Rattle.std.proofs.Common.{◌≡◌, ap, subst, ◌∙◌, option_map}
-use Rattle.langtag.specs.Text.{lang_tag_text}
-use Rattle.langtag_place.specs.Text.{script_text}
+use Rattle.langtag.proofs.Definitions.{lang_tag_text, script_text, IsForm}
 use Rattle.langtag_range.specs.Locale.{locale_place}
-use Rattle.langtag_likely.specs.Likely.{or_else}
-use Rattle.langtag.specs.Form.{IsForm}
-use Rattle.langtag_likely.specs.Modifiers.{modifier_script, modifier_variant}
-use Rattle.langtag_likely.specs.Posix.{IsLocalePlace, modifier_of, posix_replaced, said_script, script_behind, with_said_script, with_said_variant}
+use Rattle.langtag_likely.proofs.Definitions.{or_else, modifier_script, modifier_variant, IsLocalePlace, modifier_of, posix_replaced, said_script, script_behind, with_said_script, with_said_variant, read_place}
 use Rattle.langtag.proofs.FormLaws.{rewritten}
 use Rattle.langtag_likely.proofs.PosixLaws.{form_composed, modifier_variant-fits, said_script-fits, script_or, script_well_formed, variant_of, posix_well_formed}
 use Rattle.langtag_likely.proofs.posix.write_from_posix.Goals as goal
-use Rattle.langtag_likely.specs.PlatformNames.{read_place}
 
 pub write_with_variant-requires : goal.write_with_variant-requires
 write_with_variant-requires c = variant_of _ _ c.modifier_variant.ensures (modifier_variant-fits _)

@@ -1,11 +1,6 @@
-use Rattle.std.proofs.Common.{◌≡◌, ◌≤◌, ◌∙◌, ◌-◌, sym, ap, subst, arith, codes, drop, length, take, true}
-use Rattle.std.proofs.Math.Seq.{take-length}
-use Rattle.std.proofs.lemmas.List.{length-drop, length-take-le}
-use Rattle.langtag_scan.specs.Case.{are_alike}
-use Rattle.langtag_scan.specs.Ends.{ends_of}
+use Rattle.langtag_scan.proofs.Prelude.{◌≡◌, ◌≤◌, ◌∙◌, ◌-◌, sym, ap, subst, arith, codes, drop, length, take, true, take-length, length-drop, length-take-le}
+use Rattle.langtag_scan.proofs.Grammar.{are_alike, ends_of, Spells, IsNormal}
 use Rattle.langtag.specs.Text.{normal_lang_tag_text}
-use Rattle.langtag_scan.specs.Record.{Spells}
-use Rattle.langtag_scan.specs.Tag.{IsNormal}
 use Rattle.langtag_likely.specs.Posix.{IsAroundPosix, is_posix_alone}
 use Rattle.langtag_likely.proofs.PosixLaws.{alone, extensions_stay, others_stay, posix_after, posix_around, variants_inside}
 use Rattle.langtag_likely.proofs.posix_variant.around_posix.Goals as goal

@@ -1,10 +1,8 @@
-use Rattle.std.proofs.Common.{Some, map, sym, ap, ◌∙◌, option_map, arith}
-use Rattle.std.proofs.lemmas.List.{length-map}
+use Rattle.langtag_scan.proofs.Prelude.{Some, map, sym, ap, ◌∙◌, option_map, arith, length-map}
 use Rattle.langtag_tables.proofs.Letters.{primary_letters}
 use Rattle.langtag_tables.specs.Numbers.{letter_number}
-use Rattle.langtag_likely.specs.LikelySubtags.{language_rows}
+use Rattle.langtag_likely.proofs.Definitions.{language_rows, field_texts}
 use Rattle.langtag_likely.specs.Rows.{places_of}
-use Rattle.langtag_likely.specs.Texts.{field_texts}
 use Rattle.langtag_likely.proofs.TableRows.{first_index-is}
 use Rattle.langtag_likely.proofs.RowLaws.{language_found}
 use Rattle.langtag_likely.proofs.rows.language_row.Goals as goal

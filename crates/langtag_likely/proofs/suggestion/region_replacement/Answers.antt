@@ -1,8 +1,7 @@
 use Rattle.std.proofs.Common.{◌<◌, Some, option_map, ap, ◌∙◌, arith, length}
 use Rattle.langtag_likely.specs.declared.alias_tables.TheConstants.{REPLACEMENT_NAMES}
-use Rattle.langtag_likely.specs.Aliases.{region_replacements}
+use Rattle.langtag_likely.proofs.Definitions.{region_replacements, field_texts}
 use Rattle.langtag.specs.FieldClasses.{is_region_field}
-use Rattle.langtag_likely.specs.Texts.{field_texts}
 use Rattle.langtag_likely.proofs.RowLaws.{at_index, replacements_listed, replaced_region}
 use Rattle.langtag_likely.proofs.TableRows.{name_good}
 use Rattle.langtag_likely.proofs.FieldClasses.{region_alphanumeric}
