@@ -1,21 +1,12 @@
 -- The distance of texts, and what it is made of, do not change with the case of letters.
-use Rattle.std.proofs.Common.{◌≡◌, ℕ, cond, List, [], ◌∷◌, Option, refl, ap, ◌∙◌, arith, rules, ◌&&◌, codes, Bool, map, None, Some, option_map, sym}
-use Rattle.std.proofs.lemmas.Bool.Decides.{nat_tests}
-use Rattle.std.proofs.lemmas.Grind.{common_steps}
-use Rattle.std.specs.Option.{option_map_or}
-use Rattle.langtag_scan.specs.Case.{Alike, are_alike, fold_text}
-use Rattle.langtag_scan.specs.CaseLaws.{are_alike-decides}
-use Rattle.langtag_scan.specs.Class.{is_primary, is_extended, is_script, is_region}
-use Rattle.langtag_scan.specs.Subtags.{subtags}
-use Rattle.langtag_scan.proofs.CaseLaw.{fold_text-twice, length-fold, classes-fold}
-use Rattle.langtag_range.specs.Listed.{basic_text}
-use Rattle.langtag_range.specs.Wanted.{hyphened}
-use Rattle.langtag_range.proofs.AlikeTexts.{hyphened-fold, is_star-fold, subtags-fold}
+use Rattle.langtag_scan.proofs.Prelude.{◌≡◌, ℕ, cond, List, [], ◌∷◌, Option, refl, ap, ◌∙◌, arith, rules, ◌&&◌, codes, Bool, map, None, Some, option_map, sym, nat_tests, common_steps, option_map_or}
+use Rattle.langtag_scan.proofs.Grammar.{Alike, are_alike, fold_text, are_alike-decides, is_primary, is_extended, is_script, is_region, subtags}
+use Rattle.langtag_scan.proofs.CaseLaw.{fold_text-twice, length-fold, classes-fold, subtags-fold}
+use Rattle.langtag_range.proofs.Definitions.{basic_text, hyphened}
+use Rattle.langtag_range.proofs.AlikeTexts.{hyphened-fold, is_star-fold}
 use Rattle.langtag_range.proofs.BasicForms.{basic_text-alike}
-use Rattle.langtag_likely.specs.Likely.{are_alike_fields, known, without_region}
+use Rattle.langtag_likely.proofs.Definitions.{are_alike_fields, known, without_region, without_language, keeping_language, most_unknown, most_likely, matching_fields, matching_form, text_fields, fields_of_subtags, counted, counts, last_language, after_language, script_of, after_script, region_of}
 use Rattle.langtag.specs.Fields.{Fields}
-use Rattle.langtag_likely.specs.Matching.{without_language, keeping_language, most_unknown, most_likely, matching_fields, matching_form}
-use Rattle.langtag_likely.specs.TextFields.{text_fields, fields_of_subtags, counted, counts, last_language, after_language, script_of, after_script, region_of}
 use Rattle.langtag_likely.proofs.AlikeFields.{AlikeOptions, fields-right, alone_alike, added-alike, by_options, language-alike, letters-alike, suffices-alike}
 use Rattle.langtag.proofs.Alike.{AlikeFields, are_alike-left, are_alike-right}
 use Rattle.langtag_choice.specs.Distance.{distance_of_forms, is_among, language_distance, region_distance, script_distance, DistanceIgnoresCase, distance_of_texts}

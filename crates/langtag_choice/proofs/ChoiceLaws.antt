@@ -1,24 +1,13 @@
 -- The choice is the only one, answers lookup, is the tag that is equal, and does not change with the case of letters.
-use Rattle.std.proofs.Common.{◌≡◌, ℕ, true, List, get_or, Option, Some, None, option_map, ap, refl, sym, subst, ◌∙◌, ◌-◌, ◌==◌, ◌≤◌, false, nat_lt, arith, Ordering, Less, Equal, Greater, inl, inr, ◌<◌, cond, not, [], ◌∷◌, ◌++◌, length, map, filter, All, eq-eqb, IsTrue, length-take, take, Bool, slice_get}
+use Rattle.langtag_scan.proofs.Prelude.{◌≡◌, ℕ, true, List, get_or, Option, Some, None, option_map, ap, refl, sym, subst, ◌∙◌, ◌-◌, ◌==◌, ◌≤◌, false, nat_lt, arith, Ordering, Less, Equal, Greater, inl, inr, ◌<◌, cond, not, [], ◌∷◌, ◌++◌, length, map, filter, All, eq-eqb, IsTrue, length-take, take, Bool, slice_get, take-append_seam, drop-append_seam, take-length, eqb_tells, nat_tests, and_parts, ltb-false, nat_list_cmp_total, common_steps, All-cons, All-nil, length-map, take-map, drop-map, slice_get-map, bytes_decides, slice_cmp, is_eq, nat_cmp, ordering_reverse}
+use Rattle.langtag_scan.proofs.Grammar.{Alike, fold_byte, fold_text, are_alike, are_alike-decides}
 use Rattle.std.proofs.Math.ListN.{get_or-map}
-use Rattle.std.proofs.Math.Seq.{take-append_seam, drop-append_seam, take-length, drop-length}
-use Rattle.std.proofs.lemmas.Bool.Decides.{eqb_tells, nat_tests}
-use Rattle.std.proofs.lemmas.Bool.{and_parts, ltb-false}
-use Rattle.std.proofs.lemmas.Cmp.{nat_list_cmp_total}
-use Rattle.std.proofs.lemmas.Grind.{common_steps}
-use Rattle.std.proofs.lemmas.List.Elements.{All-append, All-cons, All-filter, All-map, All-nil, filter_passes}
-use Rattle.std.proofs.lemmas.List.{length-map, take-map, drop-map}
-use Rattle.std.proofs.lemmas.Option.{slice_get-map}
-use Rattle.std.specs.Cmp.Lexicographic.{bytes_decides, slice_cmp, texts_ties}
-use Rattle.std.specs.Ordering.{is_eq, is_gt, nat_cmp, ordering_reverse}
-use Rattle.langtag_scan.specs.Case.{Alike, fold_byte, fold_text, are_alike}
-use Rattle.langtag_scan.specs.CaseLaws.{are_alike-decides}
+use Rattle.std.proofs.Math.Seq.{drop-length}
+use Rattle.std.proofs.lemmas.List.Elements.{All-append, All-filter, All-map, filter_passes}
+use Rattle.std.specs.Cmp.Lexicographic.{texts_ties}
+use Rattle.std.specs.Ordering.{is_gt}
 use Rattle.langtag_scan.proofs.CaseLaw.{hyphen-fold, fold_text-twice, length-fold}
-use Rattle.langtag_range.specs.Element.{Element}
-use Rattle.langtag_range.specs.Basic.{ends_subtag}
-use Rattle.langtag_range.specs.Fallback.{before_hyphens, ends_in_single, fallbacks}
-use Rattle.langtag_range.specs.Range.{is_star}
-use Rattle.langtag_range.specs.Wanted.{folded, wanted_elements}
+use Rattle.langtag_range.proofs.Definitions.{Element, ends_subtag, before_hyphens, ends_in_single, fallbacks, is_star, folded, wanted_elements}
 use Rattle.langtag_range.proofs.AlikeTexts.{alike_headers, is_star-fold}
 use Rattle.langtag_range.proofs.Among.{length-alike}
 use Rattle.langtag_choice.specs.Best.{IsAtMost, IsChoice, Pair, rank, rank_of_pair, serves, reach, is_wish, is_excluded, is_refused, longest}

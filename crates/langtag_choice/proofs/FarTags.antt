@@ -1,35 +1,19 @@
 -- Ranges as they are read, and tags that are far from a range, as their first letters and the numbers of languages show.
-use Rattle.std.proofs.Common.{◌≡◌, ℕ, true, not, ◌==◌, List, [], ◌∷◌, length, length-drop, length-take, take, drop, filter, refl, sym, ap, ◌∙◌, arith, ◌&&◌, ◌||◌, codes, Bool, false, inl, inr, subst, ◌<◌, ◌≤◌, ◌+◌, ◌-◌, ◌*◌, cond, get_or, Option, Some, None, option_map, lit≤}
-use Rattle.std.proofs.lemmas.Bool.Decides.{nat_tests, eqb_tells}
-use Rattle.std.proofs.lemmas.Grind.{common_steps}
-use Rattle.langtag_scan.specs.Case.{are_alike, fold_byte}
-use Rattle.langtag_scan.specs.CaseLaws.{are_alike-decides}
-use Rattle.langtag_scan.specs.Subtags.{subtags}
+use Rattle.langtag_scan.proofs.Prelude.{◌≡◌, ℕ, true, not, ◌==◌, List, [], ◌∷◌, length, length-drop, length-take, take, drop, filter, refl, sym, ap, ◌∙◌, arith, ◌&&◌, ◌||◌, codes, Bool, false, inl, inr, subst, ◌<◌, ◌≤◌, ◌+◌, ◌-◌, ◌*◌, cond, get_or, Option, Some, None, option_map, nat_tests, eqb_tells, common_steps, and_parts, both_ways, eq-eqb, false_from_ne_true, or_cases, and_from, or_parts, not-true, take_while-cons, ForSome, list_all, after_first, before_first, position_or_len}
+use Rattle.langtag_scan.proofs.Grammar.{are_alike, fold_byte, are_alike-decides, subtags, are_letters, is_extended, is_letter, is_primary}
+use Rattle.std.proofs.Common.{lit≤}
 use Rattle.langtag_range.proofs.AlikeTexts.{is_star-fold}
 use Rattle.langtag_range.proofs.BasicForms.{basic_form-basic, basic_of, is_plain, IsBasicOf, is_language_range-from_basic, hyphened_range}
 use Rattle.langtag_range.proofs.Among.{length-alike}
-use Rattle.langtag_range.specs.Basic.{ends_subtag}
-use Rattle.langtag_range.specs.Fallback.{ends_in_single}
-use Rattle.langtag_range.specs.Listed.{basic_text}
-use Rattle.langtag_range.specs.BasicForm.{basic_form}
-use Rattle.langtag_range.specs.Range.{are_extended_range, is_basic_range, is_language_range, is_star}
-use Rattle.langtag_range.specs.Wanted.{hyphened, is_separator}
+use Rattle.langtag_range.proofs.Definitions.{ends_subtag, ends_in_single, basic_text, basic_form, are_extended_range, is_basic_range, is_language_range, is_star, hyphened, is_separator}
 use Rattle.langtag_likely.proofs.CommonTexts.{nothing_read, read_byte, read_nothing, some_length, all_fields, next_part, no_fields}
-use Rattle.langtag_likely.specs.Matching.{matching_form, language_replaced, matching_fields}
-use Rattle.langtag_likely.specs.Ranges.{after_common, BeginsPlain}
-use Rattle.langtag_likely.specs.TextFields.{counted, fields_of_subtags, text_fields, last_language, counted_parts}
+use Rattle.langtag_likely.proofs.Definitions.{matching_form, language_replaced, matching_fields, after_common, BeginsPlain, counted, fields_of_subtags, text_fields, last_language, counted_parts, language_aliases, Likely, known, language_alone, likely_for}
 use Rattle.langtag_choice.specs.Nearness.{is_fallback, kept}
 use Rattle.langtag_likely.proofs.AddedTwice.{either_way}
-use Rattle.std.proofs.lemmas.Bool.{and_parts, both_ways, eq-eqb, false_from_ne_true, not_from_true, or_cases, and_from, or_parts, not-true}
-use Rattle.std.proofs.lemmas.List.Sums.{take_while-cons}
-use Rattle.std.specs.Option.{ForSome}
-use Rattle.std.specs.List.{list_all, after_first, before_first, position_or_len}
-use Rattle.langtag_scan.specs.Class.{are_letters, is_extended, is_letter, is_primary}
+use Rattle.std.proofs.lemmas.Bool.{not_from_true}
 use Rattle.langtag_scan.proofs.Disjoint.{extended_three}
 use Rattle.langtag_tables.specs.Numbers.{letter_number}
 use Rattle.langtag_tables.proofs.Letters.{letter_number-tells, number_of_two, primary_length, primary_letters}
-use Rattle.langtag_likely.specs.Aliases.{language_aliases}
-use Rattle.langtag_likely.specs.Likely.{Likely, known, language_alone, likely_for}
 use Rattle.langtag.specs.Fields.{Fields}
 use Rattle.langtag_likely.proofs.AlikeFields.{by_options, completed_language}
 use Rattle.langtag.proofs.Alike.{alike_length}

@@ -1,15 +1,7 @@
 -- What loops over ranges and over tags have found, and that it is the choice.
-use Rattle.std.proofs.Common.{◌≡◌, ℕ, true, List, get_or, Option, Some, None, option_map, ap, refl, sym, subst, ◌∙◌, ◌-◌, ◌==◌, ◌≤◌, false, not, ◌&&◌, ◌||◌, nat_lt, arith, Bool, [], ◌∷◌, ◌+◌, ◌<◌, zero, suc, length, min, inl, inr, slice_get, replicate}
-use Rattle.std.proofs.Math.Bool.{or-true}
-use Rattle.std.proofs.lemmas.Bool.Decides.{eqb_tells, nat_tests}
-use Rattle.std.proofs.lemmas.Bool.{and_parts, eq-eqb, eqb-true, ltb-false, ltb-true, not-true, or_cases, cases_lt}
-use Rattle.std.proofs.lemmas.Grind.{common_steps}
-use Rattle.std.proofs.lemmas.List.{get_or_past}
-use Rattle.std.proofs.lemmas.Option.{get_or_from_slice_get, slice_get-get_or, slice_get_cases, slice_get_within}
-use Rattle.std.specs.List.{list_any}
-use Rattle.std.specs.Option.{ForSome, option_map_or}
-use Rattle.langtag_range.specs.Element.{Element}
-use Rattle.langtag_range.specs.Listed.{basic_text}
+use Rattle.langtag_scan.proofs.Prelude.{◌≡◌, ℕ, true, List, get_or, Option, Some, None, option_map, ap, refl, sym, subst, ◌∙◌, ◌-◌, ◌==◌, ◌≤◌, false, not, ◌&&◌, ◌||◌, nat_lt, arith, Bool, [], ◌∷◌, ◌+◌, ◌<◌, zero, suc, length, min, inl, inr, slice_get, replicate, or-true, eqb_tells, nat_tests, and_parts, eq-eqb, eqb-true, ltb-false, ltb-true, not-true, or_cases, cases_lt, common_steps, get_or_past, get_or_from_slice_get, slice_get-get_or, slice_get_within, list_any, ForSome, option_map_or}
+use Rattle.std.proofs.lemmas.Option.{slice_get_cases}
+use Rattle.langtag_range.proofs.Definitions.{Element, basic_text}
 use Rattle.langtag_choice.specs.Best.{IsAtMost, IsChoice, IsMatchOf, Pair, rank, rank_of_pair, serves, reach, service, is_excluded, is_refused, longest}
 use Rattle.langtag_choice.specs.Distance.{distance_of_texts}
 use Rattle.langtag_choice.specs.Found.{IsBestFound, IsBestOf, IsNotAfter, Takes, Tries, TriesRange, is_flagged, is_unrefused_at, rank_of, service_number, wish_element}

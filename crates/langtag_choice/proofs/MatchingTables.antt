@@ -1,18 +1,11 @@
 -- The tables of language matching have the rows of the lists, by computation, and a rule is found by its number.
 -- The languages that are near another, by the keys of the rules.
-use Rattle.std.proofs.Common.{◌≡◌, ℕ, ◌<◌, true, false, ◌==◌, Bool, ltb, List, [], ◌∷◌, length, max, get_or, map, refl, arith, rules, ◌&&◌, is_some, ◌+◌, ◌*◌, ap, ◌∙◌, cond, Option, sym, ◌≢◌, zero, suc, ◌-◌, ◌≤◌, length-drop, length-take, None, subst}
-use Rattle.std.proofs.lemmas.Bool.Decides.{nat_tests, eqb_tells}
-use Rattle.std.proofs.lemmas.Bool.{and_parts, ltb-true, eq-eqb, ne_eqb, both_ways, cases_lt, or_parts}
-use Rattle.std.proofs.lemmas.Grind.{common_steps}
-use Rattle.std.specs.List.{list_all, slice_range}
-use Rattle.std.specs.Option.{option_map_or}
-use Rattle.langtag_scan.specs.Case.{folded_number, fold_byte, are_alike}
-use Rattle.langtag_scan.specs.Class.{are_alphanumeric, are_letters, is_letter, is_digit}
+use Rattle.langtag_scan.proofs.Prelude.{◌≡◌, ℕ, ◌<◌, true, false, ◌==◌, Bool, ltb, List, [], ◌∷◌, length, max, get_or, map, refl, arith, rules, ◌&&◌, is_some, ◌+◌, ◌*◌, ap, ◌∙◌, cond, Option, sym, ◌≢◌, zero, suc, ◌-◌, ◌≤◌, length-drop, length-take, None, subst, nat_tests, eqb_tells, and_parts, ltb-true, eq-eqb, ne_eqb, both_ways, cases_lt, or_parts, common_steps, list_all, slice_range, option_map_or, get_or-drop, get_or-take, list_any_at}
+use Rattle.langtag_scan.proofs.Grammar.{folded_number, fold_byte, are_alike, are_alphanumeric, are_letters, is_letter, is_digit}
 use Rattle.langtag_scan.proofs.FoldedNumbers.{folded_number-tells}
 use Rattle.langtag_tables.specs.Numbers.{letter_number, climbs_from}
-use Rattle.langtag_likely.specs.Likely.{are_alike_fields, Likely, language_alone, without_region}
+use Rattle.langtag_likely.proofs.Definitions.{are_alike_fields, Likely, language_alone, without_region, first_index, key_number}
 use Rattle.langtag.specs.Fields.{Fields}
-use Rattle.langtag_likely.specs.Numbers.{first_index, key_number}
 use Rattle.langtag_tables.proofs.Elements.{list_all_get}
 use Rattle.langtag_likely.proofs.TableRows.{are_plain, is_numbered, key_number-tells}
 use Rattle.langtag_likely.proofs.RowLaws.{is_language, language-tells}
@@ -25,8 +18,6 @@ use Rattle.langtag_choice.specs.Rules.{Rule, fits, distance_by}
 use Rattle.langtag_choice.specs.Sets.{set_of}
 use Rattle.langtag_choice.specs.declared.matching_tables.TheConstants as table
 use Rattle.langtag_choice.specs.declared.region_distance.SetName.{SetName}
-use Rattle.std.proofs.lemmas.List.{get_or-drop, get_or-take}
-use Rattle.std.proofs.lemmas.List.Folds.{list_any_at}
 use Rattle.langtag_choice.specs.NearLanguages.{AreFar, is_among_numbers, rule_keys}
 use Rattle.langtag_tables.proofs.Letters.{letter_number-tells}
 use Rattle.langtag_tables.proofs.Rising.{above_first}

@@ -1,10 +1,6 @@
 -- What a prepared form says of the tag for which it was prepared.
-use Rattle.std.proofs.Common.{◌≡◌, ℕ, true, List, Option, Some, sym, ap, ◌∙◌, get_or, arith, bytes_eq, ◌≤◌, length, ◌<◌, false}
-use Rattle.std.proofs.lemmas.Bool.Decides.{nat_tests}
-use Rattle.std.proofs.lemmas.Bool.{and_parts, eqb-true, or_cases, false_from_ne_true}
+use Rattle.langtag_scan.proofs.Prelude.{◌≡◌, ℕ, true, List, Option, Some, sym, ap, ◌∙◌, get_or, arith, bytes_eq, ◌≤◌, length, ◌<◌, false, nat_tests, and_parts, eqb-true, or_cases, false_from_ne_true, bytes_eq-Decides, ForSome, MatchOption}
 use Rattle.std.proofs.lemmas.Grind.{same_number_lists}
-use Rattle.std.proofs.lemmas.Slice.Eq.{bytes_eq-Decides}
-use Rattle.std.specs.Option.{ForSome, MatchOption}
 use Rattle.langtag_choice.specs.Distance.{distance_of_texts, fields_distance}
 use Rattle.langtag_choice.specs.Found.{IsNearer}
 use Rattle.langtag_choice.specs.declared.nearness.Nearness.{Nearness}
@@ -15,6 +11,7 @@ use Rattle.langtag_choice.specs.Prepared.{has_fields, has_head, is_prepared_for}
 use Rattle.langtag_choice.specs.declared.prepared_form.PreparedForm.{PreparedForm}
 use Rattle.langtag_likely.specs.Matching.{matching_form}
 use Rattle.langtag_likely.specs.Numbers.{name_text}
+use Rattle.langtag.proofs.Alike.{same_fields}
 
 pub record Kept (tag : List ℕ) (p : PreparedForm) : Type 0 where
   pub form : Fields
@@ -33,10 +30,6 @@ kept_of tag p is some = grind (arith, letters_are, eqb-true, or_cases, and_parts
 
 abbrev fields_of : List ℕ → List ℕ → List ℕ → Fields
 fields_of l s r = record { language = l; script = s; region = r }
-
-same_fields : (f g : Fields) → f.language ≡ g.language → f.script ≡ g.script → f.region ≡ g.region → f ≡ g
-same_fields f g language script region =
-    ap (λ (l : List ℕ). fields_of l f.script f.region) language ∙ ap (λ (t : List ℕ). fields_of g.language t f.region) script ∙ ap (λ (t : List ℕ). fields_of g.language g.script t) region
 
 -- the form that is kept is the form of the tag
 pub form_kept :

@@ -1,17 +1,14 @@
 -- The tags of a site by their indices.
 -- The tags that are chosen in turn.
-use Rattle.std.proofs.Common.{◌≡◌, ℕ, ◌<◌, List, length, get_or, None, Some, sym, ap, ◌∙◌, option_map, zero, suc, ◌≢◌, ◌⊎◌, inl, inr, ◌≤◌, ◌+◌, ◌-◌, ◌==◌, [], ◌∷◌, ◌++◌, Option, is_some, cond, count_by, slice_get, set, drop, refl, subst, arith, All, Contains}
-use Rattle.std.proofs.lemmas.List.{get_or-map, length-map, append_assoc, append-nil, drop-drop, drop-set-lt, length-append, length-set}
+use Rattle.langtag_scan.proofs.Prelude.{◌≡◌, ℕ, ◌<◌, List, length, get_or, None, Some, sym, ap, ◌∙◌, option_map, zero, suc, ◌≢◌, ◌⊎◌, inl, inr, ◌≤◌, ◌+◌, ◌-◌, ◌==◌, [], ◌∷◌, ◌++◌, Option, is_some, cond, count_by, slice_get, set, drop, refl, subst, arith, All, get_or-map, length-map, append_assoc, append-nil, drop-drop, drop-set-lt, length-append, length-set, eqb_tells, All-cons, All-nil, count_by-le-length, sum_by-cons, list_any}
+use Rattle.std.proofs.Common.{Contains}
 use Rattle.langtag.specs.Text.{lang_tag_text}
 use Rattle.langtag_choice.specs.ListTexts.{tag_texts}
 use Rattle.langtag_choice.specs.Sites.{prepared_tags}
 use Rattle.langtag_choice.specs.declared.prepared_tag.PreparedTag.{PreparedTag}
-use Rattle.std.proofs.lemmas.Bool.Decides.{eqb_tells}
-use Rattle.std.proofs.lemmas.List.Elements.{All-cons, All-nil, Contains-append_right}
+use Rattle.std.proofs.lemmas.List.Elements.{Contains-append_right}
 use Rattle.std.proofs.lemmas.List.Kept.{AllPairs-cons}
-use Rattle.std.proofs.lemmas.List.Sums.{count_by-le-length, sum_by-cons}
 use Rattle.std.proofs.lemmas.Option.{unwrap_or-slice_get}
-use Rattle.std.specs.List.{list_any}
 use Rattle.langtag_range.specs.Element.{Element}
 use Rattle.langtag_choice.specs.Best.{IsChoice}
 use Rattle.langtag_choice.specs.Remaining.{without_all}

@@ -1,5 +1,4 @@
-use Rattle.std.proofs.Common.{option_map, sym, ap, ◌∙◌}
-use Rattle.std.proofs.lemmas.Bool.{not-true}
+use Rattle.langtag_scan.proofs.Prelude.{option_map, sym, ap, ◌∙◌, not-true}
 use Rattle.langtag.specs.Text.{lang_tag_text}
 use Rattle.langtag_choice.proofs.FoundLaws.{none_refused, unrefused_entry}
 use Rattle.langtag_choice.proofs.best.is_chosen.Goals as goal

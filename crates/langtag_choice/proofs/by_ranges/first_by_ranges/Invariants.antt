@@ -1,5 +1,4 @@
-use Rattle.std.proofs.Common.{◌≡◌, ◌⊎◌, ◌||◌, ◌+◌, ◌<◌, ◌^◌, None, length, nat_lt}
-use Rattle.std.specs.List.{list_any}
+use Rattle.langtag_scan.proofs.Prelude.{◌≡◌, ◌⊎◌, ◌||◌, ◌+◌, ◌<◌, ◌^◌, None, length, nat_lt, list_any}
 use Rattle.langtag_choice.specs.Best.{is_excluded}
 use Rattle.langtag_choice.specs.Found.{Tries}
 use Rattle.langtag_choice.proofs.FoundLaws.{IsRest}

@@ -1,5 +1,4 @@
-use Rattle.std.proofs.Common.{arith, nat_lt, ◌+◌, ◌==◌}
-use Rattle.std.proofs.lemmas.Bool.Decides.{nat_tests}
+use Rattle.langtag_scan.proofs.Prelude.{arith, nat_lt, ◌+◌, ◌==◌, nat_tests}
 use Rattle.langtag_range.specs.Listed.{listed_element}
 use Rattle.langtag_choice.proofs.FoundLaws.{one_more_entry, tries_same}
 use Rattle.langtag_choice.proofs.by_ranges.improve_for_range.Goals as goal

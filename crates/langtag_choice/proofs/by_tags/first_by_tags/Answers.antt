@@ -1,5 +1,4 @@
-use Rattle.std.proofs.Common.{arith}
-use Rattle.std.proofs.lemmas.Bool.Decides.{nat_tests}
+use Rattle.langtag_scan.proofs.Prelude.{arith, nat_tests}
 use Rattle.langtag_choice.proofs.FoundLaws.{block_flags, tries_both, tries_same}
 use Rattle.langtag_choice.proofs.by_tags.first_by_tags.Goals as goal
 

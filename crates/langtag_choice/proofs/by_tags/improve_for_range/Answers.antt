@@ -1,5 +1,4 @@
-use Rattle.std.proofs.Common.{◌+◌, ◌&&◌, ◌||◌, ◌==◌, arith, nat_lt, sym, subst, ap, ◌∙◌}
-use Rattle.std.proofs.lemmas.Bool.Decides.{nat_tests}
+use Rattle.langtag_scan.proofs.Prelude.{◌+◌, ◌&&◌, ◌||◌, ◌==◌, arith, nat_lt, sym, subst, ap, ◌∙◌, nat_tests}
 use Rattle.langtag_range.specs.Listed.{listed_element}
 use Rattle.langtag_choice.specs.Found.{TriesRange, is_flagged}
 use Rattle.langtag_choice.proofs.FoundLaws.{all_flags, flag_next, one_more_entry, tries_same}

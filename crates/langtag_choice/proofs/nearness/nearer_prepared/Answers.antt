@@ -1,8 +1,7 @@
 use Rattle.std.proofs.Common.{option_map, Some, ◌≡◌, sym, ap, ◌∙◌}
 use Rattle.langtag_choice.proofs.FarTags.{none_between_forms}
 use Rattle.langtag_choice.proofs.PreparedForms.{near_forms}
-use Rattle.langtag_likely.specs.Matching.{matching_form}
-use Rattle.langtag_likely.specs.Texts.{field_texts}
+use Rattle.langtag_likely.proofs.Definitions.{matching_form, field_texts}
 use Rattle.langtag_range.specs.Listed.{basic_text}
 use Rattle.langtag_choice.proofs.nearness.nearer_prepared.Goals as goal
 

@@ -1,5 +1,4 @@
-use Rattle.std.proofs.Common.{Err, Ok, arith}
-use Rattle.std.proofs.lemmas.List.Sorted.{searched}
+use Rattle.langtag_scan.proofs.Prelude.{Err, Ok, arith, searched}
 use Rattle.langtag_tables.proofs.Rising.{climb_searched}
 use Rattle.langtag_choice.proofs.MatchingTables.{climbs_at}
 use Rattle.langtag_choice.proofs.range_language.place.Goals as goal

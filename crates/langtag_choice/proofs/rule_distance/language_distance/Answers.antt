@@ -1,5 +1,4 @@
-use Rattle.std.proofs.Common.{None, Some, refl, sym, ap, ◌∙◌, arith}
-use Rattle.std.specs.Result.{result_ok}
+use Rattle.langtag_scan.proofs.Prelude.{None, Some, refl, sym, ap, ◌∙◌, arith, result_ok}
 use Rattle.langtag_likely.specs.Texts.{field_texts}
 use Rattle.langtag_choice.proofs.MatchingTables.{language_found, language_long}
 use Rattle.langtag_likely.proofs.FieldClasses.{language_letters}

@@ -1,7 +1,5 @@
-use Rattle.std.proofs.Common.{None, Some, refl, sym, ap, ◌∙◌, arith}
-use Rattle.std.specs.Result.{result_ok}
-use Rattle.langtag_likely.specs.Likely.{without_region}
-use Rattle.langtag_likely.specs.Texts.{field_texts}
+use Rattle.langtag_scan.proofs.Prelude.{None, Some, refl, sym, ap, ◌∙◌, arith, result_ok}
+use Rattle.langtag_likely.proofs.Definitions.{without_region, field_texts}
 use Rattle.langtag_choice.proofs.MatchingTables.{script_found, script_long}
 use Rattle.langtag_likely.proofs.FieldClasses.{fields_plain}
 use Rattle.langtag_likely.proofs.TableRows.{index_searched}

@@ -1,5 +1,4 @@
-use Rattle.std.proofs.Common.{◌≡◌, ◌<◌, length, take, drop, sym, subst, arith, rules}
-use Rattle.std.proofs.lemmas.List.{length-take, take_more_set}
+use Rattle.langtag_scan.proofs.Prelude.{◌≡◌, ◌<◌, length, take, drop, sym, subst, arith, rules, length-take, take_more_set}
 use Rattle.langtag_choice.proofs.SuitableTags.{GoesOn, all_room, goes_on_from_none, one_more, none_more, rest_after}
 use Rattle.langtag_choice.proofs.suitable.choose_in_turn.Goals as goal
 

@@ -1,5 +1,4 @@
-use Rattle.std.proofs.Common.{length, arith}
-use Rattle.std.proofs.lemmas.Grind.{common_steps}
+use Rattle.langtag_scan.proofs.Prelude.{length, arith, common_steps}
 use Rattle.langtag_choice.proofs.SuitableTags.{none_left_out}
 use Rattle.langtag_choice.proofs.suitable.suitable_among.Goals as goal
 

@@ -1,5 +1,4 @@
-use Rattle.std.proofs.Common.{sym, ◌∙◌}
-use Rattle.std.proofs.lemmas.Bool.{not-true}
+use Rattle.langtag_scan.proofs.Prelude.{sym, ◌∙◌, not-true}
 use Rattle.langtag_choice.proofs.MatchingTables.{far_without_rule}
 use Rattle.langtag_choice.proofs.range_language.RangeLanguage.is_far.Goals as goal
 
