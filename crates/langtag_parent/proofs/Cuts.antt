@@ -1,22 +1,12 @@
 -- A text without its last subtag.
-use Rattle.std.proofs.Common.{◌≡◌, ℕ, Bool, true, false, ◌==◌, is_none, flat_map, suc, ◌+◌, ◌-◌, List, [], ◌∷◌, ◌++◌, length, take, take_at, Option, None, Some, append_assoc, append-nil, length-append, ap, sym, ◌∙◌, arith, subst, inl, slice_get, zero, refl}
-use Rattle.std.specs.List.{AllByRecursion}
-use Rattle.std.proofs.lemmas.Bool.{and_parts}
-use Rattle.std.proofs.lemmas.Bool.Decides.{nat_tests}
-use Rattle.std.proofs.lemmas.Grind.{common_steps}
-use Rattle.langtag_scan.specs.Ends.{HasEnds, ends_of, to_variants}
-use Rattle.langtag_scan.specs.Parts.{language_part, variants_part}
-use Rattle.langtag_scan.specs.Record.{EachRecord, Record, IsWellFormed, Spells, extension_flat, one_flat, private_part_flat, spell}
+use Rattle.langtag_scan.proofs.Prelude.{◌≡◌, ℕ, Bool, true, false, ◌==◌, is_none, flat_map, suc, ◌+◌, ◌-◌, List, [], ◌∷◌, ◌++◌, length, take, take_at, Option, None, Some, append_assoc, append-nil, length-append, ap, sym, ◌∙◌, arith, subst, inl, slice_get, zero, refl, AllByRecursion, and_parts, nat_tests, common_steps}
+use Rattle.langtag_scan.proofs.Grammar.{HasEnds, ends_of, to_variants, language_part, variants_part, EachRecord, Record, IsWellFormed, Spells, extension_flat, one_flat, private_part_flat, spell, join, IsNormal, IsTag}
 use Rattle.langtag_scan.specs.declared.ends.Ends.{Ends}
-use Rattle.langtag_scan.specs.Subtags.{join}
-use Rattle.langtag_scan.specs.Tag.{IsNormal, IsTag}
-use Rattle.langtag_scan.proofs.Joins.{hyphenated, join-append, length-join-append}
-use Rattle.langtag_scan.proofs.SpelledTexts.{ends_had}
-use Rattle.langtag_language.specs.Language.{EachLanguageSpelling, SpellsLanguage}
-use Rattle.langtag_place.specs.Variants.{SpellsVariants}
-use Rattle.langtag.specs.Edit.{with_region, with_script}
+use Rattle.langtag_scan.proofs.Laws.{hyphenated, join-append, length-join-append, ends_had}
+use Rattle.langtag.proofs.Definitions.{EachLanguageSpelling, SpellsVariants, with_region, with_script}
 use Rattle.langtag_parent.specs.Parent.{IsParent, is_base, is_empty, is_likely_script, likely_of, other_script, parent_of, parent_of_region, parent_of_script, plain_parent, unless_alike, usual_parent, without_last_variant}
 use Rattle.langtag_parent.specs.Plain.{IsLonger, IsPlain}
+use Rattle.langtag.proofs.PartRules.{language_spelled}
 
 -- ---- a join without its last subtag
 
@@ -82,20 +72,11 @@ spelled_tag r well = inl (r, (well, refl))
 pub region_well : (r : Record) → IsWellFormed r → IsWellFormed (with_region r None)
 region_well r well = grind (arith, common_steps)
 
-pub region_tag : (r : Record) → IsWellFormed r → IsTag (spell (with_region r None))
-region_tag r well = spelled_tag (with_region r None) (region_well r well)
-
 pub script_well : (r : Record) → IsWellFormed r → IsWellFormed (with_script r None)
 script_well r well = grind (arith, common_steps)
 
-pub script_tag : (r : Record) → IsWellFormed r → IsTag (spell (with_script r None))
-script_tag r well = spelled_tag (with_script r None) (script_well r well)
-
 pub variant_well : (r : Record) → IsWellFormed r → IsWellFormed (without_last_variant r)
 variant_well r well = grind (arith, common_steps, all_taken)
-
-pub variant_tag : (r : Record) → IsWellFormed r → IsTag (spell (without_last_variant r))
-variant_tag r well = spelled_tag (without_last_variant r) (variant_well r well)
 
 -- ---- what the code cuts off
 
@@ -104,22 +85,19 @@ pub some_record : (text : List ℕ) (ends : Ends) → ∥ HasEnds text ends ∥�
 unfolding HasEnds
 some_record text ends merely = let (r, spells, at) = ends_had text ends merely in (r, spells)
 
-language_spelled : (r : Record) (language : List ℕ) → IsWellFormed r → language ≡ language_part r → SpellsLanguage r.primary r.extended language
-language_spelled r language well same = record { first = well.primary; others = well.extended; few = well.few; short = well.short; joined = sym same }
-
 pub region_longer :
     (text region : List ℕ) (ends : Ends) → ∥ HasEnds text ends ∥₁ → EachRecord text IsPlain → EachRecord text (λ r. r.region ≡ Some region) →
     IsLonger text (length region)
 region_longer text region ends merely plain is =
     let (r, spells) = some_record text ends merely in
-    longer text (spell (with_region r None)) region (sym spells.1 ∙ cut-region r region (plain r spells) (is r spells)) (region_tag r spells.0)
+    longer text (spell (with_region r None)) region (sym spells.1 ∙ cut-region r region (plain r spells) (is r spells)) (spelled_tag (with_region r None) (region_well r spells.0))
 
 pub script_longer :
     (text script : List ℕ) (ends : Ends) → ∥ HasEnds text ends ∥₁ → EachRecord text IsPlain →
     EachRecord text (λ r. (r.script ≡ Some script) × (r.region ≡ None)) → IsLonger text (length script)
 script_longer text script ends merely plain is =
     let (r, spells) = some_record text ends merely in
-    longer text (spell (with_script r None)) script (sym spells.1 ∙ cut-script r script (plain r spells) (is r spells).0 (is r spells).1) (script_tag r spells.0)
+    longer text (spell (with_script r None)) script (sym spells.1 ∙ cut-script r script (plain r spells) (is r spells).0 (is r spells).1) (spelled_tag (with_script r None) (script_well r spells.0))
 
 pub without_region :
     (text region shorter : List ℕ) (r : Record) → Spells r text → IsPlain r → r.region ≡ Some region →
@@ -176,7 +154,7 @@ variant_longer text variants last ends merely base same is =
     let (r, spells) = some_record text ends merely in
     let parts = base_parts r (sym (base r spells)) in
     let at = last_of r variants (Some last) spells.0 (same r spells) is in
-    longer text (spell (without_last_variant r)) last (sym spells.1 ∙ cut-variant r last parts.0 parts.1 (sym at)) (variant_tag r spells.0)
+    longer text (spell (without_last_variant r)) last (sym spells.1 ∙ cut-variant r last parts.0 parts.1 (sym at)) (spelled_tag (without_last_variant r) (variant_well r spells.0))
 
 pub variant_parent :
     (text variants last shorter : List ℕ) (r : Record) → Spells r text → true ≡ is_base r → variants ≡ variants_part r → IsLast variants (Some last) →

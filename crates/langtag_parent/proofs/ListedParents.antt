@@ -1,22 +1,10 @@
 -- CLDR's rows, by computation: a parent is written in the script of its tag.
-use Rattle.std.proofs.Common.{◌≡◌, ℕ, ◌<◌, true, false, Bool, List, [], ◌∷◌, length, map, codes, Option, None, Some, refl, sym, ap, ◌∙◌, subst, arith, ◌&&◌, ◌||◌, not, option_map, unwrap_or}
-use Rattle.std.specs.List.{list_all, list_any}
-use Rattle.std.specs.Option.{option_map_or}
-use Rattle.std.specs.Str.{bytes_eq}
-use Rattle.std.specs.Cmp.Lexicographic.{bytes_decides}
-use Rattle.std.proofs.lemmas.Bool.{and_parts}
-use Rattle.langtag_scan.specs.AlikeRecords.{AlikeRecords, fold_record}
-use Rattle.langtag_scan.specs.Case.{Alike, are_alike, fold_byte, fold_text}
-use Rattle.langtag_scan.specs.CaseLaws.{are_alike-decides}
-use Rattle.langtag_scan.specs.Class.{is_letter, is_digit, is_primary, is_script, is_region}
-use Rattle.langtag_scan.specs.Record.{Record, Spells}
-use Rattle.langtag_scan.specs.Tag.{IsTag}
-use Rattle.langtag_scan.proofs.CaseLaw.{alike_parts, length-fold}
-use Rattle.langtag_scan.proofs.NormalTexts.{spelled_once}
+use Rattle.langtag_scan.proofs.Prelude.{◌≡◌, ℕ, ◌<◌, true, false, Bool, List, [], ◌∷◌, length, map, codes, Option, None, Some, refl, sym, ap, ◌∙◌, subst, arith, ◌&&◌, ◌||◌, not, option_map, unwrap_or, list_all, list_any, option_map_or, bytes_eq, bytes_decides, and_parts}
+use Rattle.langtag_scan.proofs.Grammar.{AlikeRecords, fold_record, Alike, are_alike, fold_byte, fold_text, are_alike-decides, is_letter, is_digit, is_primary, is_script, is_region, Record, Spells, IsTag}
+use Rattle.langtag_scan.proofs.Laws.{alike_parts, length-fold, spelled_once}
 use Rattle.langtag.specs.Fields.{Fields}
 use Rattle.langtag.proofs.Alike.{AlikeFields, alike_is}
-use Rattle.langtag_likely.specs.Likely.{Likely, likely_for, or_else}
-use Rattle.langtag_likely.specs.LikelySubtags.{language_rows, other_rows, likely_subtags}
+use Rattle.langtag_likely.proofs.Definitions.{Likely, likely_for, language_rows, other_rows, likely_subtags}
 use Rattle.langtag_likely.proofs.AddedTwice.{either_way, found_row}
 use Rattle.langtag_likely.proofs.AlikeFields.{likely_for-alike}
 use Rattle.langtag_likely.proofs.RowLaws.{all_other, either}
@@ -47,9 +35,6 @@ all_elsewhere : list_all is_elsewhere other_rows ≡ true
 unfolding other_rows fold_byte
 all_elsewhere = refl
 
-any-right : (a b : List ℕ) (list : List (List ℕ)) → Alike a b → list_any (λ one. are_alike one a) list ≡ list_any (λ one. are_alike one b) list
-any-right a b list alike = ap (λ t. list_any (λ one. bytes_eq (map fold_byte one) t) list) alike
-
 region_none : (p region : List ℕ) → is_one p ≡ true → 0 < length region → likely_for other_rows (in_region p region) ≡ None
 region_none p region one there = by_option (likely_for other_rows (in_region p region)) refl
   where
@@ -57,7 +42,7 @@ region_none p region one there = by_option (likely_for other_rows (in_region p r
     by_option None is = refl
     by_option (Some to) is =
         let it = found_row other_rows is_elsewhere (in_region p region) to all_elsewhere is in
-        let language : is_one it.row.from.language ≡ true = any-right it.row.from.language p latin_languages it.from_is.language ∙ one in
+        let language : is_one it.row.from.language ≡ true = ap (λ t. list_any (λ one. bytes_eq (map fold_byte one) t) latin_languages) it.from_is.language ∙ one in
         absurd (grind (arith, it.from_is, it.holds_of_it, length-fold))
 
 -- ---- records that are written in a script
@@ -87,22 +72,16 @@ latin_at p (language ∷ list) all any =
     let alike : are_alike language p ≡ true → AlikeFields (alone language) (alone p) = λ same. record { language = alike_is language p same; script = refl; region = refl } in
     grind (arith, and_parts, latin_at p list, likely_for-alike language_rows (alone language) (alone p))
 
-or_latin : (o other : Option Fields) → is_latin_row o ≡ true → is_latin_row (or_else o other) ≡ true
-or_latin o other h = grind arith
-
 latin_alone : (p : List ℕ) → is_one p ≡ true → is_latin_row (likely_for likely_subtags (alone p)) ≡ true
 latin_alone p one =
-    ap is_latin_row (either (alone p)) ∙ or_latin (likely_for language_rows (alone p)) (likely_for other_rows (alone p)) (latin_at p latin_languages all_latin one)
-
-or_alone : (none o : Option Fields) → none ≡ None → or_else none (or_else o (or_else none o)) ≡ o
-or_alone none o h = grind arith
+    ap is_latin_row (either (alone p)) ∙ grind (arith, latin_at p latin_languages all_latin one)
 
 pub likely_alone : (p region : List ℕ) → is_one p ≡ true → likely_of p [] region ≡ likely_for likely_subtags (alone p)
 likely_alone p [] one = grind arith
 likely_alone p (b ∷ region) one =
     let there : 0 < length (b ∷ region) = omega arith in
     let none = sym (all_other (in_region p (b ∷ region)) (λ _ none. omega (arith, none))) ∙ region_none p (b ∷ region) one there in
-    or_alone (likely_for likely_subtags (in_region p (b ∷ region))) (likely_for likely_subtags (alone p)) none
+    grind (arith, none)
 
 -- these languages are written in no other script
 pub no_other_script : (p region : List ℕ) → is_one p ≡ true → unless_alike (likely_of p [] region) (likely_of p [] []) ≡ None
@@ -136,9 +115,6 @@ both_in r q script first second = rw (first.is, second.is) (first.alike ∙ sym 
 
 abbrev are_both : Option (List ℕ) → Option (List ℕ) → Bool
 are_both first second = option_map_or (λ own. option_map_or (are_alike own) second false) first false
-
-both_written : (r q : Record) → are_both r.script q.script ≡ true → IsWrittenAs r q
-both_written r q h = grind (arith, alike_is)
 
 -- ---- the rows
 
@@ -195,9 +171,6 @@ unfolding_latin : (r : Record) → latin_folded (fold_record r) ≡ is_latin r
 unfolding latin_folded
 unfolding_latin r = grind arith
 
-latin-alike : (r q : Record) → AlikeRecords r q → is_latin r ≡ is_latin q
-latin-alike r q same = sym (unfolding_latin r) ∙ ap latin_folded same ∙ unfolding_latin q
-
 both-alike : (first second script : Option (List ℕ)) → option_map fold_text first ≡ option_map fold_text second → are_both first script ≡ are_both second script
 both-alike first second script same = grind (arith, are_alike-decides)
 
@@ -213,9 +186,9 @@ in_script : (r tagged q : Record) → AlikeRecords tagged r → in_one_script ta
 in_script r tagged q same h =
     either_way (is_latin tagged && is_latin q)
     (λ both. let k = and_parts (is_latin tagged) (is_latin q) both in
-    both_in r q latin (latin_in r (sym (latin-alike tagged r same) ∙ k.0)) (latin_in q k.1))
+    both_in r q latin (latin_in r (sym (unfolding_latin r) ∙ ap latin_folded (sym same) ∙ unfolding_latin tagged ∙ k.0)) (latin_in q k.1))
     (λ other. let both : are_both tagged.script q.script ≡ true = sym (rw other refl) ∙ h in
-    both_written r q (sym (both-alike tagged.script r.script q.script (ap (λ f. f.script) same)) ∙ both))
+    let held = sym (both-alike tagged.script r.script q.script (ap (λ f. f.script) same)) ∙ both in grind (arith, alike_is, held))
 
 pub listed_parent :
     (r : Record) (text parent : List ℕ) → Spells r text → 0 < length parent → row_for parent_locales text ≡ Some parent → ListedParent r parent

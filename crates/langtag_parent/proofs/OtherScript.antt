@@ -1,30 +1,14 @@
 -- The tables have the rows of the lists, and a language that is written in another script in a region stands in the table with it.
-use Rattle.std.proofs.Common.{◌≡◌, ℕ, ◌<◌, true, false, Bool, cond, List, [], ◌∷◌, length, map, Option, None, Some, IsTrue, inl, refl, arith, ◌&&◌, ◌||◌, not, ap, sym, ◌∙◌, ◌≤◌, append-nil, ◌++◌, find}
-use Rattle.std.specs.List.{list_all}
-use Rattle.std.specs.Option.{option_map_or, option_map}
-use Rattle.std.specs.Str.{bytes_eq}
-use Rattle.std.specs.Cmp.Lexicographic.{bytes_decides}
-use Rattle.std.proofs.lemmas.Bool.{and_parts}
-use Rattle.std.proofs.lemmas.Grind.{common_steps}
-use Rattle.langtag_scan.specs.Case.{are_alike, fold_byte, Alike, fold_text}
-use Rattle.langtag_scan.specs.Class.{is_letter, is_digit, is_primary, is_script, is_region}
-use Rattle.langtag_scan.specs.Record.{Record, IsWellFormed, Spells, spell}
-use Rattle.langtag_scan.specs.Subtags.{subtags}
-use Rattle.langtag_scan.specs.Tag.{IsTag, IsNormal}
+use Rattle.langtag_scan.proofs.Prelude.{◌≡◌, ℕ, ◌<◌, true, false, Bool, cond, List, [], ◌∷◌, length, map, Option, None, Some, IsTrue, inl, refl, arith, ◌&&◌, ◌||◌, not, ap, sym, ◌∙◌, ◌≤◌, append-nil, ◌++◌, find, list_all, option_map_or, option_map, bytes_eq, bytes_decides, and_parts, common_steps, nat_tests, map-append}
+use Rattle.langtag_scan.proofs.Grammar.{are_alike, fold_byte, Alike, fold_text, is_letter, is_digit, is_primary, is_script, is_region, Record, IsWellFormed, Spells, spell, subtags, IsTag, IsNormal, are_alike-decides}
 use Rattle.langtag_likely.proofs.AddedTwice.{found_row}
 use Rattle.langtag_parent.specs.ParentLocales.{parent_locales}
 use Rattle.langtag_parent.specs.declared.tables.TheConstants.{PARENT_LOCALES, SCRIPTED_LANGUAGES}
-use Rattle.std.proofs.lemmas.Bool.Decides.{nat_tests}
-use Rattle.std.proofs.lemmas.List.{map-append}
-use Rattle.langtag_scan.specs.CaseLaws.{are_alike-decides}
-use Rattle.langtag_scan.proofs.CaseLaw.{length-fold}
-use Rattle.langtag_scan.proofs.Disjoint.{script_four}
-use Rattle.langtag_language.specs.Language.{EachLanguageSpelling, IsLanguage, SpellsLanguage}
+use Rattle.langtag_scan.proofs.Laws.{length-fold, script_four}
+use Rattle.langtag.proofs.Definitions.{EachLanguageSpelling, IsLanguage, SpellsLanguage, Fields}
 use Rattle.langtag_tables.proofs.Letters.{primary_length}
-use Rattle.langtag.specs.Fields.{Fields}
 use Rattle.langtag.proofs.Alike.{alike_is}
-use Rattle.langtag_likely.specs.Likely.{Likely, likely_for, or_else}
-use Rattle.langtag_likely.specs.LikelySubtags.{likely_subtags, other_rows}
+use Rattle.langtag_likely.proofs.Definitions.{Likely, likely_for, or_else, likely_subtags, other_rows}
 use Rattle.langtag_likely.proofs.RowLaws.{all_other}
 use Rattle.langtag_likely.proofs.TableRows.{is_there}
 use Rattle.langtag_parent.specs.Parent.{fields_text, likely_of, unless_alike}
@@ -109,9 +93,6 @@ pub record Stands (p : List ℕ) (here : Fields) : Type 0 where
 pub there-long : (text : List ℕ) → 0 < length text → is_there text ≡ true
 there-long text some = grind arith
 
-pub there-none : (text : List ℕ) → length text ≡ 0 → is_there text ≡ false
-there-none text none = grind arith
-
 row_stands : (p region : List ℕ) (here : Fields) → 0 < length p → 0 < length region → likely_for other_rows (in_region p region) ≡ Some here → Stands p here
 row_stands p region here some there is =
     let it = found_row other_rows is_listed (in_region p region) here all_listed is in
@@ -141,9 +122,6 @@ other_stands p (e ∷ es) region here some there is = absurd cc
 
 -- ---- it is found in the table
 
-find_alike : (a b : List ℕ) (list : List (List ℕ)) → Alike a b → find (λ tag. are_alike tag a) list ≡ find (λ tag. are_alike tag b) list
-find_alike a b list alike = ap (λ t. find (λ tag. bytes_eq (fold_text tag) t) list) alike
-
 -- what the code finds for the language as it is written, and the script
 pub record IsListed (p : List ℕ) (here : Fields) (script : List ℕ) : Type 0 where
   pub found : find (λ tag. are_alike tag (fields_text p script [])) scripted ≡ Some (fields_text here.language here.script [])
@@ -164,7 +142,7 @@ listed p here script stands is =
     record {
       found =
           ap (λ s. find (λ tag. are_alike tag (fields_text p s [])) scripted) is
-          ∙ find_alike (fields_text p here.script []) (text_of here) scripted (text-alike p here.language here.script (alike_is here.language p stands.language))
+          ∙ ap (λ t. find (λ tag. bytes_eq (fold_text tag) t) scripted) (text-alike p here.language here.script (alike_is here.language p stands.language))
           ∙ same_found (text_of here) _ inner.1;
       tag = simple_tag (text_of here) inner.0;
       four = ap length is ∙ (script_four here.script outer.0).0;
@@ -185,9 +163,6 @@ some_here : (o : Option Fields) (script : List ℕ) → option_map (λ f. f.scri
 some_here None script is = absurd cc
 some_here (Some here) script is = (here, refl, cc)
 
-lone : (p : List ℕ) (es : List (List ℕ)) (language : List ℕ) → SpellsLanguage p es language → es ≡ [] → language ≡ p
-lone p es language spells none = grind arith
-
 pub region_two : (s : List ℕ) → is_region s ≡ true → 2 ≤ length s
 unfolding is_region
 region_two s h = grind (arith, nat_tests)
@@ -204,7 +179,8 @@ other_read language region script p es spells in_region script_is =
     let some = primary_length p spells.first in
     let there = region_two region in_region in
     let (none, stands) = other_stands p es region here (omega (arith, some)) (omega (arith, there)) is in
-    record { here = here; is = is; script_is = same; language_is = lone p es language spells none; short = primary_short language p spells.first (lone p es language spells none); listed = listed p here script stands same }
+    let lone : language ≡ p = grind (arith, spells, none) in
+    record { here = here; is = is; script_is = same; language_is = lone; short = primary_short language p spells.first lone; listed = listed p here script stands same }
 
 pub read_of :
     (language region script : List ℕ) → IsLanguage language → is_region region ≡ true →

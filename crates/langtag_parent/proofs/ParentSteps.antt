@@ -1,36 +1,19 @@
 -- From a tag to its parent: the record of the parent, its script, and what it keeps. A chain ends: a parent has fewer subtags than
 -- the tag, or is one of a few texts whose chains are short.
-use Rattle.std.proofs.Common.{◌≡◌, ℕ, ◌+◌, ◌-◌, ◌<◌, ◌⊎◌, inl, inr, true, false, List, [], ◌∷◌, ◌++◌, length, take, drop, find, is_none, Option, None, Some, IsTrue, refl, sym, ap, ◌∙◌, subst, arith, ◌&&◌, option_map, length-append, append-nil, zero, suc, ◌≤◌, Bool, ◌||◌, not}
-use Rattle.std.specs.Prelude.{IfSome, MatchOption}
-use Rattle.std.specs.List.{flat_map, list_any, list_all}
-use Rattle.std.specs.Str.{bytes_eq}
-use Rattle.std.proofs.lemmas.Bool.{and_parts}
-use Rattle.std.proofs.lemmas.Grind.{common_steps}
-use Rattle.std.proofs.lemmas.List.{length-take, take-append-drop}
-use Rattle.langtag_scan.specs.Case.{Alike, are_alike, fold_byte}
-use Rattle.langtag_scan.specs.CaseLaws.{are_alike-decides}
-use Rattle.langtag_scan.specs.Class.{is_region, is_script, is_letter, is_digit, is_primary}
-use Rattle.langtag_scan.specs.Record.{EachRecord, Extension, IsWellFormed, PrivateUse, Record, Spells, extension_flat, flat, one_flat, private_part_flat, spell}
-use Rattle.langtag_scan.specs.Tag.{IsNormal}
-use Rattle.langtag_scan.proofs.CaseLaw.{alike_primary}
-use Rattle.langtag_scan.proofs.Disjoint.{script_four}
-use Rattle.langtag_scan.proofs.NormalTexts.{normal_or_not, spelled_once}
+use Rattle.langtag_scan.proofs.Prelude.{◌≡◌, ℕ, ◌+◌, ◌-◌, ◌<◌, ◌⊎◌, inl, inr, true, false, List, [], ◌∷◌, ◌++◌, length, take, drop, find, is_none, Option, None, Some, IsTrue, refl, sym, ap, ◌∙◌, subst, arith, ◌&&◌, option_map, length-append, append-nil, zero, suc, ◌≤◌, Bool, ◌||◌, not, IfSome, MatchOption, flat_map, list_any, list_all, bytes_eq, and_parts, common_steps, length-take, take-append-drop, option_map_or, bytes_decides}
+use Rattle.langtag_scan.proofs.Grammar.{Alike, are_alike, fold_byte, are_alike-decides, is_region, is_script, is_letter, is_digit, is_primary, EachRecord, Extension, IsWellFormed, PrivateUse, Record, Spells, extension_flat, flat, one_flat, private_part_flat, spell, IsNormal, subtags}
+use Rattle.langtag_scan.proofs.Laws.{alike_primary, script_four, normal_or_not, spelled_once, subtags-spelled}
 use Rattle.langtag_tables.proofs.Letters.{primary_length}
-use Rattle.langtag.specs.Edit.{base_record, with_region, with_script}
-use Rattle.langtag.specs.Fields.{Fields}
+use Rattle.langtag.proofs.Definitions.{base_record, with_region, with_script, Fields}
 use Rattle.langtag.proofs.Alike.{alike_is}
-use Rattle.langtag_parent.specs.Parent.{IsParent, fields_text, is_base, is_empty, is_likely_script, likely_of, other_script, parent_in_script, parent_of, parent_of_region, parent_of_script, plain_parent, stated_or, unless_alike, usual_parent, without_last_variant, stated}
+use Rattle.langtag_parent.specs.Parent.{IsParent, fields_text, is_base, is_empty, is_likely_script, likely_of, other_script, parent_in_script, parent_of, plain_parent, stated_or, unless_alike, usual_parent, without_last_variant, stated, parent_of_script}
 use Rattle.langtag_parent.specs.ParentLaws.{AddsNothing, IsInOneScript, IsKeptOrListed, IsListed, IsWrittenAs, script_of, EndsWithin}
 use Rattle.langtag_parent.specs.ParentLocales.{parent_locales}
 use Rattle.langtag_parent.specs.Plain.{IsPlain}
 use Rattle.langtag_parent.specs.Rows.{row_for}
 use Rattle.langtag_parent.proofs.Cuts.{base_parts, empty-nil, region_well, script_well, variant_well, plain_is}
-use Rattle.langtag_parent.proofs.OtherScript.{record_of, simple_spelled, Stands, listed, other_stands, region_two, scripted, is_simple, simple_record}
+use Rattle.langtag_parent.proofs.OtherScript.{record_of, simple_spelled, listed, other_stands, region_two, scripted, is_simple, simple_record}
 use Rattle.langtag_parent.proofs.ListedParents.{listed_parent, parents, is_one, no_other_script}
-use Rattle.std.specs.Option.{option_map_or}
-use Rattle.std.specs.Cmp.Lexicographic.{bytes_decides}
-use Rattle.langtag_scan.specs.Subtags.{subtags}
-use Rattle.langtag_scan.proofs.SpelledTexts.{subtags-spelled}
 
 -- ---- how a parent comes about
 
@@ -122,14 +105,11 @@ region_step r region parent well plain there none is =
     (kept_plain r (with_region r None) plain refl refl refl plain.variants plain.extensions plain.private_use)
     (omega (arith, flat-length r, flat-length (with_region r None), ap (λ o. length (one_flat o)) there))
 
-likely_written : (own : List ℕ) (o : Option Fields) → is_likely_script own o ≡ true → IfSome (option_map (λ f. f.script) o) (λ script. Alike own script)
-likely_written own o is = grind (arith, alike_is)
-
 script_step :
     (r : Record) (own parent : List ℕ) → IsWellFormed r → IsPlain r → r.region ≡ None → r.script ≡ Some own →
     is_likely_script own (likely_of r.primary r.extended []) ≡ true → spell (with_script r None) ≡ parent → Step r parent
 script_step r own parent well plain none there likely is =
-    shorter r (with_script r None) parent (script_well r well) is (rw (none, there) (likely_written own (likely_of r.primary r.extended []) likely))
+    shorter r (with_script r None) parent (script_well r well) is (rw (none, there) (grind (arith, alike_is, likely)))
     (kept_plain r (with_script r None) plain refl refl none plain.variants plain.extensions plain.private_use)
     (omega (arith, flat-length r, flat-length (with_script r None), ap (λ o. length (one_flat o)) there))
 
@@ -152,14 +132,8 @@ of_fields language script region =
 short-spelled : (language script : List ℕ) → 0 < length script → spell (of_fields language script None) ≡ fields_text language script []
 short-spelled language script some = grind arith
 
-whole-spelled : (language script region : List ℕ) → 0 < length script → 0 < length region → spell (of_fields language script (Some region)) ≡ fields_text language script region
-whole-spelled language script region some there = grind arith
-
 unless_here : (here alone : Option Fields) (f : Fields) → unless_alike here alone ≡ Some f → here ≡ Some f
 unless_here here alone f is = grind (arith, are_alike-decides)
-
-stands_script : (p : List ℕ) (here : Fields) → Stands p here → IsTrue (is_script here.script)
-stands_script p here stands = (and_parts (is_script here.script) _ stands.stands).0
 
 other_way : (text : List ℕ) (other : Option (List ℕ)) (parent : List ℕ) → stated_or text other ≡ Some parent → ((row_for parent_locales text ≡ Some parent) × (0 < length parent)) ⊎ (other ≡ Some parent)
 other_way text other parent is = grind arith
@@ -173,12 +147,12 @@ table_step r region parent here well plain none there is made =
     let long = primary_length r.primary well.primary in
     let wide = region_two region in_region in
     let (alone, stands) = other_stands r.primary r.extended region here (omega (arith, long)) (omega (arith, wide)) is in
-    let in_script = stands_script r.primary here stands in
+    let in_script = (and_parts (is_script here.script) _ stands.stands).0 in
     let four = (script_four here.script in_script).0 in
     let own : script_of r ≡ Some here.script = rw (none, there) (ap (option_map (λ f. f.script)) (unless_here (likely_of r.primary r.extended region) (likely_of r.primary r.extended []) here is)) in
     elim (other_way (fields_text r.primary here.script region) (Some (fields_text here.language here.script [])) parent made) [
       | inl row ↦ listed_step r (of_fields r.primary here.script (Some region)) (fields_text r.primary here.script region) parent
-          (grind (arith, common_steps), whole-spelled r.primary here.script region (omega (arith, four)) (omega (arith, wide))) (sym own) row.1 row.0
+          (grind (arith, common_steps), grind (arith, four, wide)) (sym own) row.1 row.0
       | inr short ↦
           let same : fields_text here.language here.script [] ≡ parent = cc in
           let alike = alike_is here.language r.primary stands.language in
@@ -273,21 +247,9 @@ scripted_end : list_all (ends_in 2) scripted ≡ true
 unfolding parent_locales row_for fold_byte is_primary is_script is_region is_letter is_digit
 scripted_end = refl
 
-region_safe : (r : Record) (region : List ℕ) → r.extended ≡ [] → r.region ≡ Some region → is_safe r ≡ true → other_script r region ≡ None
-region_safe r region alone there safe = grind (arith, no_other_script)
-
-script_cut : (r : Record) (own parent : List ℕ) → r.region ≡ None → r.script ≡ Some own → parent_of_script r own ≡ Some parent → cut r ≡ Some parent
-script_cut r own parent none there is = grind arith
-
-region_cut : (r : Record) (region parent : List ℕ) → r.extended ≡ [] → is_safe r ≡ true → r.region ≡ Some region → parent_of_region r region ≡ Some parent → cut r ≡ Some parent
-region_cut r region parent alone safe there is = grind (arith, region_safe)
-
 next_parent : (text parent : List ℕ) → is_simple text ≡ true → is_safe (record_of text) ≡ true → plain_parent (record_of text) ≡ Some parent → next_text text ≡ Some parent
 unfolding plain_parent
-next_parent text parent simple safe is = grind (arith, region_safe, simple_record text, simple_spelled text)
-
-next_ends : (most : ℕ) (o : Option (List ℕ)) (parent : List ℕ) → o ≡ Some parent → option_map_or (ends_in most) o true ≡ true → ends_in most parent ≡ true
-next_ends most o parent is h = grind arith
+next_parent text parent simple safe is = grind (arith, no_other_script, simple_record text, simple_spelled text)
 
 ends_computed : (most : ℕ) (text : List ℕ) → ends_in most text ≡ true → EndsWithin most text
 ends_computed zero text h = absurd cc
@@ -297,7 +259,7 @@ ends_computed (suc most) text h = λ parent is.
     let it = simple_record text in
     let plain : IsPlain (record_of text) = record { variants = it.variants; extensions = it.extensions; private_use = it.private_use } in
     let of_record : plain_parent (record_of text) ≡ Some parent = plain_is (record_of text) (plain_parent (record_of text)) plain refl ∙ sym (is.part (record_of text) (simple_spelled text m.0)) in
-    ends_computed most parent (next_ends most (next_text text) parent (next_parent text parent m.0 m.1 of_record) k.1)
+    ends_computed most parent (grind (arith, next_parent text parent m.0 m.1 of_record, k.1))
 
 -- ---- any chain
 

@@ -1,8 +1,6 @@
 use Rattle.std.proofs.Common.{◌≡◌, [], None, Some, option_map, length-append, sym, ap, subst, ◌∙◌, arith}
-use Rattle.langtag.specs.Text.{lang_tag_text}
-use Rattle.langtag_language.specs.Text.{language_text}
+use Rattle.langtag.proofs.Definitions.{lang_tag_text, language_text, region_text}
 use Rattle.langtag_language.proofs.Rules.{IsLanguage-from_test}
-use Rattle.langtag_place.specs.Text.{region_text}
 use Rattle.langtag_scan.specs.Tag.{IsTag}
 use Rattle.langtag_scan.proofs.Disjoint.{region_short}
 use Rattle.langtag_parent.specs.Parent.{fields_text, parent_in_script, stated}
