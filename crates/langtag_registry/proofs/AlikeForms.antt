@@ -1,26 +1,22 @@
 -- The case of letters changes nothing in a canonical form: those of alike texts are alike.
 use Rattle.langtag_scan.proofs.Prelude.{◌≡◌, ℕ, List, [], ◌∷◌, map, Option, option_map, ◌⊎◌, refl, sym, ap, ◌∙◌, arith, rules, common_steps}
 use Rattle.langtag_scan.proofs.Grammar.{fold_extension, fold_private_use, fold_record, AlikeRecords, fold_text, Alike, fold_byte, Extension, PrivateUse, Record, spell, IsWellFormed, IsNormal}
-use Rattle.langtag_scan.proofs.CaseLaw.{alike_normal, alike_parts, fold_byte-twice, fold_text-twice, map-twice, spelled_alike}
-use Rattle.langtag.specs.Registered.{IsGrandfathered, IsGrandfatheredAt}
+use Rattle.langtag_scan.proofs.CaseLaw.{alike_normal, alike_parts, fold_byte-twice, fold_text-twice, map-twice, spelled_alike, fold_extension-twice}
+use Rattle.langtag.specs.Registered.{IsGrandfathered}
 use Rattle.langtag_registry.specs.Canonical.{in_order, canonical_primary, canonical_extended, canonical_region, canonical_variants, canonical_record, IsCanonicalForm}
 use Rattle.langtag_fields.specs.Fields.{preferred_region, preferred_variant, preferred_tag}
-use Rattle.langtag_fields.specs.Subtags.{tag_preferred}
 use Rattle.langtag_registry.proofs.ReplacedSubtags.{replaced-alike, IgnoresCase, language-alike, region-alike, variant-alike, extlang-alike, replaced, IsSettled, language_settled, region_settled, variant_settled, extlang_cases}
 use Rattle.langtag_registry.proofs.OneForm.{Way, as_whole, as_it_is, by_parts, way_of}
 use Rattle.langtag_registry.proofs.TwiceLaws.{itself}
 use Rattle.langtag_registry.proofs.ExtensionOrder.{key, sorted_by-map, keys_of, in_order-risen, rises_from_in_order}
 use Rattle.langtag_registry.proofs.CanonicalParts.{record_stays, parts_stay, own_record, kept_form, preferred_goes}
-use Rattle.langtag_fields.proofs.Values.{value_for-alike, registered_extlang-alike, preferred_tag-alike}
+use Rattle.langtag_fields.proofs.Values.{registered_extlang-alike, preferred_tag-alike}
 use Rattle.langtag.proofs.RegisteredLaws.{grandfathered_alike}
 
 -- ---- what is folded once is folded
 
 fold_private_use-twice : (p : PrivateUse) → fold_private_use (fold_private_use p) ≡ fold_private_use p
 fold_private_use-twice p = grind (arith, common_steps, fold_byte-twice, map-twice, fold_text-twice)
-
-fold_extension-twice : (e : Extension) → fold_extension (fold_extension e) ≡ fold_extension e
-fold_extension-twice e = grind (arith, common_steps, fold_byte-twice, map-twice, fold_text-twice)
 
 -- ---- the canonical record of a folded record
 

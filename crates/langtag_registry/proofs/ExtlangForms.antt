@@ -1,6 +1,5 @@
 -- A language that is registered as an extended one, too, after its Prefix.
-use Rattle.langtag_scan.proofs.Prelude.{◌≡◌, ℕ, ◌≤◌, true, false, ◌==◌, ltb, List, [], ◌∷◌, ◌++◌, length, map, Some, refl, arith, eqb-true, list_all, and_parts, ltb-true, nat_tests, common_steps}
-use Rattle.std.proofs.Common.{eq-eqb}
+use Rattle.langtag_scan.proofs.Prelude.{◌≡◌, ℕ, ◌≤◌, true, false, ◌==◌, ltb, List, [], ◌∷◌, ◌++◌, length, map, Some, refl, arith, eqb-true, list_all, and_parts, ltb-true, nat_tests, common_steps, eq-eqb}
 use Rattle.langtag_scan.proofs.Grammar.{is_primary, is_extended, EachRecord, spell, IsNormal}
 use Rattle.langtag_scan.proofs.CaseLaw.{length-fold}
 use Rattle.langtag_language.specs.Language.{SpellsLanguage, IsLanguage}

@@ -1,16 +1,15 @@
 -- The first fault of a record, part by part, and that a tag is valid where it has no fault.
-use Rattle.langtag_scan.proofs.Prelude.{append_assoc, ◌≡◌, ℕ, ◌+◌, ◌≤◌, Bool, true, false, not, cond, List, [], ◌∷◌, ◌++◌, length, map, take, drop, Option, None, Some, IsTrue, slice_get, refl, sym, ap, ◌∙◌, arith, inl, inr, list_any, position, AllByRecursion, option_or, option_and_then, common_steps, at_drop_more, take_more, not-true}
+use Rattle.langtag_scan.proofs.Prelude.{append_assoc, ◌≡◌, ℕ, ◌+◌, ◌≤◌, Bool, true, false, not, cond, List, [], ◌∷◌, ◌++◌, length, map, take, drop, Option, None, Some, IsTrue, slice_get, refl, sym, ap, ◌∙◌, arith, inl, inr, list_any, position, AllByRecursion, option_or, option_and_then, common_steps, at_drop_more, take_more, not-true, option_map}
 use Rattle.std.specs.List.{position_from}
-use Rattle.std.specs.Option.{option_map}
 use Rattle.std.proofs.lemmas.Iterator.Adapters.{position_from-zero}
-use Rattle.langtag_scan.proofs.Grammar.{are_alike, language_part, Record, IsWellFormed, Spells, IsTag, IsNormal}
-use Rattle.langtag_language.specs.Language.{SpellsLanguage}
+use Rattle.langtag_scan.proofs.Grammar.{are_alike, Record, Spells, IsTag, IsNormal}
+use Rattle.langtag.proofs.Definitions.{IsGrandfathered}
 use Rattle.langtag.specs.Repeat.{repeat, repeat_index, repeat_index_after, are_alike_bytes}
 use Rattle.langtag.proofs.RepeatLaws.{IsAt-drop}
 use Rattle.langtag_fields.specs.Registered.{is_registered_language, is_registered_extlang, is_registered_variant}
 use Rattle.langtag_registry.specs.Fault.{Told, language, repeated_singleton, unless, extlang_faults, language_faults, script_faults, region_faults, variant_faults, singleton_faults, faults}
 use Rattle.langtag_registry.specs.Valid.{IsValidRecord, IsValid}
-use Rattle.langtag.specs.Registered.{IsGrandfathered}
+use Rattle.langtag_place.proofs.RepeatLaws.{slice_get-seam}
 
 abbrev pub first : List Told → Option Told
 first list = slice_get list 0
@@ -38,10 +37,6 @@ module _ {A : Type 0} (alike : A → A → Bool) where
   abbrev pub repeat_after : List A → List A → Option A
   repeat_after seen [] = None
   repeat_after seen (x ∷ xs) = cond (list_any (alike x) seen) (Some x) (repeat_after (seen ++ x ∷ []) xs)
-
-  slice_get-seam : (before after : List A) (x : A) → slice_get (before ++ x ∷ after) (length before) ≡ Some x
-  slice_get-seam [] after x = refl
-  slice_get-seam (y ∷ before) after x = slice_get-seam before after x
 
   repeat_after-index : (seen xs : List A) → option_and_then (slice_get (seen ++ xs)) (repeat_index_after alike seen xs) ≡ repeat_after seen xs
   repeat_after-index seen [] = refl
@@ -115,12 +110,6 @@ variants_none seen (v ∷ vs) all none = grind (arith, common_steps, variants_no
 
 pub no_fault_of_valid : (r : Record) → IsValidRecord r → first (faults r) ≡ None
 no_fault_of_valid r valid = grind (arith, common_steps, first_fault, variants_none, repeat-after, first_singleton)
-
--- ---- the parts of a record, and what was found
-
-pub first_at :
-    {A : Type 0} (view : A → Told) (o p : Option A) (told_first : Option Told) → o ≡ p → option_map view o ≡ told_first → option_map view p ≡ told_first
-first_at view o p list same is = ap (option_map view) (sym same) ∙ is
 
 -- ---- which of the variants it is
 

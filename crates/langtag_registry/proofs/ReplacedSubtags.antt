@@ -1,18 +1,16 @@
 -- What a subtag, a language or a whole tag becomes in a canonical form: one of its class, which is replaced by nothing more.
-use Rattle.langtag_scan.proofs.Prelude.{common_steps, ◌≡◌, ◌↔◌, ℕ, true, false, Bool, List, [], ◌∷◌, None, Some, refl, sym, ap, arith, ◌≤◌, not, leb, length, map, find, Option, is_some, IfSome, option_map, unwrap_or, ◌⊎◌, ◌<◌, IsTrue, inl, list_all, list_any, AllByRecursion, bytes_eq, bytes_decides, and_parts, leb-true, option_map_or}
-use Rattle.std.specs.Prelude.{◌&&◌}
-use Rattle.langtag_scan.proofs.Grammar.{fold_byte, fold_text, are_alike, Alike, are_alike-decides, is_primary, is_letter, is_extended, is_digit, is_script, is_region, is_variant, join, subtags, Record, IsWellFormed, Spells, spell, IsTag, IsNormal}
-use Rattle.langtag_scan.proofs.SubtagFacts.{of_primary}
-use Rattle.langtag_fields.specs.Fields.{preferred_language, preferred_region, preferred_variant, preferred_tag}
+use Rattle.langtag_scan.proofs.Prelude.{common_steps, ◌≡◌, ◌↔◌, ℕ, true, false, Bool, List, [], ◌∷◌, None, Some, refl, sym, ap, arith, ◌≤◌, not, leb, length, map, find, Option, is_some, IfSome, option_map, unwrap_or, ◌⊎◌, ◌<◌, list_all, list_any, AllByRecursion, bytes_eq, bytes_decides, and_parts, leb-true, ◌&&◌}
+use Rattle.langtag_scan.proofs.Grammar.{fold_byte, fold_text, are_alike, Alike, are_alike-decides, is_primary, is_letter, is_extended, join, subtags}
+use Rattle.langtag_scan.proofs.Laws.{of_primary}
+use Rattle.langtag_fields.specs.Fields.{preferred_language, preferred_region, preferred_variant}
 use Rattle.langtag_fields.specs.Registered.{is_registered_extlang}
-use Rattle.langtag_fields.specs.Subtags.{extlang_subtags, language_preferred, region_preferred, variant_preferred, tag_preferred}
+use Rattle.langtag_fields.specs.Subtags.{extlang_subtags, language_preferred, region_preferred, variant_preferred}
 use Rattle.langtag_registry.specs.Canonical.{canonical_language, preferred_extlang, canonical_primary, canonical_extended, canonical_variants, canonical_region}
 use Rattle.langtag_output.specs.declared.output.Output.{Output}
 use Rattle.langtag_output.specs.Output.{Pushes}
 use Rattle.langtag_output.proofs.Pushed.{pushes_both, pushes_same, pushes_joined}
 use Rattle.langtag_fields.specs.Entry.{Entry, value_for}
-use Rattle.langtag_fields.proofs.Values.{value_good, value_of_long, found_good, value_for-alike}
-use Rattle.langtag_scan.proofs.SubtagLists.{each_from_test}
+use Rattle.langtag_fields.proofs.Values.{value_good, found_good, value_for-alike}
 
 -- ---- extended subtags are registered in small letters
 

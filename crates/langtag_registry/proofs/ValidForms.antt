@@ -1,24 +1,20 @@
 -- The canonical form of a valid tag is valid where no two variants become the same, and only there; it has no extended language but for `zh-min`.
-use Rattle.langtag_fields.proofs.Values.{member_passes, language_bit_at, language_from_bit, value_good, found_good, preferred_tag-alike}
-use Rattle.langtag_scan.proofs.Grammar.{are_alike-decides, fold_text, Alike, are_alike, fold_byte, is_letter, is_digit, is_variant, are_letters, is_extended, grandfathered_tags, Grandfathered, Record, EachRecord, flat, IsWellFormed, Spells, segments, IsTag, IsNormal}
-use Rattle.langtag_scan.proofs.Prelude.{◌≡◌, ℕ, ◌≤◌, true, Bool, leb, List, [], ◌∷◌, length, map, None, Some, IsTrue, refl, sym, ap, arith, length-append, ◌-◌, ◌/◌, ◌%◌, ◌==◌, ◌&&◌, ltb, get_or, inl, inr, subst, ◌∙◌, rules, false, not, ◌||◌, codes, is_some, list_all, AllByRecursion, and_parts, leb-true, or_cases, both_ways, not-true, length-map, filter-append, common_steps, nat_tests, ◌^◌, option_map_or}
-use Rattle.std.proofs.Common.{filter, is_none}
-use Rattle.langtag_scan.proofs.CaseLaw.{alike_parts}
-use Rattle.langtag_scan.proofs.NormalTexts.{spelled_segments, spelled_once}
+use Rattle.langtag_fields.proofs.Values.{member_passes, preferred_tag-alike}
+use Rattle.langtag_scan.proofs.Grammar.{are_alike-decides, fold_text, Alike, are_alike, fold_byte, is_letter, is_digit, is_variant, is_extended, grandfathered_tags, Grandfathered, Record, EachRecord, flat, IsWellFormed, Spells, segments, IsTag, IsNormal}
+use Rattle.langtag_scan.proofs.Prelude.{◌≡◌, ℕ, ◌≤◌, true, Bool, leb, List, [], ◌∷◌, length, map, None, Some, IsTrue, refl, sym, ap, arith, length-append, ◌-◌, ◌/◌, ◌%◌, ◌==◌, ◌&&◌, inl, inr, subst, ◌∙◌, rules, false, not, ◌||◌, codes, is_some, list_all, AllByRecursion, and_parts, leb-true, or_cases, both_ways, not-true, length-map, filter-append, common_steps, ◌^◌, filter}
+use Rattle.langtag_scan.proofs.Laws.{alike_parts, spelled_segments, spelled_once, each_from_test}
 use Rattle.langtag.specs.Registered.{IsGrandfathered, IsGrandfatheredAt}
 use Rattle.langtag.specs.Repeat.{repeat}
 use Rattle.langtag_registry.specs.Canonical.{canonical_variants, preferred_extlang, canonical_extended, canonical_record, IsCanonicalForm}
 use Rattle.langtag_fields.specs.Entry.{Entry, value_for}
-use Rattle.langtag_fields.specs.Fields.{preferred_tag, preferred_language, preferred_region, preferred_variant}
-use Rattle.langtag_fields.specs.Subtags.{tag_preferred, language_preferred, region_preferred, variant_preferred, extlang_subtags, script_subtags, region_subtags, variant_subtags}
-use Rattle.langtag_scan.proofs.SubtagLists.{each_from_test}
-use Rattle.langtag_tables.specs.Numbers.{letter_number}
-use Rattle.langtag_fields.specs.Registered.{is_registered_language, is_registered_extlang, is_registered_script, is_registered_region, is_registered_variant}
+use Rattle.langtag_fields.specs.Fields.{preferred_tag}
+use Rattle.langtag_fields.specs.Subtags.{tag_preferred}
+use Rattle.langtag_fields.specs.Registered.{is_registered_language, is_registered_extlang}
 use Rattle.langtag_registry.specs.Valid.{IsValidRecord, IsValid}
 use Rattle.langtag_registry.proofs.ReplacedSubtags.{replaced-holds, if_some-map, each-map, extlang_cases}
 use Rattle.langtag_registry.proofs.ExtensionOrder.{in_order-once}
 use Rattle.langtag_registry.proofs.TwiceLaws.{canonical_record-twice, Form, whole_form, own_form, parts_form, form_of, again_form, each_from_one, canonical_record_well_formed}
-use Rattle.langtag_fields.proofs.WholeTags.{record_of, simple_record, preferred_spelled, if_some_from_test, has_bit, registered_from_bit, new_language_known, extlang_known, new_region_known, new_variant_known, whole_valid_of, is_whole_valid}
+use Rattle.langtag_fields.proofs.WholeTags.{record_of, simple_record, preferred_spelled, if_some_from_test, registered_from_bit, new_language_known, extlang_known, new_region_known, new_variant_known, whole_valid_of}
 
 -- ---- by computation
 

@@ -1,7 +1,6 @@
 use Rattle.std.proofs.Common.{List}
 use Rattle.langtag_scan.specs.Record as model
-use Rattle.langtag_extension.specs.Spelling.{SpellsExtensions}
-use Rattle.langtag_extension.specs.Text.{extensions_text}
+use Rattle.langtag.proofs.Definitions.{SpellsExtensions, extensions_text}
 use Rattle.langtag_output.specs.declared.output.Output.{Output}
 use Rattle.langtag_output.specs.Output.{Pushes}
 use Rattle.langtag_registry.proofs.ExtensionOrder.{left_from, sorted, spellings}

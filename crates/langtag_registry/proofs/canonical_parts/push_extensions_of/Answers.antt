@@ -1,6 +1,5 @@
 use Rattle.langtag_scan.proofs.Prelude.{◌≡◌, ◌==◌, true, false, sym, ap, ◌∙◌, arith, eq-eqb, ne_eqb, common_steps}
-use Rattle.langtag_extension.specs.Text.{extension_text, extensions_left}
-use Rattle.langtag_extension.specs.Noted.{of_singleton, small_singleton}
+use Rattle.langtag.proofs.Definitions.{extension_text, extensions_left, of_singleton, small_singleton}
 use Rattle.langtag_registry.proofs.ExtensionOrder.{of_singleton-next}
 use Rattle.langtag_output.proofs.Pushed.{pushes_same, pushes_next, pushes_ended}
 use Rattle.langtag_registry.proofs.canonical_parts.push_extensions_of.Goals as goal

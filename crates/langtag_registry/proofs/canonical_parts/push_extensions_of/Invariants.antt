@@ -1,9 +1,7 @@
 use Rattle.std.proofs.Common.{List}
 use Rattle.langtag_scan.specs.Record as model
-use Rattle.langtag_extension.specs.Spelling.{SpellsExtensions}
-use Rattle.langtag_extension.specs.Text.{extensions_text, extensions_left}
+use Rattle.langtag.proofs.Definitions.{SpellsExtensions, extensions_text, extensions_left, of_singleton}
 use Rattle.langtag_output.specs.declared.output.Output.{Output}
-use Rattle.langtag_extension.specs.Noted.{of_singleton}
 use Rattle.langtag_output.specs.Output.{Pushes}
 use Rattle.langtag_registry.proofs.ExtensionOrder.{spellings}
 use Rattle.langtag_registry.proofs.canonical_parts.push_extensions_of.Given as goal

@@ -1,7 +1,6 @@
 use Rattle.std.proofs.Common.{◌≡◌, List}
 use Rattle.langtag_scan.specs.Record as model
-use Rattle.langtag_extension.specs.Spelling.{SpellsExtensions}
-use Rattle.langtag_extension.specs.Text.{extensions_text, extensions_left}
+use Rattle.langtag.proofs.Definitions.{SpellsExtensions, extensions_text, extensions_left}
 use Rattle.langtag_registry.proofs.ExtensionOrder.{spellings, keys}
 use Rattle.langtag_tables.proofs.Rising.{rises_from}
 use Rattle.langtag_registry.proofs.extension_order.are_in_order.Given as goal

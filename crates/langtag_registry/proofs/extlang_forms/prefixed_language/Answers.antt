@@ -1,7 +1,6 @@
 use Rattle.std.proofs.Common.{◌≡◌, ◌∷◌, ◌++◌, [], ap, sym, subst, ◌∙◌, append_assoc}
 use Rattle.std.specs.String.{string_bytes}
-use Rattle.langtag_language.specs.Language.{IsLanguage}
-use Rattle.langtag_language.specs.Text.{language_text, primary_language_text}
+use Rattle.langtag.proofs.Definitions.{IsLanguage, language_text, primary_language_text}
 use Rattle.langtag_fields.specs.Fields.{extlang_prefix}
 use Rattle.langtag_registry.proofs.ExtlangForms.{prefixed_language, prefixed_becomes}
 use Rattle.langtag_registry.proofs.extlang_forms.prefixed_language.Goals as goal

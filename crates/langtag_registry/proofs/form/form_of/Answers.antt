@@ -1,7 +1,6 @@
 use Rattle.langtag_scan.proofs.Prelude.{◌≡◌, Some, List, ℕ, refl, sym, ◌∙◌, both_ways}
 use Rattle.langtag_scan.proofs.Grammar.{Spells, IsNormal}
-use Rattle.langtag.specs.Registered.{IsGrandfathered}
-use Rattle.langtag.specs.Text.{lang_tag_text, normal_lang_tag_text}
+use Rattle.langtag.proofs.Definitions.{IsGrandfathered, lang_tag_text, normal_lang_tag_text}
 use Rattle.langtag_registry.specs.Canonical.{IsCanonicalForm, canonical_text}
 use Rattle.langtag_fields.specs.Fields.{preferred_tag}
 use Rattle.langtag_registry.proofs.CanonicalParts.{own_record, preferred_goes, record_form}

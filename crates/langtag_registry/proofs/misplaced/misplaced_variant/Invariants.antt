@@ -1,7 +1,6 @@
 use Rattle.std.proofs.Common.{take}
-use Rattle.langtag_place.specs.Text.{variants_left}
+use Rattle.langtag.proofs.Definitions.{variants_left, normal_lang_tag_text}
 use Rattle.langtag_scan.specs.Record.{EachRecord}
-use Rattle.langtag.specs.Text.{normal_lang_tag_text}
 use Rattle.langtag_registry.specs.Matching.{AreMatching}
 use Rattle.langtag_registry.proofs.MisplacedLaws.{IsWalked}
 use Rattle.langtag_registry.proofs.misplaced.misplaced_variant.Given as goal

@@ -1,7 +1,5 @@
-use Rattle.std.proofs.Common.{None, Some, map, slice_get, sym, ap, ◌∙◌, option_and_then, option_map}
-use Rattle.std.proofs.lemmas.Iterator.Consumers.{YieldsList-from_first, nth_from_yields_List}
-use Rattle.langtag_extension.specs.Spelling.{extension_spelling}
-use Rattle.langtag_extension.specs.Text.{extension_text, extensions_left, singleton_byte}
+use Rattle.langtag_scan.proofs.Prelude.{None, Some, map, slice_get, sym, ap, ◌∙◌, option_and_then, option_map, YieldsList-from_first, nth_from_yields_List}
+use Rattle.langtag.proofs.Definitions.{extension_spelling, extension_text, extensions_left, singleton_byte}
 use Rattle.langtag.proofs.SingletonRepeats.{singleton_at, singletons}
 use Rattle.langtag_registry.proofs.validity.find_repeated_singleton.Goals as goal
 
