@@ -1,10 +1,8 @@
 -- The answer to a line, by what is found of it, as the code puts it together.
-use Rattle.std.proofs.Common.{arith, ◌≡◌, ◌∙◌, ℕ, Option, Some, List, [], ◌++◌, slice_get, ap, append_assoc, append-nil, subst, codes}
+use Rattle.langtag_scan.proofs.Prelude.{arith, ◌≡◌, ◌∙◌, ℕ, Option, Some, List, [], ◌++◌, slice_get, ap, append_assoc, append-nil, subst, codes}
+use Rattle.langtag_scan.proofs.Grammar.{EachRecord, IsTag, IsNormal}
 use Rattle.std.specs.Io.KnownBytes.{Appends}
-use Rattle.langtag_scan.specs.Record.{EachRecord}
-use Rattle.langtag_scan.specs.Tag.{IsTag, IsNormal}
-use Rattle.langtag_scan.proofs.IrregularTexts.{normal_no_private, normal_no_irregular}
-use Rattle.langtag_scan.proofs.TagLaws.{tag_private, tag_of_irregular}
+use Rattle.langtag_scan.proofs.Laws.{normal_no_private, normal_no_irregular, tag_private, tag_of_irregular}
 use Rattle.langtag_lines.specs.Lines.{ended}
 use Rattle.langtag_registry.specs.Canonical.{IsCanonicalForm}
 use Rattle.langtag_registry.specs.Fault.{Told, faults}

@@ -1,6 +1,5 @@
-use Rattle.std.proofs.Common.{◌≡◌, false, true, refl, sym, subst}
-use Rattle.std.proofs.lemmas.Result.{on_ok_weaker}
-use Rattle.langtag_scan.specs.Tag.{IsTag}
+use Rattle.langtag_scan.proofs.Prelude.{◌≡◌, false, true, refl, sym, subst, on_ok_weaker}
+use Rattle.langtag_scan.proofs.Grammar.{IsTag}
 use Rattle.langtag.specs.Text.{lang_tag_text}
 use Rattle.langtag_lines.proofs.Written.{Answers-one}
 use Rattle.langtag_registry.specs.Fault.{told}

@@ -1,5 +1,4 @@
-use Rattle.std.proofs.Common.{◌≡◌, ◌∙◌, ◌++◌, [], codes, false, flat_map, true, refl, subst}
-use Rattle.std.proofs.lemmas.Result.{on_ok_weaker}
+use Rattle.langtag_scan.proofs.Prelude.{◌≡◌, ◌∙◌, ◌++◌, [], codes, false, flat_map, true, refl, subst, on_ok_weaker}
 use Rattle.langtag_answers.specs.ShowAnswer.{IsShowAnswer, refused}
 use Rattle.langtag_answers.proofs.KindAnswers.{answer_private, answer_irregular}
 use Rattle.langtag_lines.proofs.Written.{Answers-one}
