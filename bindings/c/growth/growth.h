@@ -12,38 +12,39 @@
 #define BYTES 20000
 #endif
 
-/* A shape of texts: a beginning, then pieces, in each of which a number replaces '#'; and its n, if it has its own. */
+/* A shape of texts: a beginning, then pieces, in each of which a number replaces '#'; its n, if it has its own; and whether keys follow. */
 static const struct {
     const char *name, *head, *piece;
-    size_t bytes;
+    size_t bytes, keys;
 } shapes[] = {
-    {"letters", "", "a", 0},
-    {"hyphens", "", "-", 0},
-    {"subtags", "de", "-aaaaaaaa", 0},
-    {"variants", "de", "-a######", 0},
-    {"replaced", "iw", "-heploc", 0},
-    {"extension", "de-a", "-bbbbbbbb", 0},
-    {"extensions", "de", "-a-bb-A-cc", 0},
-    {"singletons", "de", "-#-bb", 0},
-    {"keywords", "de-u", "-##-bbb", 0},
-    {"letter_keys", "de-u", "-#z-bbb", 0},
-    {"one_key", "de-u", "-zz-bbb", 0},
-    {"private", "x", "-aaaaaaaa", 0},
-    {"singles", "de-x", "-a", 0},
-    {"wildcards", "*", "-*-aa", 0},
-    {"ranges", "de", ",a-######", 0},
-    {"weights", "de", ",a-######;q=0.#", 0},
-    {"commas", "", ",", 0},
-    {"elements", "de", " ;q=0.1\t, aa-bb", 0},
-    {"spaces", "de", " ", 0},
-    {"tags", "de", ",x-######", 0},
-    {"refused", "de-DE;q=0", ",de;q=0.5", 4000},
-    {"prefixed", "sl-rozaj", "-biske", 4000},
-    {"few_variants", "de", "-a######", 2000},
-    {"attributes", "de-u", "-a######", 4000},
-    {"transformed", "de-t-de", "-a######", 4000},
-    {"many_variants", "de", "-a######", 100000},
-    {"many_ranges", "de", ",a-######;q=0.#", 100000},
+    {"letters", "", "a", 0, 0},
+    {"hyphens", "", "-", 0, 0},
+    {"subtags", "de", "-aaaaaaaa", 0, 0},
+    {"variants", "de", "-a######", 0, 0},
+    {"replaced", "iw", "-heploc", 0, 0},
+    {"extension", "de-a", "-bbbbbbbb", 0, 0},
+    {"extensions", "de", "-a-bb-A-cc", 0, 0},
+    {"singletons", "de", "-#-bb", 0, 0},
+    {"keywords", "de-u", "-##-bbb", 0, 0},
+    {"letter_keys", "de-u", "-#z-bbb", 0, 0},
+    {"one_key", "de-u", "-zz-bbb", 0, 0},
+    {"private", "x", "-aaaaaaaa", 0, 0},
+    {"singles", "de-x", "-a", 0, 0},
+    {"wildcards", "*", "-*-aa", 0, 0},
+    {"ranges", "de", ",a-######", 0, 0},
+    {"weights", "de", ",a-######;q=0.#", 0, 0},
+    {"commas", "", ",", 0, 0},
+    {"elements", "de", " ;q=0.1\t, aa-bb", 0, 0},
+    {"spaces", "de", " ", 0, 0},
+    {"tags", "de", ",x-######", 0, 0},
+    {"refused", "de-DE;q=0", ",de;q=0.5", 4000, 0},
+    {"prefixed", "sl-rozaj", "-biske", 4000, 0},
+    {"few_variants", "de", "-a######", 2000, 0},
+    {"attributes", "de-u", "-a######", 4000, 0},
+    {"transformed", "de-t-de", "-a######", 4000, 0},
+    {"all_keys", "de-u-zz", "-bbbbbbbb", 0, 936},
+    {"many_variants", "de", "-a######", 100000, 0},
+    {"many_ranges", "de", ",a-######;q=0.#", 100000, 0},
 };
 
 /* The text of a call, and another text, which is equal unless a call has changed it. */
@@ -60,11 +61,22 @@ struct function {
 #define FUNCTION(name, ...)                                                                                            \
     static void name(void) { __VA_ARGS__; }
 
+/* Writes keys of u, which are a letter or digit and then a letter, in descending order. Returns how many bytes they take. */
+static size_t write_keys(char *to, size_t keys) {
+    for (size_t at = 0; at < keys; at++) {
+        size_t key = keys - 1 - at;
+        to[3 * at] = '-';
+        to[3 * at + 1] = "0123456789abcdefghijklmnopqrstuvwxyz"[key / 26];
+        to[3 * at + 2] = (char)('a' + key % 26);
+    }
+    return 3 * keys;
+}
+
 /* Writes a text of a shape with at most a given number of bytes. It has only whole pieces, with numbers in mixed order. */
 static size_t write_shape(char *to, size_t shape, size_t most) {
-    size_t at = strlen(shapes[shape].head), size = strlen(shapes[shape].piece);
+    size_t at = strlen(shapes[shape].head), size = strlen(shapes[shape].piece), keys = shapes[shape].keys;
     memcpy(to, shapes[shape].head, at);
-    for (uint32_t turn = 1; at + size <= most; turn++) {
+    for (uint32_t turn = 1; at + size + 3 * keys <= most; turn++) {
         uint32_t number = (uint32_t)((uint64_t)turn * 7919 % 1000003);
         for (size_t index = 0; index < size; index++) {
             char byte = shapes[shape].piece[index];
@@ -72,7 +84,7 @@ static size_t write_shape(char *to, size_t shape, size_t most) {
             if (byte == '#') number /= 10;
         }
     }
-    return at;
+    return at + write_keys(to + at, keys);
 }
 
 /* Calls each function with each text, and lets callgrind print the instructions. Each text is written only once, since that takes
