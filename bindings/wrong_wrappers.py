@@ -37,6 +37,11 @@ PY, CT, TEXTS, LIBRARY = (f"bindings/python/langtag/{name}.py" for name in ("__i
 PG, PG_SQL, PG_TYPE, PG_ORDER = (f"bindings/postgresql/{name}" for name in ("langtag_pg.c", "langtag.sql.in", "type.sql.in", "order.sql.in"))
 NATIVE, JS, CALLS, MEMORY = "bindings/python/native/", *(f"bindings/js/{name}.js" for name in ("index", "calls", "memory"))
 
+CANONICAL = """langtag_canonical(text.data, text.len, room, sizeof room);
+        TAKE_BACK();
+        answer = PyBytes_FromStringAndSize(len <= sizeof room ? room : NULL, (Py_ssize_t)len);
+        if (answer && len > sizeof room) {"""
+
 
 class Fault(NamedTuple):
     """A planted fault: a file, the old text, the new text, the file of rows or the test that finds it (all rows if it is empty), and
@@ -204,11 +209,11 @@ FAULTS = {
         Fault(PY, "tag = tag._with_keyword(key, text)", "tag = self._with_keyword(key, text)", "keywords.txt"),
         Fault(PY, 'raise EditError("value", value)', 'raise EditError("key", key)', "keywords.txt"),
         Fault(PY, "without_keyword(tag, key) if value is None", "without_keyword(tag, key) if not value", "keywords.txt"),
-        Fault(CT, "self._tag(made) if made else None", "self._tag(made or self._data)", "locale.txt", "AssertionError"),
+        Fault(PY, "return self._base(text) if text else None", "return self._base(text or self._data)", "locale.txt", "AssertionError"),
         Fault(PY, "[modifier[0] : sum(modifier)]", "[modifier[1] : sum(modifier)]", "posix.txt"),
         Fault(PY, "_backend.attributes(", "_backend.transform(", "unicode.txt"),
         Fault(PY, "_backend.every_field(", "_backend.every_keyword(", "unicode.txt"),
-        swapped(CT, "_calls.maximized", "_calls.minimized", "likely.txt"),
+        swapped(PY, "_backend.maximized", "_backend.minimized", "likely.txt"),
         Fault(PY, "if answer == 1 and weight > 0", "if answer == 1", "negotiation.txt"),
         Fault(PY, "key=lambda weighted: -weighted.weight", "key=lambda weighted: weighted.weight", "negotiation.txt"),
         Fault(PY, '._data.replace(b"-*", b"") for', "._data for", "negotiation.txt"),
@@ -233,10 +238,10 @@ FAULTS = {
         Fault(NATIVE + "parts.c", "== LANGTAG_VALID;", "!= LANGTAG_VALIDITY_NONE;", "table.txt"),
         Fault(NATIVE + "value.c", "lt_changed(&self->text, langtag_fold);\n    if (!folded) return -1;",
               "lt_changed(&self->text, langtag_recommend);\n    if (!folded) return -1;", "table.txt"),
-        Fault(NATIVE + "value.c", "case Py_LE: return order <= 0", "case Py_LE: return order < 0", "table.txt"),
+        Fault(NATIVE + "value.c", "y->text.data, y_len), 0, operator)", "y->text.data, y_len), operator == Py_LE, operator)", "table.txt"),
         Fault(NATIVE + "value.c", "== (operator == Py_EQ)", "== true", "table.txt"),
-        tested(NATIVE + "forms.c", "if (wanted <= sizeof room) return", "if (wanted <= 514) return", "Values.test_lengths"),
-        Fault(NATIVE + "forms.c", "made->parts = like->parts;", "", "table.txt"),
+        tested(NATIVE + "calls.c", CANONICAL, CANONICAL.replace("> sizeof room", "> 514"), "Values.test_lengths"),
+        Fault(NATIVE + "calls.c", CANONICAL, CANONICAL.replace("> sizeof room", "> sizeof room && len < 1000"), "lengths.txt"),
         Fault(NATIVE + "calls.c", "langtag_viable_len(text.data, text.len);", "langtag_viable_len(text.data, text.len & 0x7fff);", "table.txt"),
         Fault(NATIVE + "calls.c", "(unsigned)found.distance)", "(unsigned)found.distance % 100)", "choices.txt"),
         Fault(NATIVE + "parts.c", "langtag_is_canonical, langtag_is_locale}", "langtag_is_canonical, langtag_is_canonical}", "locale.txt"),
@@ -254,11 +259,7 @@ FAULTS = {
         Fault(NATIVE + "calls.c", "TAKE_BACK();\n            answer = lt_numbers", "answer = lt_numbers", "Threads", ""),
         tested(NATIVE + "parts.c", "    LET_GO(self->text.len);\n    bool answer = properties", "    LET_GO(0);\n    bool answer = properties",
                "Threads.test_that_each_call_on_a_long_text_lets_others_run"),
-        tested(NATIVE + "forms.c", "    LET_GO(text->len);\n    size_t wanted = form(", "    LET_GO(0);\n    size_t wanted = form(",
-               "Threads.test_that_each_call_on_a_long_text_lets_others_run"),
         tested(NATIVE + "value.c", "if (!kind || self->text.owner) {", "if (!kind) {", "Threads.test_that_only_one_of_two_calls_of_init_succeeds"),
-        Fault(NATIVE + "forms.c", "if (wanted <= sizeof room) return tag_of(self, PyBytes_FromStringAndSize(room, (Py_ssize_t)wanted), NULL);",
-              "if (wanted <= sizeof room || wanted > 1000) return tag_of(self, PyBytes_FromStringAndSize(room, wanted < 192 ? (Py_ssize_t)wanted : 190), NULL);", "lengths.txt"),
         tested(NATIVE + "value.c", "        Py_INCREF(Py_NotImplemented);\n        return Py_NotImplemented;", "        return PyBool_FromLong(operator == Py_NE);",
               "Values.test_other_objects"),
         tested(NATIVE + "value.c", "    self->kind = other->kind;\n", "", "Values.test_a_copy_is_the_tag"),

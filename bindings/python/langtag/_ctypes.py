@@ -3,15 +3,12 @@ is set."""
 from __future__ import annotations
 
 import functools
-from typing import TYPE_CHECKING, Any, ClassVar
+from typing import Any, ClassVar
 
 from . import _calls
 from ._calls import *
 from ._library import prepare as prepare
 from ._texts import Text, bytes_of, unchangeable, uninitialized
-
-if TYPE_CHECKING:
-    from . import Tag
 
 
 @functools.total_ordering
@@ -67,10 +64,6 @@ class TagBase(_Value):
         start, length = self._parts[2 * number : 2 * number + 2]
         return str(self._data[start : start + length], "ascii") or None
 
-    def _tag(self, data: bytes) -> Tag:
-        tag: Tag = self._base(data)
-        return tag
-
     @property
     def language(self) -> str | None:
         return self._part(0)
@@ -106,28 +99,6 @@ class TagBase(_Value):
     @property
     def is_locale(self) -> bool:
         return _calls.is_locale(self._data)
-
-    def canonical(self) -> Tag:
-        return self._tag(_calls.canonical(self._data))
-
-    def maximized(self) -> Tag:
-        return self._tag(_calls.maximized(self._data))
-
-    def minimized(self) -> Tag:
-        return self._tag(_calls.minimized(self._data))
-
-    def extensions_form(self) -> Tag:
-        return self._tag(_calls.extensions_form(self._data))
-
-    def locale_form(self) -> Tag | None:
-        made = _calls.locale_form(self._data)
-        return self._tag(made) if made else None
-
-    def recommended(self) -> Tag:
-        return self._tag(_calls.recommend(self._data))
-
-    def folded(self) -> str:
-        return str(_calls.fold(self._data), "ascii")
 
 
 class RangeBase(_Value):

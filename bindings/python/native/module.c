@@ -22,7 +22,8 @@ static int add_class(PyObject *module, const char *name, const char *full, initp
 }
 
 static int fill(PyObject *module) {
-    return add_class(module, "TagBase", "langtag._native.TagBase", lt_tag_init, lt_tag_methods, lt_tag_members) ||
+    static PyMethodDef none[] = {{NULL, NULL, 0, NULL}};
+    return add_class(module, "TagBase", "langtag._native.TagBase", lt_tag_init, none, lt_tag_members) ||
            add_class(module, "RangeBase", "langtag._native.RangeBase", range_init, lt_range_methods, lt_range_members) ? -1 : 0;
 }
 

@@ -72,8 +72,6 @@ PyObject *lt_append(PyObject *list, PyObject *item); /* the list with the item, 
 PyObject *lt_numbers(const size_t *numbers, size_t count);
 
 int lt_lacks(Value *self); /* whether __init__ was not called; sets an exception in that case */
-PyTypeObject *lt_base(PyTypeObject *type); /* TagBase or RangeBase; NULL with an exception */
-PyObject *lt_new(PyTypeObject *type, PyObject *arguments, PyObject *named);
 int lt_init(PyObject *self, PyObject *arguments, PyObject *named, int is_tag);
 int lt_tag_init(PyObject *self, PyObject *arguments, PyObject *named);
 Value *lt_as_tag(PyObject *object); /* NULL with an exception if it is not a Tag */
@@ -82,5 +80,5 @@ PyObject *lt_data(PyObject *self, void *unused);
 
 extern PyType_Slot lt_value_slots[];
 extern PyGetSetDef lt_tag_members[], lt_range_members[];
-extern PyMethodDef lt_tag_methods[], lt_range_methods[], lt_functions[];
+extern PyMethodDef lt_range_methods[], lt_functions[];
 #endif

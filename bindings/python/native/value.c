@@ -13,7 +13,7 @@ static void dealloc(PyObject *self) {
 }
 
 /* Returns the first base type whose tp_dealloc is the function above. A class in Python has its own tp_dealloc. */
-PyTypeObject *lt_base(PyTypeObject *type) {
+static PyTypeObject *base_of(PyTypeObject *type) {
     while (type && (PyType_GetFlags(type) & Py_TPFLAGS_HEAPTYPE)) {
         if ((destructor)PyType_GetSlot(type, Py_tp_dealloc) == dealloc) return type;
         type = (PyTypeObject *)PyType_GetSlot(type, Py_tp_base);
@@ -22,8 +22,8 @@ PyTypeObject *lt_base(PyTypeObject *type) {
     return NULL;
 }
 
-PyObject *lt_new(PyTypeObject *type, PyObject *arguments, PyObject *named) {
-    PyTypeObject *base = lt_base(type);
+static PyObject *new(PyTypeObject *type, PyObject *arguments, PyObject *named) {
+    PyTypeObject *base = base_of(type);
     Value *self = base ? (Value *)((allocfunc)PyType_GetSlot(type, Py_tp_alloc))(type, 0) : NULL;
     if (!self) return NULL;
     self->hash = -1;
@@ -38,7 +38,7 @@ int lt_lacks(Value *self) {
 }
 
 bool lt_is_tag(PyObject *object) {
-    PyTypeObject *base = lt_base(Py_TYPE(object));
+    PyTypeObject *base = base_of(Py_TYPE(object));
     if (!base) PyErr_Clear();
     return base && (initproc)PyType_GetSlot(base, Py_tp_init) == lt_tag_init;
 }
@@ -136,15 +136,6 @@ static Py_hash_t hash(PyObject *object) {
     return self->hash;
 }
 
-static int ordered(int operator, int32_t order) {
-    switch (operator) {
-    case Py_LT: return order < 0;
-    case Py_LE: return order <= 0;
-    case Py_GT: return order > 0;
-    default: return order >= 0;
-    }
-}
-
 static PyObject *compare(PyObject *a, PyObject *b, int operator) {
     Value *x = (Value *)a, *y = (Value *)b;
     if (!PyObject_TypeCheck(b, x->base)) {
@@ -155,12 +146,12 @@ static PyObject *compare(PyObject *a, PyObject *b, int operator) {
     size_t x_len = x->text.len, y_len = y->text.len;
     if (operator == Py_EQ || operator == Py_NE)
         return PyBool_FromLong(langtag_eq(x->text.data, x_len, y->text.data, y_len) == (operator == Py_EQ));
-    return PyBool_FromLong(ordered(operator, langtag_cmp(x->text.data, x_len, y->text.data, y_len)));
+    Py_RETURN_RICHCOMPARE(langtag_cmp(x->text.data, x_len, y->text.data, y_len), 0, operator);
 }
 
 static PyMemberDef members[] = { /* Python 3.9 and later read this; for 3.8 the Python class adds __weakref__ */
     {"__weaklistoffset__", T_PYSSIZET, offsetof(Value, weak), READONLY, NULL}, {NULL, 0, 0, 0, NULL}};
 
 PyType_Slot lt_value_slots[] = {
-    {Py_tp_new, lt_new}, {Py_tp_dealloc, dealloc}, {Py_tp_str, str},
+    {Py_tp_new, new}, {Py_tp_dealloc, dealloc}, {Py_tp_str, str},
     {Py_tp_hash, hash}, {Py_tp_richcompare, compare}, {Py_tp_members, members}, {0, NULL}};
