@@ -92,14 +92,6 @@ class TagBase(_Value):
     def is_valid(self) -> bool:
         return _calls.validity(self._data)[0] == 1
 
-    @property
-    def is_canonical(self) -> bool:
-        return _calls.is_canonical(self._data)
-
-    @property
-    def is_locale(self) -> bool:
-        return _calls.is_locale(self._data)
-
 
 class RangeBase(_Value):
     __slots__ = ()

@@ -1,4 +1,4 @@
-/* The parts and properties of a tag. */
+/* The parts of a tag, and its validity. */
 #include "native.h"
 
 /* The closure is the number of the part. */
@@ -13,18 +13,12 @@ static PyObject *tag_kind(PyObject *object, void *unused) {
     return lt_lacks((Value *)object) ? NULL : PyLong_FromUnsignedLong(((Value *)object)->kind);
 }
 
-static bool is_valid(const char *bytes, size_t len) {
-    langtag_span invalid;
-    return langtag_validity(bytes, len, &invalid) == LANGTAG_VALID;
-}
-
-/* Returns whether a tag has a property. The closure is the index of the property. */
-static PyObject *tag_is(PyObject *object, void *index) {
-    static bool (*const properties[])(const char *bytes, size_t len) = {is_valid, langtag_is_canonical, langtag_is_locale};
+static PyObject *tag_is_valid(PyObject *object, void *unused) {
     Value *self = (Value *)object;
+    langtag_span invalid;
     if (lt_lacks(self)) return NULL;
     LET_GO(self->text.len);
-    bool answer = properties[(intptr_t)index](self->text.data, self->text.len);
+    bool answer = langtag_validity(self->text.data, self->text.len, &invalid) == LANGTAG_VALID;
     TAKE_BACK();
     return PyBool_FromLong(answer);
 }
@@ -38,12 +32,8 @@ PyGetSetDef lt_tag_members[] = {
     {"_variants", tag_part, NULL, NULL, (void *)3},
     {"_extensions", tag_part, NULL, NULL, (void *)4},
     {"private_use", tag_part, NULL, "The private-use part with its x, such as x-mine. For a private-use tag it is the whole text.", (void *)5},
-    {"is_valid", tag_is, NULL,
+    {"is_valid", tag_is_valid, NULL,
      "Whether the tag is valid (RFC 5646 section 2.2.9) by IANA's registry of REGISTRY_DATE. It is valid if it is\n"
      "grandfathered, or if its subtags are registered, it has at most one extended language, and no variant or singleton is\n"
-     "repeated. Deprecated subtags are valid.", (void *)0},
-    {"is_canonical", tag_is, NULL, "Whether the tag equals its canonical form, ignoring case.", (void *)1},
-    {"is_locale", tag_is, NULL,
-     "Whether the tag is a Unicode locale identifier (UTS #35, part 1), as Intl of JavaScript requires: True for de-AT, False\n"
-     "for zh-yue and x-a.", (void *)2},
+     "repeated. Deprecated subtags are valid.", NULL},
     {NULL, NULL, NULL, NULL, NULL}};
