@@ -13,6 +13,7 @@ import random
 import statistics
 import sys
 import time
+import timeit
 
 import babel.core
 import langtag
@@ -66,11 +67,7 @@ def sorting(tags: list[langtag.Tag]) -> float:
 
 def timed() -> dict[str, float]:
     """Returns the median of each call in nanoseconds, and that of some sorts, which run between the rounds."""
-    runs = {}
-    for name, (call, values) in CALLS.items():
-        space = {**NAMES, "values": values}
-        exec(f"def run():\n for it in values: {call}", space)
-        runs[name] = (space["run"], len(values))
+    runs = {name: (timeit.Timer(f"for it in values: {call}", globals={**NAMES, "values": values}), len(values)) for name, (call, values) in CALLS.items()}
     times: dict[str, list[float]] = {name: [] for name in [*runs, "200,000 tags sorted"]}
     order, numbers, tags = list(runs), random.Random(1), tags_to_sort()
     gc.disable()
@@ -78,9 +75,7 @@ def timed() -> dict[str, float]:
         numbers.shuffle(order)
         for name in order:
             run, count = runs[name]
-            begun = time.perf_counter_ns()
-            run()
-            times[name].append((time.perf_counter_ns() - begun) / count)
+            times[name].append(run.timeit(1) * 1e9 / count)
         if number % (ROUNDS // SORTS + 1) == 0:
             times["200,000 tags sorted"].append(sorting(tags))
     gc.enable()

@@ -56,7 +56,10 @@ def of_tag(ask, otherwise="-"):
 
 
 def extensions_of(tag):
-    return [[key, *subtags] for key, subtags in tag.extensions.items()]
+    """Returns the extensions as they are written. The dictionary has the first one of each singleton."""
+    written = re.split("-(?=.-)", tag._extensions) if tag._extensions else []
+    assert tag.extensions == {it[0].lower(): tuple(it.split("-")[1:]) for it in reversed(written)}
+    return written
 
 
 def parts(tag):
@@ -74,28 +77,18 @@ def answer_tag(text):
     assert tag.language is None or tag.language == "-".join(languages)
     found = {
         "language": tag.language and " ".join(languages), "script": tag.script, "region": tag.region, "variants": " ".join(tag.variants) or None,
-        "extensions": " ".join(map("-".join, extensions_of(tag))) or None, "private_use": tag.private_use and tag.private_use.replace("-", " "),
+        "extensions": " ".join(extensions_of(tag)) or None, "private_use": tag.private_use and tag.private_use.replace("-", " "),
         "repeated_variant": tag.repeated_variant, "repeated_singleton": tag.repeated_singleton,
         "recommended": tag.recommended(), "folded": tag.folded(), "hash": f"{tag.fnv1a():016x}",
     }
     return "\n".join([kind, *(f"  {name} {value}" for name, value in found.items() if value is not None)])
 
 
-def first_of_each(line):
-    """Returns a line of the answer to `tag` with only the first extension of each singleton, in lowercase."""
-    name, *words = line.split()
-    first = {}
-    for word in words if name == "extensions" else ():
-        first.setdefault(word[0].lower(), word[0].lower() + word[1:])
-    return " ".join(["  extensions", *first.values()]) if first else line
-
-
 def adapted(row):
-    """Returns the answer as Python gives it: of the extensions of a tag only the first of each singleton, and no offsets of repeats."""
+    """Returns the answer as Python gives it: without offsets of repeats, and with lowercase keys in a dictionary."""
     if row.call in ("keywords", "transform"):
-        return re.sub(r"\w\w=", lambda key: key[0].lower(), row.wanted)  # a dict has lowercase keys
-    lines = row.wanted.split("\n")
-    return "\n".join(first_of_each(line) for line in lines if not line.startswith("  at_")) if row.call == "tag" else row.wanted
+        return re.sub(r"\w\w=", lambda key: key[0].lower(), row.wanted)
+    return re.sub(r"\n  at_\w+ \d+", "", row.wanted)
 
 
 def answer_validity(tag):
@@ -141,10 +134,8 @@ def answer_scan(text):
     if tag is not None and tag.kind is langtag.Kind.IRREGULAR:
         what.append(GRANDFATHERED.index(tag.grandfathered))
     if tag is not None and tag.kind is langtag.Kind.NORMAL:
-        if tag.repeated_singleton:  # a dict has only the first extension of a singleton
-            return None
         what.append(len(tag.language))
-        for part in (tag.script, tag.region, "-".join(tag.variants), "-".join(map("-".join, extensions_of(tag))), tag.private_use):
+        for part in (tag.script, tag.region, "-".join(tag.variants), "-".join(extensions_of(tag)), tag.private_use):
             what.append(what[-1] + (1 + len(part) if part else 0))
     return shown(what)
 

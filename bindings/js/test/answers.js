@@ -58,7 +58,14 @@ const tagsOf = (list) => wordsOf(list).map((text) => LanguageTag.parse(text));
 
 const kindOf = (text) => KINDS[made(LanguageTag, text)?.kind ?? "none"];
 
-const extensionsOf = (tag) => [...tag.extensions].map(([key, subtags]) => [key, ...subtags].join("-"));
+/** Returns the extensions as they are written. The map has the first one of each singleton. */
+function extensionsOf(tag) {
+    const { length } = [tag.language, tag.script, tag.region, ...tag.variants].filter(Boolean).join("-");
+    const rest = tag.kind === "normal" ? tag.text.slice(length + 1, tag.privateUse && -tag.privateUse.length - 1) : "";
+    const written = rest.split(/-(?=.-)/).filter(Boolean), first = new Map(written.map((it) => [it[0].toLowerCase(), it.slice(2)]).reverse());
+    assert(first.size === tag.extensions.size && [...tag.extensions].every(([key, subtags]) => subtags.join("-") === first.get(key)), "the map");
+    return written;
+}
 
 function answerTag(text) {
     const tag = made(LanguageTag, text);
@@ -74,22 +81,9 @@ function answerTag(text) {
     return [KINDS[tag.kind], ...Object.entries(found).filter(([, value]) => value !== undefined).map((pair) => `  ${pair.join(" ")}`)].join("\n");
 }
 
-/** Returns the answer as JavaScript gives it: of the extensions of a tag only the first of each singleton, in lowercase, and no
- *  offsets of repeats. */
-export function adapted({ call, wanted }) {
-    if (call === "keywords" || call === "transform") return wanted.replace(/\w\w=/g, (key) => key.toLowerCase()); // a map has lowercase keys
-    if (call !== "tag") return wanted;
-    const lines = wanted.split("\n").filter((line) => !line.startsWith("  at_"));
-    return lines.map((line) => {
-        if (!line.startsWith("  extensions ")) return line;
-        const first = new Map();
-        for (const it of line.trim().split(" ").slice(1)) {
-            const key = it[0].toLowerCase();
-            if (!first.has(key)) first.set(key, key + it.slice(1));
-        }
-        return ["  extensions", ...first.values()].join(" ");
-    }).join("\n");
-}
+/** Returns the answer as JavaScript gives it: without offsets of repeats, and with lowercase keys in a map. */
+export const adapted = ({ call, wanted }) =>
+    call === "keywords" || call === "transform" ? wanted.replace(/\w\w=/g, (key) => key.toLowerCase()) : wanted.replace(/\n  at_\w+ \d+/g, "");
 
 function answerValidity(tag) {
     const wrong = tag.invalidSubtag;
@@ -121,7 +115,6 @@ function answerScan(text) {
     const what = [stopLength(text), fronts, kindOf(text)];
     if (tag?.kind === "irregular") what.push(GRANDFATHERED.indexOf(tag.grandfathered));
     if (tag?.kind === "normal") {
-        if (tag.repeatedSingleton !== undefined) return undefined; // a map has only the first extension of a singleton
         what.push(tag.language.length);
         for (const part of [tag.script, tag.region, tag.variants.join("-"), extensionsOf(tag).join("-"), tag.privateUse]) what.push(what.at(-1) + (part ? 1 + part.length : 0));
     }
