@@ -209,7 +209,7 @@ FAULTS = {
         Fault(PY, "tag = tag._with_keyword(key, text)", "tag = self._with_keyword(key, text)", "keywords.txt"),
         Fault(PY, 'raise EditError("value", value)', 'raise EditError("key", key)', "keywords.txt"),
         Fault(PY, "without_keyword(tag, key) if value is None", "without_keyword(tag, key) if not value", "keywords.txt"),
-        Fault(PY, "return self._base(text) if text else None", "return self._base(text or self._data)", "locale.txt", "AssertionError"),
+        Fault(PY, "self._made(_backend.locale_form(self._data))", "self._base(_backend.locale_form(self._data) or self._data)", "locale.txt", "AssertionError"),
         Fault(PY, "[modifier[0] : sum(modifier)]", "[modifier[1] : sum(modifier)]", "posix.txt"),
         Fault(PY, "_backend.attributes(", "_backend.transform(", "unicode.txt"),
         Fault(PY, "_backend.every_field(", "_backend.every_keyword(", "unicode.txt"),
