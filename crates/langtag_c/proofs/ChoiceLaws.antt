@@ -1,8 +1,6 @@
 -- What is said of the best tag for a reader, of the range that it serves, and of tags that are prepared.
-use Rattle.langtag_scan.proofs.Prelude.{◌≡◌, ℕ, ◌<◌, ◌≤◌, List, length, Option, None, Some, unwrap_or, sym, subst, arith, true, false, true≢false, Bool, not, ◌||◌, Bor, [], ◌∷◌, get_or, option_map, refl, ap, ◌∙◌, slice_get, common_steps, length-map, get_or-map, slice_get_within, slice_get-map, and_parts, nat_tests, list_all}
-use Rattle.std.specs.Option.{IfSome}
-use Rattle.langtag_range.specs.Element.{Element, items}
-use Rattle.langtag_range.specs.Wanted.{wanted_elements}
+use Rattle.langtag_scan.proofs.Prelude.{◌≡◌, ℕ, ◌<◌, ◌≤◌, List, length, Option, None, Some, unwrap_or, sym, subst, arith, true, false, true≢false, Bool, not, ◌||◌, Bor, [], ◌∷◌, get_or, option_map, refl, ap, ◌∙◌, slice_get, common_steps, length-map, get_or-map, slice_get_within, slice_get-map, and_parts, nat_tests, list_all, IfSome}
+use Rattle.langtag_range.proofs.Definitions.{Element, items, wanted_elements}
 use Rattle.langtag_choice.specs.Best.{IsChoice, IsMatchOf, Pair}
 use Rattle.langtag_choice.specs.Suitable.{AreSuitable}
 use Rattle.langtag_span.specs.RangePlaces.{IsRangeAt, range_count}

@@ -1,24 +1,15 @@
 -- What is written for a caller: it is not empty where a text is due, and what is cut out of a text is UTF-8.
-use Rattle.langtag_scan.proofs.Prelude.{◌≡◌, ℕ, ◌+◌, ◌≤◌, true, List, [], ◌∷◌, leb, length, Option, None, refl, arith, ◌↔◌, Some, unwrap_or, sym, subst, ◌∙◌, inl, and_parts, false≢true, false_from_ne_true, IsUtf8-from_ascii, IsAscii-nil, IsAscii-cons, AllByRecursion, nat_tests}
-use Rattle.std.specs.Str.{IsUtf8}
+use Rattle.langtag_scan.proofs.Prelude.{◌≡◌, ℕ, ◌+◌, ◌≤◌, true, List, [], ◌∷◌, leb, length, Option, None, refl, arith, ◌↔◌, Some, unwrap_or, sym, subst, ◌∙◌, inl, and_parts, false≢true, false_from_ne_true, IsUtf8-from_ascii, IsAscii-nil, IsAscii-cons, AllByRecursion, nat_tests, IsUtf8, IfSome, MatchOption}
 use Rattle.langtag.specs.Form.{IsForm}
 use Rattle.langtag_output.specs.Writes.{Writes}
-use Rattle.langtag_scan.proofs.Ascii.{alphanumeric_below, IsAscii-each}
-use Rattle.langtag_scan.proofs.Joins.{length-join}
-use Rattle.langtag_scan.proofs.SubtagFacts.{IsSubtag, of_extension_subtag, of_primary, of_region}
-use Rattle.langtag_scan.proofs.SubtagLists.{join-subtags}
-use Rattle.langtag_scan.proofs.TagLaws.{tag_normal}
+use Rattle.langtag_scan.proofs.Laws.{alphanumeric_below, IsAscii-each, length-join, IsSubtag, of_extension_subtag, of_primary, of_region, join-subtags, tag_normal}
 use Rattle.langtag_scan.proofs.Grammar.{is_alphanumeric, is_extension_subtag, is_letter, is_primary, is_region, subtags, IsNormal, IsTag}
 use Rattle.langtag_keyword.specs.Edit.{edited_record, invalid_type, invalid_type_from, is_unicode_key, keyword_error}
 use Rattle.langtag_span.proofs.TagLengths.{IsUtf8-joined, some_tag}
-use Rattle.std.specs.Prelude.{IfSome, MatchOption}
 use Rattle.langtag_output.specs.WritesWhole.{WritesWhole}
 use Rattle.langtag_registry.specs.Canonical.{IsCanonicalForm}
-use Rattle.langtag_likely.specs.Maximal.{IsMaximalForm, IsMinimalForm, maximal_record, minimal_record}
+use Rattle.langtag_likely.proofs.Definitions.{IsMaximalForm, IsMinimalForm, maximal_record, minimal_record, read_place, IsTagOfName, NamesTag, with_said, IsPosixName}
 use Rattle.langtag_range.specs.Locale.{locale_place}
-use Rattle.langtag_likely.specs.PlatformNames.{read_place}
-use Rattle.langtag_likely.specs.Posix.{IsTagOfName, NamesTag, with_said}
-use Rattle.langtag_likely.specs.ToPosix.{IsPosixName}
 use Rattle.langtag.proofs.FormLaws.{form_is_tag}
 use Rattle.langtag_likely.proofs.GoodForms.{maximal_well_formed, minimal_well_formed}
 use Rattle.langtag_likely.proofs.PosixLaws.{said_well_formed}

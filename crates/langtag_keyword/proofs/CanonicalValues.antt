@@ -1,17 +1,11 @@
 -- A canonical value is its own canonical value: no replacement is replaced, and the empty value stays.
 use Rattle.langtag_keyword.proofs.Common.{common_steps, arith, ◌≡◌, ℕ, true, not, cond, List, [], ◌∷◌, map, Option, None, Some, unwrap_or, refl, ap, false≢true, not-true, list_all, is_none, fold_text-twice, join-subtags, are_alike, fold_text, are_alike-decides, join, subtags, Alias, TypeAlias, alias_for, type_alias_for, unicode_value, both, found_has}
-use Rattle.langtag_scan.proofs.CaseLaw.{join-fold, map-twice, segments-fold}
+use Rattle.langtag_scan.proofs.CaseLaw.{join-fold, map-twice, subtags-fold}
 use Rattle.langtag_scan.specs.Case.{fold_byte}
 use Rattle.langtag_keyword.specs.Aliases.{subdivision_aliases, transform_type_aliases, unicode_type_aliases}
 use Rattle.langtag_keyword.specs.Form.{has_subdivision, subdivision, transform_value, unicode_type}
 use Rattle.langtag_keyword.proofs.Aliases.{alias_for-alike, type_alias_for-alike}
 use Rattle.langtag_keyword.proofs.Found.{found_is}
-
--- ---- case
-
-pub subtags-fold : (text : List ℕ) → subtags (fold_text text) ≡ map fold_text (subtags text)
-subtags-fold [] = refl
-subtags-fold (b ∷ text) = segments-fold (b ∷ text)
 
 -- ---- by computation
 

@@ -1,9 +1,5 @@
 -- What is found in a list has what all of the list have, and what follows from that.
-use Rattle.std.proofs.lemmas.Grind.{common_steps}
-use Rattle.std.proofs.Common.{arith, ◌≡◌, Bool, true, false, List, [], ◌∷◌, ◌&&◌, Some, refl}
-use Rattle.std.proofs.lemmas.Bool.{false≢true}
-use Rattle.std.specs.Prelude.{find}
-use Rattle.std.specs.List.{AllByRecursion, list_all}
+use Rattle.langtag_scan.proofs.Prelude.{common_steps, arith, ◌≡◌, Bool, true, false, List, [], ◌∷◌, ◌&&◌, Some, refl, false≢true, find, AllByRecursion, list_all}
 
 pub both : (x y : Bool) → (x && y) ≡ true → (x ≡ true) × (y ≡ true)
 both true y is = (refl, is)

@@ -1,11 +1,5 @@
 -- Numbers that rise, and the least of numbers in any order.
-use Rattle.std.proofs.Common.{◌≡◌, ℕ, zero, suc, ◌+◌, ◌<◌, ◌≤◌, Bool, true, false, ◌==◌, ◌&&◌, ◌||◌, List, [], ◌∷◌, ◌++◌, length, get_or, set, take, drop, refl, ap, sym, subst, ◌∙◌, arith, append_assoc}
-use Rattle.std.proofs.Math.Dec.{leb, ltb}
-use Rattle.std.specs.List.{filter}
-use Rattle.std.specs.List.Sorted.{IsNonDecreasing}
-use Rattle.std.proofs.lemmas.Bool.Decides.{nat_tests}
-use Rattle.std.proofs.lemmas.List.{at_drop_more, drop-drop, drop-set-lt, get_or-take, length-set, length-take, take-take, take_all, take_more_set}
-use Rattle.std.proofs.lemmas.List.Folds.{list_any_at, list_any-append}
+use Rattle.langtag_scan.proofs.Prelude.{◌≡◌, ℕ, zero, suc, ◌+◌, ◌<◌, ◌≤◌, Bool, true, false, ◌==◌, ◌&&◌, ◌||◌, List, [], ◌∷◌, ◌++◌, length, get_or, set, take, drop, refl, ap, sym, subst, ◌∙◌, arith, append_assoc, leb, ltb, filter, IsNonDecreasing, nat_tests, at_drop_more, drop-drop, drop-set-lt, get_or-take, length-set, length-take, take-take, take_all, take_more_set, list_any_at, list_any-append}
 use Rattle.langtag_keyword.specs.Least.{HoldsLeast, IsOffered, IsSettled, Least, AscendsFrom, has, is_within, ascending_after}
 
 -- ---- numbers that rise

@@ -1,26 +1,20 @@
 -- The numbers of subtags are in the order of the alphabet, and tell the subtags.
-use Rattle.langtag_keyword.proofs.Common.{each-weaker, ◌≡◌, ℕ, zero, suc, ◌+◌, ◌*◌, ◌<◌, ◌≤◌, ◌-◌, Bool, true, false, not, cond, ◌==◌, ◌&&◌, ◌||◌, List, [], ◌∷◌, ◌++◌, length, get_or, take, drop, map, append_assoc, append-nil, refl, sym, ap, subst, ◌∙◌, arith, flat_map-append, AllByRecursion, filter, flat_map, list_any, and_parts, false≢true, nat_tests, at_drop_more, take_more, pushes_both, pushes_ended, pushes_same, Output, Pushes, length-fold, IsSubtag, fold_text, are_alphanumeric, is_alphanumeric, in_alphabet, is_before, IsOffered, Least, key_of, number_text, order_number}
-use Rattle.std.proofs.Common.{◌/◌, ◌%◌}
-use Prim.Native.Nat.{◌^◌}
+use Rattle.langtag_keyword.proofs.Common.{is_alphanumeric, and_parts, are_alphanumeric, each-weaker, ◌≡◌, ℕ, zero, suc, ◌+◌, ◌*◌, ◌<◌, ◌≤◌, ◌-◌, Bool, true, false, not, cond, ◌==◌, ◌&&◌, ◌||◌, List, [], ◌∷◌, ◌++◌, length, get_or, take, drop, map, append_assoc, append-nil, refl, sym, ap, subst, ◌∙◌, arith, flat_map-append, AllByRecursion, filter, flat_map, list_any, false≢true, nat_tests, at_drop_more, take_more, pushes_both, pushes_ended, pushes_same, Output, Pushes, length-fold, IsSubtag, fold_text, in_alphabet, is_before, IsOffered, Least, key_of, number_text, order_number}
+use Rattle.langtag_scan.proofs.Prelude.{◌/◌, ◌%◌, ◌^◌, ltb-false, ltb-true, ltb, filter-append, All, All-from_recursion}
+use Rattle.langtag_scan.proofs.Grammar.{folded_number}
+use Rattle.langtag_scan.specs.Case.{fold_byte}
+use Rattle.langtag_scan.specs.Class.{is_digit, is_letter}
 use Rattle.std.proofs.Math.Nat.{mod-eq_of_lt, pow-suc}
 use Rattle.std.specs.Int.{byte_at, bytes_high_first}
-use Rattle.std.proofs.lemmas.Bool.{ltb-false, ltb-true}
-use Rattle.std.proofs.Math.Dec.{ltb}
-use Rattle.std.specs.List.{All}
-use Rattle.std.proofs.lemmas.List.Elements.{All-filter, All-from_recursion, filter-append}
+use Rattle.std.proofs.lemmas.List.Elements.{All-filter}
 use Rattle.std.proofs.lemmas.Nat.{div-mul-add, mul-add-lt}
 use Rattle.langtag_output.specs.Output.{with_subtag}
-use Rattle.langtag_scan.specs.Case.{fold_byte, folded_number}
-use Rattle.langtag_scan.specs.Class.{is_digit, is_letter}
 use Rattle.langtag_keyword.specs.Least.{HoldsLeast, AscendsFrom, has, is_within, left_number}
 use Rattle.langtag_keyword.proofs.AlphabetLaws.{Rise, Under, rise-in_alphabet, any-put, each-alphabet, each-put}
 use Rattle.langtag_keyword.proofs.LeastLaws.{AllUpTo, above, above-all, above-none, above-split}
+use Rattle.langtag_scan.proofs.FoldedNumbers.{IsByte, fold_digits}
 
 -- ---- bytes
-
-pub record IsByte (b : ℕ) : Type 0 where
-  pub some : 0 < b
-  pub most : b < 256
 
 abbrev pub AreBytes : List ℕ → Type 0
 AreBytes s = AllByRecursion IsByte s
@@ -31,16 +25,8 @@ pub record HasNumber (s : List ℕ) : Type 0 where
   pub short : length s ≤ 8
   pub bytes : AreBytes s
 
-folded_byte : (b : ℕ) → is_alphanumeric b ≡ true → IsByte (fold_byte b)
-unfolding is_letter is_digit fold_byte
-folded_byte b h = record { some = grind (arith, nat_tests); most = grind (arith, nat_tests) }
-
-folded_bytes : (s : List ℕ) → are_alphanumeric s ≡ true → AreBytes (fold_text s)
-folded_bytes [] h = tt
-folded_bytes (b ∷ s) h = let k = and_parts (is_alphanumeric b) (are_alphanumeric s) h in (folded_byte b k.0, folded_bytes s k.1)
-
 pub has_number : (s : List ℕ) → IsSubtag s → HasNumber (fold_text s)
-has_number s is = record { some = omega (arith, length-fold s, is.some); short = omega (arith, length-fold s, is.short); bytes = folded_bytes s is.alphanumeric }
+has_number s is = record { some = omega (arith, length-fold s, is.some); short = omega (arith, length-fold s, is.short); bytes = fold_digits s is.alphanumeric }
 
 -- ---- their number
 

@@ -12,7 +12,7 @@ ghost use Rattle.langtag_keyword.specs.Least.{IsOffered, key_of, order_number};
 
 use crate::alias::canonical_value;
 use crate::alphabet::{are_few, push_each_lowercase};
-use crate::key_set::place_of;
+use crate::key_set::{CHARACTERS, place_of};
 use crate::key_values::values_after;
 use crate::keys::Keys;
 use crate::least_numbers::{FEW, LeastNumbers, MANY, order_number};
@@ -22,8 +22,8 @@ use langtag_scan::Subtags;
 
 /// Appends the keywords of a string, each once, in the order of their keys.
 ///
-/// The string is read once to find its keys, or several times if they are many. If it is short, it is read up to each key to
-/// find its value, and otherwise once for each first character of the keys.
+/// The string is read once to find its keys, or several times if they are many. To find the values, it is read up to each
+/// key, or once for each first character of the keys if there are more than 36.
 pub fn push_keywords(out: &mut Output<'_>, text: &str, keys: Keys)
     requires { AllByRecursion IsSubtag (subtags text.now) }
     ensures { Pushes (spec.keywords_form (opens_keyword keys) (canonical_value_of keys) (subtags text.now)) out.old out.new }
@@ -70,7 +70,7 @@ fn push_each(out: &mut Output<'_>, text: &str, keys: Keys, numbers: &[u64])
     requires numbers { All (λ number. IsSubtag (key_of number)) numbers.now }
     ensures { Pushes (flat_map (λ number. spec.keyword_form (opens_keyword keys) (canonical_value_of keys) (subtags text.now) (key_of number)) numbers.now) out.old out.new }
 {
-    if are_few(Some(text)) {
+    if numbers.len() <= CHARACTERS {
         return push_each_of_few(out, text, keys, numbers);
     }
     push_each_of_many(out, text, keys, numbers);

@@ -1,20 +1,14 @@
 -- The form of a language identifier has a language, and maybe a script and a region.
 use Rattle.langtag_keyword.proofs.Common.{each-weaker, ◌≡◌, ℕ, Bool, true, cond, List, [], ◌∷◌, ◌++◌, ◌&&◌, length, fold, Option, Some, None, unwrap_or, refl, sym, ap, ◌∙◌, append_assoc, arith, common_steps, length-map, flat_map, list_all, AllByRecursion, IsTrue, with_joined, of_primary, IsSubtag, of_variant, are_alike, is_region, is_script, is_variant, IsWellFormed, Record, extension_flat, one_flat, private_part_flat, spell, segments, Alias, TypeAlias, alias_for, is_unicode_language, both, found_has, nat_tests, each-append}
-use Rattle.std.specs.Prelude.{IfSome}
+use Rattle.langtag_scan.proofs.Prelude.{IfSome}
+use Rattle.langtag_scan.proofs.Grammar.{fold_byte, Spells, IsNormal}
 use Rattle.langtag_case.proofs.RecommendedLaws.{recommended_alike}
 use Rattle.langtag_case.specs.RecommendedCase.{recommended_text}
 use Rattle.langtag.proofs.FieldClasses.{from_region, from_script}
-use Rattle.langtag_likely.specs.Aliases.{language_aliases, region_replacements}
-use Rattle.langtag.specs.FieldClasses.{is_region_field, is_script_field}
-use Rattle.langtag_likely.specs.Likely.{Likely, are_alike_fields, language_alone, likely_for, looked_up, or_else, or_other}
-use Rattle.langtag.specs.Fields.{Fields, subtag_of}
-use Rattle.langtag_likely.specs.LikelySubtags.{language_rows, likely_subtags, other_rows}
-use Rattle.langtag_likely.specs.Matching.{language_replaced, region_alone}
+use Rattle.langtag_likely.proofs.Definitions.{language_aliases, region_replacements, Likely, are_alike_fields, language_alone, likely_for, looked_up, or_else, or_other, language_rows, likely_subtags, other_rows, language_replaced, region_alone}
+use Rattle.langtag.proofs.Definitions.{is_region_field, is_script_field, Fields, subtag_of}
 use Rattle.langtag_output.specs.Output.{with_subtag}
 use Rattle.langtag_scan.proofs.NormalTexts.{spelled_once}
-use Rattle.langtag_scan.specs.Case.{fold_byte}
-use Rattle.langtag_scan.specs.Record.{Spells}
-use Rattle.langtag_scan.specs.Tag.{IsNormal}
 use Rattle.langtag_locale.specs.Locale.{is_locale_record}
 use Rattle.langtag_locale.specs.LocaleForm.{IsLocaleForm, extensions_in_order, identifier_form, language_after, locale_record, locale_text, new_variants}
 use Rattle.langtag_locale.specs.LocaleForm.{record_fields, sign_for, forms, variant_form}

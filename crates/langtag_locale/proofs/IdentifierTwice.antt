@@ -3,10 +3,8 @@ use Rattle.langtag_keyword.proofs.Common.{rules, arith, ◌≡◌, ℕ, Bool, tr
 use Rattle.std.proofs.lemmas.Bool.{cond_both, or_parts}
 use Rattle.langtag_likely.proofs.AlikeFields.{likely_for-alike}
 use Rattle.langtag.proofs.Alike.{are_alike-left, are_alike-right}
-use Rattle.langtag_likely.specs.Aliases.{language_aliases, region_replacements}
-use Rattle.langtag_likely.specs.Likely.{language_alone, likely_for, or_other}
+use Rattle.langtag_likely.proofs.Definitions.{language_aliases, region_replacements, language_alone, likely_for, or_other, language_replaced, region_alone, with_language_from}
 use Rattle.langtag.specs.Fields.{Fields, subtag_of}
-use Rattle.langtag_likely.specs.Matching.{language_replaced, region_alone, with_language_from}
 use Rattle.langtag_locale.specs.LocaleForm.{forms, has_variant, language_after, sign_for, variant_form, identifier_form, new_variants}
 use Rattle.langtag_locale.proofs.LocaleCase.{has_variant-alike, is_gone, region_by, replaced_by, replacement}
 use Rattle.langtag_keyword.proofs.Aliases.{alias_for-alike, type_alias_for-alike}
@@ -15,16 +13,14 @@ use Rattle.langtag_locale.proofs.LocaleTables.{heirs_last, is_last_language, is_
 use Rattle.langtag_keyword.proofs.AlphabetLaws.{in_alphabet-twice, each-alphabet}
 use Rattle.langtag_locale.specs.LocaleAliases as list
 use Rattle.langtag_locale.specs.LocaleForm as form
+use Rattle.langtag_likely.proofs.CanonicalFields.{none_is}
+use Rattle.langtag_scan.proofs.BoolFacts.{list_all-weaker}
 
 -- ---- what is not found
 
 pub not_some : {X : Type 0} (o : Option X) → is_some o ≡ false → o ≡ None
 not_some None is = refl
 not_some (Some x) is = absurd cc
-
-pub none_is : {X : Type 0} (o : Option X) → is_none o ≡ true → o ≡ None
-none_is None is = refl
-none_is (Some x) is = absurd cc
 
 -- nothing is found if nothing passes the test
 pub none_found : {X : Type 0} (good test : X → Bool) (xs : List X) → list_all good xs ≡ true → ((x : X) → good x ≡ true → test x ≡ false) → find test xs ≡ None
@@ -36,13 +32,6 @@ none_found good test (x ∷ xs) all never =
 -- two tests do not pass together
 pub not_both : (a b : Bool) → (a ≡ true → b ≡ true → ⊥) → (a && b) ≡ false
 not_both a b never = false_from_ne_true (a && b) (λ is. let parts = both a b is in never parts.0 parts.1)
-
--- what all have, all have that follows from it
-pub all_weaker : {X : Type 0} (good fair : X → Bool) → ((x : X) → good x ≡ true → fair x ≡ true) → (xs : List X) → list_all good xs ≡ true → list_all fair xs ≡ true
-all_weaker good fair leads [] all = refl
-all_weaker good fair leads (x ∷ xs) all =
-    let parts = both (good x) (list_all good xs) all in
-    ap (λ b. b && list_all fair xs) (leads x parts.0) ∙ all_weaker good fair leads xs parts.1
 
 -- what holds of texts holds of one that is alike one of them
 pub among : (P : List ℕ → Type 0) → ((a b : List ℕ) → Alike b a → P a → P b) → (ws : List (List ℕ)) → AllByRecursion P ws → (x : List ℕ) → has_variant ws x ≡ true → P x
@@ -181,7 +170,7 @@ module _ (variants : List (List ℕ)) (f : Fields) where
     where
       signs : list_all {X = Alias} (λ alias. is_last_language alias.new) list.sign_languages ≡ true
       signs =
-          all_weaker (λ (alias : Alias). is_last_sign alias.new) (λ (alias : Alias). is_last_language alias.new)
+          list_all-weaker (λ (alias : Alias). is_last_sign alias.new) (λ (alias : Alias). is_last_language alias.new)
           (λ alias last. (both (is_last_language alias.new) (not (are_alike alias.new (codes "sgn"))) last).0) list.sign_languages sign_languages_last
 
   last_sign : sign_for final ≡ None

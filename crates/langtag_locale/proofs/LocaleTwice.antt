@@ -1,12 +1,11 @@
 -- The form of a Unicode locale identifier is its own form, and alike identifiers have the same form.
 use Rattle.langtag_keyword.proofs.Common.{each-weaker, common_steps, arith, ◌≡◌, ℕ, true, false, not, ◌||◌, ◌==◌, List, [], ◌∷◌, map, Some, refl, ap, ◌∙◌, eqb-true, Bool, cond, ◌&&◌, sym, Option, None, option_map, unwrap_or, not-true, IsTrue, AllByRecursion, flat_map, list_all, list_any, each-append, each_from_test, are_alike, fold_text, Extension, IsWellFormed, IsWellFormedExtension, Record, spell, is_unicode_key, unicode_form, are_different_variants, are_fields, is_language_or_none, is_of, is_transform, is_unicode_language, is_key, value_of, before_key, both, found_has, is_none, option_map_or, extension_found, is_field_key, find_extension, find}
 use Rattle.langtag.specs.Repeat.{are_alike_bytes, repeat}
-use Rattle.langtag.specs.Fields.{Fields, subtag_of}
+use Rattle.langtag.proofs.Definitions.{Fields, subtag_of, singletons}
 use Rattle.langtag_likely.specs.Matching.{language_replaced}
-use Rattle.langtag_scan.proofs.SubtagLists.{test_from_each}
+use Rattle.langtag_scan.proofs.Laws.{test_from_each, alike_parts}
 use Rattle.langtag_scan.specs.Case.{fold_byte}
 use Rattle.langtag_locale.specs.Locale.{is_unicode_subtag, is_locale_extension, is_locale_record, IsLocale}
-use Rattle.langtag_extension.specs.Noted.{singletons}
 use Rattle.langtag_locale.specs.LocaleForm.{extension_at, extensions_in_order, forms, locale_extension_form, new_variants, identifier_form, locale_record}
 use Rattle.langtag_locale.specs.LocaleForm.{record_fields, transform_language_form, IsLocaleForm, locale_text}
 use Rattle.langtag_unicode.proofs.CanonicalKeywords.{form-blocks, key-fold, unicode_key-fold, values, values-are}
@@ -24,7 +23,6 @@ use Rattle.langtag_locale.proofs.IdentifierTwice.{identifier_form-twice, new_var
 use Rattle.langtag_unicode.proofs.TransformParts.{identifier-no_field, identifier-variants}
 use Rattle.langtag_case.proofs.RecommendedLaws.{recommended_alike}
 use Rattle.langtag_case.specs.RecommendedCase.{recommended_text}
-use Rattle.langtag_scan.proofs.CaseLaw.{alike_parts}
 use Rattle.langtag_locale.proofs.LocaleCase.{locale-alike, text-alike}
 
 -- ---- the variants

@@ -1,26 +1,19 @@
 -- The form of any tag is that of a Unicode locale identifier, and its own form; alike tags have the same form.
 use Rattle.langtag_keyword.proofs.Common.{◌≡◌, ℕ, ◌+◌, Bool, true, false, List, [], ◌∷◌, ◌++◌, drop, length, Option, Some, None, inl, inr, refl, sym, ap, ◌∙◌, arith, append_assoc, cond, map, false≢true, length-append, IsCharBoundary-after_ascii, IsUtf8, flat_map, nat_tests, is_extended, EachRecord, IsWellFormed, Record, extension_flat, one_flat, private_part_flat, join, common_steps, fold_text-twice, AlikeRecords, Alike, fold_text}
-use Rattle.std.proofs.Common.{◌⊎◌}
-use Rattle.std.proofs.Math.Seq.{get_or-append_seam}
-use Rattle.std.proofs.lemmas.List.{drop_at, length_push}
-use Rattle.std.proofs.lemmas.Option.{none-some, same_Some}
-use Rattle.std.specs.Str.{IsCharBoundary}
+use Rattle.langtag_scan.proofs.Prelude.{◌⊎◌, get_or-append_seam, drop_at, length_push, none-some, IsCharBoundary}
+use Rattle.langtag_scan.proofs.Grammar.{Spells, IsNormal, fold_record}
+use Rattle.std.proofs.lemmas.Option.{same_Some}
 use Rattle.langtag.specs.Part.{PartOf}
-use Rattle.langtag.specs.Registered.{IsGrandfathered}
+use Rattle.langtag.proofs.Definitions.{IsGrandfathered, SpellsLanguageExtension}
 use Rattle.langtag_language.proofs.Rules.{subtags-extension}
-use Rattle.langtag_language.specs.Language.{SpellsLanguageExtension}
 use Rattle.langtag_fields.specs.Fields.{preferred_tag}
 use Rattle.langtag_fields.specs.Registered.{is_registered_extlang}
-use Rattle.langtag_scan.proofs.NormalTexts.{normal_or_not, spelled_once}
-use Rattle.langtag_scan.specs.Record.{Spells}
-use Rattle.langtag_scan.specs.Tag.{IsNormal}
+use Rattle.langtag_scan.proofs.Laws.{normal_or_not, spelled_once, alike_normal, alike_parts}
 use Rattle.langtag_tables.proofs.Letters.{extended_primary}
 use Rattle.langtag_locale.specs.Locale.{IsLocale, is_locale_record}
 use Rattle.langtag_locale.specs.LocaleForm.{IsLocaleForm, IsWholeForm, extlang_replaced, locale_text, record_form, replace_language, IsOwnForm}
 use Rattle.langtag.proofs.RegisteredLaws.{grandfathered_alike}
 use Rattle.langtag_fields.proofs.Values.{preferred_tag-alike, registered_extlang-alike}
-use Rattle.langtag_scan.proofs.CaseLaw.{alike_normal, alike_parts}
-use Rattle.langtag_scan.specs.AlikeRecords.{fold_record}
 use Rattle.langtag_locale.proofs.LocaleCase.{locale-alike, text-alike}
 use Rattle.langtag_locale.proofs.LocaleTwice.{text-own}
 

@@ -1,16 +1,11 @@
 -- The first extension of a text that extensions spell, and what is left of it.
 use Rattle.langtag_keyword.proofs.Common.{◌≡◌, ℕ, ◌<◌, ◌≤◌, ◌+◌, ◌-◌, true, List, [], ◌∷◌, ◌++◌, length, take, drop, Option, None, Some, inl, inr, refl, ap, sym, subst, ◌∙◌, arith, map, false, nat_lt, Bool, flat_map, list_all, position_or_len, AllByRecursion, eqb_tells, nat_tests, at_drop_more, drop-drop, drop-take, take-take, length-take, length-drop, drop_all, take_all, Extension, extension_flat, join, segments, segments_left, NoHyphenWithin, subtags, extension_texts, extension_spelling, SpellsExtensions, common_steps, IsSubtag, length_with_hyphens, before_key, is_new_key, keywords_after}
-use Rattle.std.proofs.Common.{Bor, MatchOption, slice_index}
-use Rattle.std.proofs.lemmas.Bool.{cases_lt}
-use Rattle.std.proofs.lemmas.List.{take-append-drop}
-use Rattle.std.proofs.lemmas.List.Splits.{join_with_byte-slice_split, slice_split_first, slice_split_none}
-use Rattle.std.proofs.Math.Seq.{take-length}
+use Rattle.langtag_scan.proofs.Prelude.{Bor, MatchOption, slice_index, cases_lt, take-append-drop, join_with_byte-slice_split, slice_split_first, slice_split_none, take-length, fails_before_first}
 use Rattle.langtag_extension.specs.ExtensionTexts.{IsFirstExtension, goes_on, opens, texts_left}
 use Rattle.langtag_extension.proofs.ExtensionLookUp.{join-group_texts, join-spellings, group_texts-split}
 use Rattle.langtag_extension.proofs.Rules.{extension_texts_spelled}
 use Rattle.langtag_span.specs.Spans.{HasBytes, end_of, span_between, span_text, IsWithin}
 use Rattle.langtag_span.specs.declared.span.Span.{Span}
-use Rattle.std.proofs.lemmas.List.Sums.{fails_before_first}
 use Rattle.langtag_range.specs.Element.{is_comma, is_ows, items}
 use Rattle.langtag_span.specs.Negotiation.{filled_items}
 use Rattle.langtag_scan.proofs.SubtagLists.{length-subtags, subtags-segments}

@@ -1,16 +1,11 @@
 -- No tag is empty, so a part that is set is one by its text. The texts of parts are UTF-8.
 use Rattle.langtag_keyword.proofs.Common.{◌≡◌, ℕ, ◌≤◌, true, false, List, [], ◌∷◌, drop, length, inl, inr, arith, Option, None, Some, unwrap_or, refl, nat_tests, extension_flat, length-join, of_primary, IsSubtag, of_variant, AllByRecursion, flat_map, IsUtf8, common_steps, is_extended, is_variant, join, each_subtag, option_map}
-use Rattle.std.proofs.Common.{MatchOption}
-use Rattle.langtag_scan.specs.Grandfathered.{grandfathered_tags, irregular_texts}
-use Rattle.langtag_scan.specs.Record.{flat}
-use Rattle.langtag_scan.specs.Tag.{IsNormal, IsTag}
-use Rattle.langtag_scan.proofs.SubtagFacts.{of_extended, of_region, of_script}
+use Rattle.langtag_scan.proofs.Prelude.{MatchOption, IsUtf8-from_ascii}
+use Rattle.langtag_scan.proofs.Grammar.{grandfathered_tags, irregular_texts, flat, IsNormal, IsTag}
+use Rattle.langtag_scan.proofs.Laws.{of_extended, of_region, of_script, IsAscii-private, IsAscii-spelled, tag_private}
 use Rattle.langtag_private.proofs.Rules.{is_private_use-from_rule, IsPrivate-from_test}
 use Rattle.langtag.proofs.RegisteredLaws.{alike_some}
-use Rattle.std.proofs.lemmas.Str.{IsUtf8-from_ascii}
-use Rattle.langtag_scan.proofs.Ascii.{IsAscii-private, IsAscii-spelled}
 use Rattle.langtag_extension.proofs.Rules.{all_subtags-flat}
-use Rattle.langtag_scan.proofs.TagLaws.{tag_private}
 use Rattle.langtag.specs.Text.{part_text}
 use Rattle.langtag.specs.declared.part.Part.{Part}
 use Rattle.langtag_span.specs.NumberedParts.{PartName, language, script, region, variants, extensions, private_use, IsPartText, IsTextOf, SetsNamedPart}

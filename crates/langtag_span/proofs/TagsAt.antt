@@ -1,24 +1,17 @@
 -- What spans of a text are: tags, where the test says so.
 use Rattle.langtag_keyword.proofs.Common.{◌≡◌, ℕ, zero, suc, ◌+◌, ◌<◌, Bool, true, false, List, [], ◌∷◌, Some, length, take, refl, cond, arith, ◌&&◌, get_or, Option, None, ◌≤◌, sum_by, length-map, length-slice_split, common_steps, and_parts, false_from_ne_true, nat_tests}
-use Rattle.std.proofs.Common.{ltb}
-use Rattle.std.specs.List.{onto_first, slice_get, slice_split}
-use Rattle.std.proofs.lemmas.List.{nil_from_length, get_or-map}
-use Rattle.std.proofs.lemmas.List.Splits.{slice_split-cons_yes, slice_split-cons_no}
-use Rattle.std.proofs.lemmas.List.Sums.{sum_by-cons}
+use Rattle.langtag_scan.proofs.Prelude.{ltb, onto_first, slice_get, slice_split, nil_from_length, get_or-map, slice_split-cons_yes, slice_split-cons_no, sum_by-cons, ForSome, both_ways, and_from, or_cases, or_right, ltb-true}
+use Rattle.langtag_scan.proofs.Grammar.{IsTag}
 use Rattle.langtag_match.specs.AcceptLanguage.{StandsAt}
-use Rattle.langtag_range.specs.Element.{is_comma, items}
-use Rattle.std.specs.Option.{ForSome}
-use Rattle.std.proofs.lemmas.Bool.{both_ways, and_from, or_cases, or_left, or_right, ltb-true}
-use Rattle.langtag_scan.specs.Tag.{IsTag}
-use Rattle.langtag_scan.proofs.NormalTexts.{normal_from_runs, runs_from_normal}
-use Rattle.langtag_scan.proofs.TagLaws.{tag_normal, tag_private, tag_of_irregular}
+use Rattle.langtag_range.proofs.Definitions.{is_comma, items, listed}
+use Rattle.std.proofs.lemmas.Bool.{or_left}
+use Rattle.langtag_scan.proofs.Laws.{normal_from_runs, runs_from_normal, tag_normal, tag_private, tag_of_irregular}
 use Rattle.langtag_private.proofs.Rules.{IsPrivate-from_test, is_private_use-from_rule}
 use Rattle.langtag_span.specs.Spanned.{AreTagsAt, HasTag, IsTagAt, range_at, ranges_at}
 use Rattle.langtag_span.specs.Spans.{HasBytes, empty_at, end_of, has_bytes, span_text}
 use Rattle.langtag_span.specs.TagsAt.{is_tag, tag_at, tags_at}
 use Rattle.langtag.proofs.RegisteredLaws.{alike_some}
 use Rattle.langtag_span.specs.declared.span.Span.{Span}
-use Rattle.langtag_range.specs.Listed.{listed}
 
 abbrev pub width : List ℕ → ℕ
 width item = length item + 1

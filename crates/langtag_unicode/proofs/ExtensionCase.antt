@@ -1,9 +1,9 @@
 -- The case of letters changes nothing in the forms of extensions but case.
 use Rattle.langtag_keyword.proofs.Common.{common_steps, ◌≡◌, ℕ, Bool, false, ◌||◌, ◌==◌, List, [], ◌∷◌, ◌++◌, map, Option, None, Some, option_map, unwrap_or, refl, ap, ◌∙◌, arith, list_any, nat_tests, classes-fold, fold_text-twice, length-fold, AlikeRecords, Alike, are_alike, fold_text, is_region, is_script, is_variant, Extension, Record, Classes, join, subtags, type_alias_for, after_one, are_different_variants, are_fields, extension_form, forms_after, in_alphabet, language_form, is_language_or_none, is_of, is_transform, one_of, transform_form, unicode_form, unicode_value, before_key, is_key, value_of, is_field_key}
-use Rattle.langtag.proofs.Alike.{AlikeFields}
+use Rattle.langtag.proofs.Alike.{AlikeFields, same_fields}
 use Rattle.langtag.proofs.FormLaws.{alike_forms}
 use Rattle.langtag.specs.Form.{IsAlikeForm}
-use Rattle.langtag_scan.proofs.CaseLaw.{fold_byte-twice, join-fold, map-twice}
+use Rattle.langtag_scan.proofs.CaseLaw.{fold_byte-twice, join-fold, map-twice, subtags-fold, fold_extension-twice}
 use Rattle.langtag_scan.specs.AlikeRecords.{fold_extension}
 use Rattle.langtag_keyword.specs.Aliases.{transform_type_aliases}
 use Rattle.langtag_keyword.specs.Form as form
@@ -12,9 +12,9 @@ use Rattle.langtag_unicode.specs.ExtensionsForm.{IsExtensionsForm}
 use Rattle.langtag_unicode.specs.Identifier.{first_subtag, identifier_fields, identifier_variants}
 use Rattle.langtag_keyword.proofs.AlphabetLaws.{in_alphabet-alike}
 use Rattle.langtag_unicode.proofs.CanonicalKeywords.{key-fold}
-use Rattle.langtag_keyword.proofs.CanonicalValues.{replaced, subtags-fold}
+use Rattle.langtag_keyword.proofs.CanonicalValues.{replaced}
 use Rattle.langtag_keyword.proofs.KeywordLaws.{form_by, form_tested, forms-next}
-use Rattle.langtag_unicode.proofs.FormTwice.{language-parts, lower_fields, same_fields, unicode_language-fold}
+use Rattle.langtag_unicode.proofs.FormTwice.{language-parts, lower_fields, unicode_language-fold}
 use Rattle.langtag_keyword.proofs.Aliases.{alias_for-alike, type_alias_for-alike}
 use Rattle.langtag_keyword.proofs.KeywordsInForm.{same-values, values_in_form}
 use Rattle.langtag_unicode.proofs.WalkLaws.{field_key-fold}
@@ -138,13 +138,10 @@ transform_form-fold ss =
 pub is_of-fold : (n : ℕ) (e : Extension) → is_of n (fold_extension e) ≡ is_of n e
 is_of-fold n e = ap (λ b. b == n) (fold_byte-twice e.singleton)
 
-pub extension-twice : (e : Extension) → fold_extension (fold_extension e) ≡ fold_extension e
-extension-twice e = rw (fold_byte-twice e.singleton, lower-twice e.subtags) refl
-
 -- ---- the forms of the first `u` and the first `t`
 
 one_form-fold : (u t : Bool) (e : Extension) → fold_extension (extension_form u t (fold_extension e)) ≡ fold_extension (extension_form u t e)
-one_form-fold u t e = grind (arith, common_steps, form_tested, is_of-fold, is_transform-fold, form_by, unicode-fold, transform_form-fold, extension-twice)
+one_form-fold u t e = grind (arith, common_steps, form_tested, is_of-fold, is_transform-fold, form_by, unicode-fold, transform_form-fold, fold_extension-twice)
 
 forms-fold : (u t : Bool) (es : List Extension) → map fold_extension (forms_after u t (map fold_extension es)) ≡ map fold_extension (forms_after u t es)
 forms-fold u t [] = refl

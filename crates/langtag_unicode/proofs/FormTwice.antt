@@ -1,9 +1,7 @@
 -- The form of the extension `u`, and of `t`, is its own form.
 use Rattle.langtag_keyword.proofs.Common.{common_steps, arith, ◌≡◌, ℕ, Bool, true, false, not, ◌&&◌, ◌==◌, List, [], ◌∷◌, ◌++◌, length, map, refl, sym, ap, subst, ◌∙◌, ◌||◌, classes-fold, fold_text-twice, length-fold, fold_text, is_primary, is_variant, one_flat, Extension, IsWellFormed, IsWellFormedExtension, Record, Classes, subtags, are_different_variants, are_fields, in_alphabet, is_language_or_none, is_transform, is_unicode_language, language_form, one_of, transform_form, transform_value, unicode_form, unicode_value, extension_form, forms_after, is_of, before_key, is_key, is_field_key, both, AllByRecursion}
-use Rattle.langtag.specs.FieldClasses.{is_region_field, is_script_field}
-use Rattle.langtag.specs.Fields.{Fields, subtag_of}
-use Rattle.langtag_scan.specs.Case.{fold_byte}
-use Rattle.langtag_scan.specs.Class.{is_region, is_script}
+use Rattle.langtag.proofs.Definitions.{is_region_field, is_script_field, Fields, subtag_of}
+use Rattle.langtag_scan.proofs.Grammar.{fold_byte, is_region, is_script}
 use Rattle.langtag_keyword.specs.Form.{extensions_record}
 use Rattle.langtag_unicode.specs.Identifier.{first_subtag, identifier_fields, identifier_flat, identifier_variants}
 use Rattle.langtag_keyword.proofs.AlphabetLaws.{in_alphabet-twice, each-alphabet}
@@ -17,6 +15,7 @@ use Rattle.langtag.proofs.FormLaws.{composed}
 use Rattle.langtag_unicode.specs.ExtensionsForm.{IsExtensionsForm}
 use Rattle.langtag_keyword.proofs.KeywordLaws.{form_by, form_tested, forms-next}
 use Rattle.langtag_keyword.specs.Form as form
+use Rattle.langtag.proofs.Alike.{same_fields}
 
 -- ---- the extension `u`
 
@@ -29,9 +28,6 @@ unicode-twice ss good =
     ∙ ap (λ t. front ++ t) (keywords-again is_key unicode_value ss (values-are ss good) front plain unicode-settled)
 
 -- ---- the parts of a language identifier are read again
-
-pub same_fields : (f g : Fields) → f.language ≡ g.language → f.script ≡ g.script → f.region ≡ g.region → f ≡ g
-same_fields f g one two three = grind (arith, common_steps)
 
 region_again : (s : List ℕ) (vs : List (List ℕ)) → is_region_field s ≡ true → AreVariants vs → first_subtag (one_of is_region (one_flat (subtag_of s) ++ vs)) ≡ s
 region_again s vs is variants = grind (arith, common_steps, variant-no_region)

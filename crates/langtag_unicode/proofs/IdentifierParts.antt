@@ -4,8 +4,7 @@ use Rattle.std.specs.Option.{option_and_then}
 use Rattle.langtag.specs.Repeat.{repeat, repeat_index_after}
 use Rattle.langtag_keyword.proofs.AlphabetLaws.{Rise, rise-in_alphabet, lower-in_alphabet, after-apart, under-each}
 use Rattle.langtag.proofs.FieldClasses.{from_region, from_script}
-use Rattle.langtag.specs.FieldClasses.{is_region_field, is_script_field}
-use Rattle.langtag.specs.Fields.{Fields}
+use Rattle.langtag.proofs.Definitions.{is_region_field, is_script_field, Fields}
 use Rattle.langtag_unicode.specs.Identifier.{first_subtag, identifier_fields}
 
 module _ {A : Type 0} (alike : A → A → Bool) where

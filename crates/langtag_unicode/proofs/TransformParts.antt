@@ -1,11 +1,9 @@
 -- The parts of `t`: a language identifier whose parts are found again, and fields that have values.
 use Rattle.langtag_keyword.proofs.Common.{IsTrue, each-weaker, ◌≡◌, ℕ, ◌≤◌, Bool, true, false, ◌&&◌, ◌||◌, List, [], ◌∷◌, ◌++◌, length, map, find, Option, Some, None, option_map, unwrap_or, refl, sym, ap, subst, ◌∙◌, append-nil, append_assoc, arith, false≢true, AllByRecursion, flat_map, list_all, list_any, nat_tests, length-fold, of_extension_subtag, each-append, each_from_test, each_subtag, subtags-joined, are_alike, fold_text, are_alike-decides, is_extension_subtag, is_region, is_script, is_variant, one_flat, join, subtags, TypeAlias, after_one, are_different_variants, are_fields, before_key, value_of, is_field_key, both, found_has}
-use Rattle.std.proofs.Common.{leb}
-use Rattle.std.proofs.lemmas.Bool.{leb-true}
-use Rattle.langtag.specs.FieldClasses.{is_region_field, is_script_field}
-use Rattle.langtag.specs.Fields.{Fields, subtag_of}
-use Rattle.langtag_scan.proofs.Disjoint.{first_no_digit, letter_no_digit, region_short, region_two_three, script_four, variant_long}
-use Rattle.langtag_scan.specs.Class.{are_letters}
+use Rattle.langtag_scan.proofs.Prelude.{leb, leb-true}
+use Rattle.langtag_scan.proofs.Grammar.{are_letters}
+use Rattle.langtag.proofs.Definitions.{is_region_field, is_script_field, Fields, subtag_of}
+use Rattle.langtag_scan.proofs.Disjoint.{first_no_digit, letter_no_digit, region_short, region_two_three, script_four, variant_long, variant_four}
 use Rattle.langtag_tables.proofs.Letters.{primary_letters}
 use Rattle.langtag_keyword.specs.Aliases.{transform_type_aliases}
 use Rattle.langtag_keyword.specs.Form as form
@@ -35,9 +33,6 @@ script-no_field (b ∷ s) is = (letters-no_field (b ∷ s) (script_four (b ∷ s
 region-no_field : (s : List ℕ) → is_region_field s ≡ true → AreNoFields (one_flat (subtag_of s))
 region-no_field [] is = tt
 region-no_field (b ∷ s) is = grind (arith, nat_tests, region_two_three (b ∷ s) is, letters-no_field (b ∷ s), long-no_field (b ∷ s))
-
-variant_four : (v : List ℕ) → is_variant v ≡ true → 4 ≤ length v
-variant_four v is = grind (arith, nat_tests, variant_long v is)
 
 variants-no_field : (vs : List (List ℕ)) → AreVariants vs → AreNoFields vs
 variants-no_field = each-weaker (λ v. IsTrue (is_variant v)) (λ s. is_field_key s ≡ false) (λ v is. let four = variant_four v is in long-no_field v (omega (arith, four)))

@@ -5,7 +5,7 @@
 
 use crate::erased::keyword::alias::canonical_value;
 use crate::erased::keyword::alphabet::{are_few, push_each_lowercase};
-use crate::erased::keyword::key_set::place_of;
+use crate::erased::keyword::key_set::{place_of, CHARACTERS};
 use crate::erased::keyword::key_values::values_after;
 use crate::erased::keyword::keys::Keys;
 use crate::erased::keyword::least_numbers::{order_number, LeastNumbers, FEW, MANY};
@@ -15,9 +15,9 @@ use crate::erased::scan::Subtags;
 
 /// Appends the keywords of a string, each once, in the order of their keys.
 ///
-/// The string is read once to find its keys, or several times if they are many. If it is short, it
-/// is read up to each key to find its value, and otherwise once for each first character of the
-/// keys.
+/// The string is read once to find its keys, or several times if they are many. To find the values,
+/// it is read up to each key, or once for each first character of the keys if there are more than
+/// 36.
 #[inline]
 pub fn push_keywords(out: &mut Output<'_>, text: &str, keys: Keys) {
     if are_few(Some(text)) {
@@ -54,7 +54,7 @@ fn offer_keys<const ROOM: usize>(least: &mut LeastNumbers<ROOM>, text: &str, key
 /// Appends the keywords whose keys have these numbers.
 #[inline]
 fn push_each(out: &mut Output<'_>, text: &str, keys: Keys, numbers: &[u64]) {
-    if are_few(Some(text)) {
+    if numbers.len() <= CHARACTERS {
         return push_each_of_few(out, text, keys, numbers);
     }
     push_each_of_many(out, text, keys, numbers);

@@ -1,6 +1,5 @@
-use Rattle.std.proofs.Common.{inl, true≢false, sym, subst}
-use Rattle.langtag_scan.specs.Record.{Spells}
-use Rattle.langtag_scan.specs.Tag.{IsTag, IsNormal}
+use Rattle.langtag_scan.proofs.Prelude.{inl, true≢false, sym, subst}
+use Rattle.langtag_scan.proofs.Grammar.{Spells, IsTag, IsNormal}
 use Rattle.langtag_scan.proofs.Ascii.{IsUtf8-tag}
 use Rattle.langtag_bench.proofs.repeats.langtag_bench_repeated_variant.Goals as goal
 

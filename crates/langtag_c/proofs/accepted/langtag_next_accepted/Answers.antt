@@ -1,5 +1,4 @@
-use Rattle.std.proofs.Common.{◌≡◌, ◌+◌, ◌-◌, ◌≤◌, Some, length, length-take, drop, ap, sym, ◌∙◌, arith}
-use Rattle.std.specs.List.{slice_range}
+use Rattle.langtag_scan.proofs.Prelude.{◌≡◌, ◌+◌, ◌-◌, ◌≤◌, Some, length, length-take, drop, ap, sym, ◌∙◌, arith, slice_range}
 use Rattle.langtag_range.specs.Element.{is_ows}
 use Rattle.langtag_match.specs.Text.{weighted_range_text}
 use Rattle.langtag_span.specs.Spans.{end_of, span_text}

@@ -1,7 +1,5 @@
 use Rattle.langtag_keyword.proofs.Common.{None, Option, refl, ap, sym, subst, ◌∙◌, List, ℕ, AllByRecursion, IsSubtag, option_map, join, segments_left, opens_keyword, value_of, ◌∷◌, []}
-use Rattle.std.proofs.Common.{Bor}
-use Rattle.std.specs.Option.{option_or}
-use Rattle.std.proofs.lemmas.List.{get_or-replicate}
+use Rattle.langtag_scan.proofs.Prelude.{Bor, option_or, get_or-replicate}
 use Rattle.langtag_keyword.specs.KeySets.{place_of}
 use Rattle.langtag_keyword.proofs.KeySetLaws.{place-within}
 use Rattle.langtag_keyword.proofs.key_values.values_after.Goals as goal

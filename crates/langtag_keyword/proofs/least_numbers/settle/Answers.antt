@@ -1,5 +1,4 @@
-use Rattle.std.proofs.Common.{◌==◌, sym}
-use Rattle.std.proofs.lemmas.List.Sorted.{IsNonDecreasingBy-from_sort, list_any-IsPermutation}
+use Rattle.langtag_scan.proofs.Prelude.{◌==◌, sym, IsNonDecreasingBy-from_sort, list_any-IsPermutation}
 use Rattle.langtag_keyword.proofs.LeastLaws.{settled_by}
 use Rattle.langtag_keyword.proofs.least_numbers.settle.Goals as goal
 

@@ -1,12 +1,11 @@
 use Rattle.langtag_keyword.proofs.Common.{◌++◌, [], sym, ap, subst, ◌∙◌, rules, flat_map, HasText, pushes_both, pushes_same, extension_flat, private_part_flat, each_from_test, is_variant, subtags}
-use Rattle.langtag.specs.Text.{normal_lang_tag_text}
+use Rattle.langtag.proofs.Definitions.{normal_lang_tag_text, variants_text}
 use Rattle.langtag_likely.specs.Texts.{field_texts}
 use Rattle.langtag.proofs.PartRules.{variants_listed}
 use Rattle.langtag_locale.specs.LocaleForm.{extensions_in_order, identifier_form, new_variants, record_fields}
 use Rattle.langtag_unicode.specs.Identifier.{identifier_flat}
 use Rattle.langtag_locale.proofs.IdentifierForms.{locale_joined}
 use Rattle.langtag_locale.proofs.WholeLaws.{spelled_locale}
-use Rattle.langtag_place.specs.Text.{variants_text}
 use Rattle.langtag_unicode.proofs.IdentifierParts.{AreVariants}
 use Rattle.langtag_locale.proofs.canonical_locale.put_parts.Goals as goal
 

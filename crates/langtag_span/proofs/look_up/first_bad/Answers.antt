@@ -1,7 +1,4 @@
-use Rattle.std.proofs.Common.{◌≡◌, subst, true, length, rules, tests, arith}
-use Rattle.std.proofs.lemmas.Iterator.Splits.{YieldsList-from_slice_split}
-use Rattle.std.proofs.lemmas.Iterator.Consumers.{YieldsList-at, YieldsList-turn, YieldsList-end}
-use Rattle.std.proofs.lemmas.List.{take_all}
+use Rattle.langtag_scan.proofs.Prelude.{◌≡◌, subst, true, length, rules, tests, arith, YieldsList-from_slice_split, YieldsList-at, YieldsList-turn, YieldsList-end, take_all}
 use Rattle.langtag_match.specs.AcceptLanguage.{are_good}
 use Rattle.langtag_range.specs.Element.{is_comma, items}
 use Rattle.langtag_span.proofs.LookUps.{good-next, is_bad_at, width-next, width_fits}

@@ -1,8 +1,7 @@
 use Rattle.langtag_keyword.proofs.Common.{sym, subst, extensions_record}
 use Rattle.langtag.proofs.KeptFound.{found_kept}
-use Rattle.langtag.specs.Text.{lang_tag_text}
+use Rattle.langtag.proofs.Definitions.{lang_tag_text, IsForm}
 use Rattle.langtag.proofs.FormLaws.{form_is_tag, one_form}
-use Rattle.langtag.specs.Form.{IsForm}
 use Rattle.langtag_unicode.proofs.ExtensionCase.{extensions_form-alike}
 use Rattle.langtag_unicode.proofs.FormTwice.{extensions_settled}
 use Rattle.langtag_unicode.proofs.FormRecords.{form_well_formed}

@@ -1,11 +1,12 @@
 use Rattle.langtag_keyword.proofs.Common.{common_steps, ◌∷◌, ◌++◌, [], length, take, sym, ap, ◌∙◌, arith, length-take, pushes_joined, pushes_same, of_primary, one_flat, join, to_variants}
 use Rattle.langtag_scan.specs.Tag.{IsNormal}
-use Rattle.langtag_keyword.proofs.KeywordLaws.{head-cut, head_inside}
+use Rattle.langtag_keyword.proofs.KeywordLaws.{head-cut}
 use Rattle.langtag_unicode.proofs.form.push_head.Goals as goal
+use Rattle.langtag_scan.proofs.PartOffsets.{ends_in_order}
 
 pub slice_bounds-push_subtag-end : goal.slice_bounds-push_subtag-end
 unfolding IsNormal
-slice_bounds-push_subtag-end c = grind (arith, common_steps, length-take, head_inside)
+slice_bounds-push_subtag-end c = grind (arith, common_steps, length-take, ends_in_order)
 
 pub returns : goal.returns
 returns c = λ r spells.

@@ -1,5 +1,4 @@
-use Rattle.std.proofs.Common.{arith}
-use Rattle.std.proofs.lemmas.Result.{IfOk-weaker}
+use Rattle.langtag_scan.proofs.Prelude.{arith, IfOk-weaker}
 use Rattle.langtag.specs.Text.{lang_tag_text}
 use Rattle.langtag_unicode.proofs.KeywordSizes.{removed_bounded}
 use Rattle.langtag_unicode.proofs.keyword_setters.write_without_keyword.Goals as goal

@@ -1,5 +1,4 @@
-use Rattle.std.proofs.Common.{take, subst, ◌∙◌, arith}
-use Rattle.std.proofs.lemmas.List.{take-append-le}
+use Rattle.langtag_scan.proofs.Prelude.{take, subst, ◌∙◌, arith, take-append-le}
 use Rattle.langtag_keyword.specs.Least.{IsSettled}
 use Rattle.langtag_keyword.proofs.LeastLaws.{kept-within}
 use Rattle.langtag_keyword.proofs.least_numbers.LeastNumbers.sort.Goals as goal
