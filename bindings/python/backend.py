@@ -20,7 +20,7 @@ import sysconfig
 import tarfile
 import tempfile
 import zipfile
-from typing import Mapping
+from typing import Mapping, NamedTuple
 
 HERE = pathlib.Path(__file__).resolve().parent
 CLONE = HERE.parent if (HERE.parent / "archive").is_file() else None  # the folder bindings, if this is a clone
@@ -31,11 +31,11 @@ SDIST_FILES = r"pyproject\.toml|backend\.py|README\.md|PROVED\.txt|native/.*|(ex
 EXAMPLES = r"(negotiate|count_tags|catalogue)\.py"
 
 
-class Archive:
+class Archive(NamedTuple):
     """An archive of the C library, and whether it is proved."""
 
-    def __init__(self, path: pathlib.Path, is_proved: bool):
-        self.path, self.is_proved = path, is_proved
+    path: pathlib.Path
+    is_proved: bool
 
 
 def fail(why: str) -> SystemExit:
@@ -219,15 +219,17 @@ def build_editable(wheel_directory: str, config_settings: object = None, metadat
     return write_wheel(pathlib.Path(wheel_directory), platform_tag(built), library.is_proved, {"langtag_verified.pth": f"{HERE}\n".encode()}, {})
 
 
+def write_sdist(folder: pathlib.Path, proved: bool, archive: bytes, more: dict[str, bytes]) -> str:
+    """Writes an sdist, and returns its name: the sources of the C module with the archive, so that it needs no cargo, and more files."""
+    files = {**tree(HERE, SDIST_FILES), **notices(), **module_files(proved), "liblangtag_c.a": archive, "README.md": readme().encode(),
+             "langtag.h": (header() / "langtag.h").read_bytes(), "PKG-INFO": metadata(proved), **more}
+    top = f"langtag_verified-{version(proved)}"
+    pack(folder / f"{top}.tar.gz", top, files)
+    return f"{top}.tar.gz"
+
+
 def build_sdist(sdist_directory: str, config_settings: object = None) -> str:
-    """Writes the sources of the C module with the archive, so that the sdist needs no cargo."""
     library = archive(room())
     with tempfile.TemporaryDirectory() as folder:
-        shared = binary(library, pathlib.Path(folder)) if without_module() else None
-        files = {**tree(HERE, SDIST_FILES), **notices(), **module_files(library.is_proved), "liblangtag_c.a": library.path.read_bytes(), "README.md": readme().encode(),
-                 "langtag.h": (header() / "langtag.h").read_bytes(), "PKG-INFO": metadata(library.is_proved)}
-        if shared:
-            files[f"langtag/{NAME}"] = shared.read_bytes()
-    top = f"langtag_verified-{version(library.is_proved)}"
-    pack(pathlib.Path(sdist_directory, f"{top}.tar.gz"), top, files)
-    return f"{top}.tar.gz"
+        shared = {f"langtag/{NAME}": binary(library, pathlib.Path(folder)).read_bytes()} if without_module() else {}
+    return write_sdist(pathlib.Path(sdist_directory), library.is_proved, library.path.read_bytes(), shared)
