@@ -1,8 +1,11 @@
-use Rattle.langtag_scan.proofs.Prelude.{◌≡◌, Some, None, sym, ap, ◌∙◌, inl, subst, arith, option_map, IfOk-weaker, common_steps}
-use Rattle.langtag.proofs.Definitions.{with_script, normal_lang_tag_buf_text}
+use Rattle.std.proofs.Common.{◌≡◌, Some, None, sym, ap, ◌∙◌, inl, subst, arith, option_map}
+use Rattle.std.proofs.lemmas.Result.{IfOk-weaker}
+use Rattle.std.proofs.lemmas.Grind.{common_steps}
+use Rattle.langtag.specs.Edit.{with_script}
 use Rattle.langtag.specs.PlaceText.{script_text, script_buf_text}
 use Rattle.langtag.specs.Record.{Spells}
 use Rattle.langtag.specs.Tag.{IsNormal}
+use Rattle.langtag.specs.Text.{normal_lang_tag_buf_text}
 use Rattle.langtag_examples.specs.Catalogue.{text_for}
 use Rattle.langtag.proofs.TagLaws.{tag_normal}
 use Rattle.langtag_examples.proofs.Scripts.{script_set_back, found_first, found_second, holds_anyway}
