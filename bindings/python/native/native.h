@@ -54,6 +54,7 @@ typedef struct {
 /* Reads the bytes of a str or bytes object. Returns 0, or -1 with an exception. The caller has to release the owner. */
 int lt_text(PyObject *from, Text *text);
 int lt_text_of(PyObject *from, Text *text, const char *expected); /* `expected` is "text", "tag" or "range", for the error */
+int lt_text_or_tag(PyObject *from, Text *text, const char *expected); /* also reads the text of a Tag */
 
 /* Read a list of Tags and texts of tags, and a list of texts. They return 0, or -1 with an exception. The caller has to close the list. */
 int lt_tags(PyObject *from, List *list);

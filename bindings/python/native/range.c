@@ -7,25 +7,15 @@ static PyObject *is_basic(PyObject *object, void *unused) {
 
 typedef bool Match(const char *range, size_t range_len, const char *tag, size_t tag_len);
 
-static PyObject *matches_text(const Value *self, const Text *tag, Match *match) {
-    LET_GO(tag->len + self->text.len);
-    bool answer = match(self->text.data, self->text.len, tag->data, tag->len);
-    TAKE_BACK();
-    return PyBool_FromLong(answer);
-}
-
 static PyObject *matches(PyObject *object, PyObject *other, Match *match) {
     Value *self = (Value *)object;
-    if (lt_lacks(self)) return NULL;
-    if (!PyUnicode_Check(other) && !PyBytes_Check(other)) {
-        Value *tag = lt_as_tag(other);
-        return tag ? matches_text(self, &tag->text, match) : NULL;
-    }
-    Text text;
-    if (lt_text(other, &text)) return NULL;
-    PyObject *answer = matches_text(self, &text, match);
-    Py_DECREF(text.owner);
-    return answer;
+    Text tag;
+    if (lt_lacks(self) || lt_text_or_tag(other, &tag, "tag")) return NULL;
+    LET_GO(tag.len + self->text.len);
+    bool answer = match(self->text.data, self->text.len, tag.data, tag.len);
+    TAKE_BACK();
+    Py_DECREF(tag.owner);
+    return PyBool_FromLong(answer);
 }
 
 static PyObject *matches_basic(PyObject *self, PyObject *tag) { return matches(self, tag, langtag_matches_basic); }

@@ -63,9 +63,8 @@ static int refuse_change(int is_tag) {
     return -1;
 }
 
-/* Reads the argument of a constructor. A Range is also made of a Tag. */
-static int text_of(PyObject *from, Text *text, int is_tag) {
-    if (is_tag || !lt_is_tag(from)) return lt_text_of(from, text, is_tag ? "tag" : "range");
+int lt_text_or_tag(PyObject *from, Text *text, const char *expected) {
+    if (PyUnicode_Check(from) || PyBytes_Check(from) || !lt_is_tag(from)) return lt_text_of(from, text, expected);
     if (lt_lacks((Value *)from)) return -1;
     *text = ((Value *)from)->text;
     Py_INCREF(text->owner);
@@ -99,7 +98,7 @@ int lt_init(PyObject *object, PyObject *arguments, PyObject *named, int is_tag) 
     if (!from) return -1;
     if (PyObject_TypeCheck(from, self->base)) return copy(self, (Value *)from);
     Text text;
-    if (text_of(from, &text, is_tag)) return -1;
+    if (lt_text_or_tag(from, &text, is_tag ? "tag" : "range")) return -1;
     langtag_parts parts = {{0, 0}, {0, 0}, {0, 0}, {0, 0}, {0, 0}, {0, 0}}; /* not those of self, which another thread may read */
     LET_GO(text.len);
     uint32_t kind = is_tag ? langtag_parse(text.data, text.len, &parts) : langtag_range_kind(text.data, text.len);
