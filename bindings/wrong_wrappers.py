@@ -497,27 +497,20 @@ def alone(all_faults: Copy, fault: Fault | None) -> str | None:
         copy.remove()
 
 
-class Asked(NamedTuple):
-    """A test of a language, with a fault or without one. `ask` returns what differs from the expectation, or None."""
-
-    language: str
-    fault: Fault | None
-    ask: Callable[[], "str | None"]
-
-
-def to_be_asked(copy: Copy) -> list[Asked]:
-    """Builds a language once with all faults that can be behind a switch. Returns the tests to run."""
+def to_be_asked(copy: Copy) -> list[tuple[str, Fault | None, Callable[[], str | None]]]:
+    """Builds a language once with all faults that can be behind a switch. Returns the tests to run, each with its language, its fault if
+    it has one, and what runs it and returns what differs from the expectation, or None."""
     language = copy.language
     switches = copy.plant_switches() if language in BUILD else set()
     why = copy.build()
     if why:
-        return [Asked(language, None, lambda: why)]
-    asked = [Asked(language, None, functools.partial(copy.passes, by)) for by in tests(language)]
+        return [(language, None, lambda: why)]
+    asked = [(language, None, functools.partial(copy.passes, by)) for by in tests(language)]
     for number, fault in sorted(enumerate(FAULTS[language], 1), key=lambda it: it[0] not in switches):
         ask = functools.partial(copy.refuses, fault, str(number)) if number in switches else functools.partial(alone, copy, fault)
-        asked.append(Asked(language, fault, ask))
+        asked.append((language, fault, ask))
     if language == "PostgreSQL":  # the server still stands
-        asked.append(Asked(language, None, functools.partial(alone, copy, None)))
+        asked.append((language, None, functools.partial(alone, copy, None)))
     return asked
 
 
@@ -530,13 +523,13 @@ def main(libraries: pathlib.Path, languages: list[str]) -> int:
     try:
         with concurrent.futures.ThreadPoolExecutor(1 if languages == ["PostgreSQL"] else os.cpu_count()) as pool:  # there is one server
             asked = [it for more in pool.map(to_be_asked, copies) for it in more]
-            found = list(pool.map(lambda it: it.ask(), asked))
+            found = list(pool.map(lambda it: it[2](), asked))
     finally:
         for copy in copies:
             copy.remove()
-    bad = [(it, what) for it, what in zip(asked, found) if what]
-    for it, what in bad:
-        print(f"{it.language}: {it.fault.file if it.fault else 'no fault'}: {it.fault.new if it.fault else ''!r}\n  {what}")
+    bad = [(language, fault, what) for (language, fault, _), what in zip(asked, found) if what]
+    for language, fault, what in bad:
+        print(f"{language}: {fault.file if fault else 'no fault'}: {fault.new if fault else ''!r}\n  {what}")
     counts = ", ".join(f"{language} {len(FAULTS[language])}" for language in languages)
     print(f"faults: {counts}; {len(bad)} of what was asked were amiss")
     return len(bad) > 0

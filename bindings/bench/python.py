@@ -49,35 +49,19 @@ CALLS = {
 }
 
 
-SORTS = 5
-
-
-def tags_to_sort() -> list[langtag.Tag]:
-    numbers = random.Random(1)
-    return [langtag.Tag(f"{numbers.choice(TEXTS)}-x-{numbers.randrange(10**6)}") for _ in range(200_000)]
-
-
-def sorting(tags: list[langtag.Tag]) -> float:
-    """Returns the processor time for sorting the tags, in nanoseconds."""
-    tags = list(tags)
-    begun = time.process_time_ns()
-    tags.sort()
-    return time.process_time_ns() - begun
-
-
 def timed() -> dict[str, float]:
-    """Returns the median of each call in nanoseconds, and that of some sorts, which run between the rounds."""
+    """Returns the median of each call, and that of five sorts, in nanoseconds."""
     runs = {name: (timeit.Timer(f"for it in values: {call}", globals={**NAMES, "values": values}), len(values)) for name, (call, values) in CALLS.items()}
-    times: dict[str, list[float]] = {name: [] for name in [*runs, "200,000 tags sorted"]}
-    order, numbers, tags = list(runs), random.Random(1), tags_to_sort()
+    times: dict[str, list[float]] = {name: [] for name in runs}
+    order, numbers = list(runs), random.Random(1)
+    tags = [langtag.Tag(f"{numbers.choice(TEXTS)}-x-{numbers.randrange(10**6)}") for _ in range(200_000)]
     gc.disable()
-    for number in range(ROUNDS):
+    for _ in range(ROUNDS):
         numbers.shuffle(order)
         for name in order:
             run, count = runs[name]
             times[name].append(run.timeit(1) * 1e9 / count)
-        if number % (ROUNDS // SORTS + 1) == 0:
-            times["200,000 tags sorted"].append(sorting(tags))
+    times["200,000 tags sorted"] = [seconds * 1e9 for seconds in timeit.repeat(lambda: sorted(tags), timer=time.process_time, number=1, repeat=5)]
     gc.enable()
     return {name: statistics.median(found) for name, found in times.items()}
 
@@ -100,17 +84,12 @@ def read_all(texts: list[str]) -> None:
 
 
 def parse(path: str) -> int:
-    """Prints the least time over the pieces of a file. Both parsers read each piece."""
+    """Prints the least time over the pieces of a file, of which both parsers read each five times."""
     texts = pathlib.Path(path).read_text().split()
     pieces = [texts[start : start + 1000] for start in range(0, len(texts), 1000)]
-    least = {"langtag.Tag": float("inf"), "babel": float("inf")}
-    for piece in pieces * 5:
-        for name, run in (("langtag.Tag", read_all), ("babel", refused)):
-            begun = time.perf_counter_ns()
-            run(piece)
-            least[name] = min(least[name], (time.perf_counter_ns() - begun) / len(piece))
-    for name, nanoseconds in least.items():
-        print(f"{name:18} {nanoseconds:8.1f} ns a tag")
+    for name, run in (("langtag.Tag", read_all), ("babel", refused)):
+        least = min(min(timeit.repeat(lambda: run(piece), number=1, repeat=5)) / len(piece) for piece in pieces)
+        print(f"{name:18} {least * 1e9:8.1f} ns a tag")
     print(f"babel refuses {refused(texts)} of {len(texts)} tags")
     return 0
 

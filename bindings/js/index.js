@@ -295,13 +295,11 @@ export class LanguageTag {
     }
     /** The first variant that equals an earlier one, ignoring case. Such a tag is well-formed but not valid. */
     get repeatedVariant() {
-        const [, offset, length] = calls.repeats(this.text);
-        return this.#at(offset, length) || undefined;
+        return this.#at(...calls.repeats(this.text).slice(1, 3)) || undefined;
     }
     /** The first singleton that equals an earlier one, ignoring case. Such a tag is well-formed but not valid. */
     get repeatedSingleton() {
-        const [, , , offset, length] = calls.repeats(this.text);
-        return this.#at(offset, length) || undefined;
+        return this.#at(...calls.repeats(this.text).slice(3)) || undefined;
     }
     /** Whether the tag is valid (RFC 5646 section 2.2.9) by the registry of REGISTRY_DATE. Deprecated subtags are valid. */
     get isValid() {
@@ -363,8 +361,7 @@ export class LanguageTag {
      * zh-Hant-TW. A script that is likely anyway is left out. The codeset is yours, as in zh_TW.UTF-8. `fromPosix` reads the name.
      */
     toPosix() {
-        const name = calls.toPosix(this.text);
-        return name === "" ? undefined : name;
+        return calls.toPosix(this.text) || undefined;
     }
     /**
      * The parent of the tag in CLDR, which a catalogue of strings asks next, or undefined if there is none: pt-PT for pt-AO, zh-Hant for

@@ -225,14 +225,6 @@ class Negotiation(unittest.TestCase):
             for call in calls:
                 self.assertEqual(wrong_calls.told(lambda: call("de")), f"TypeError 'expected a list of {what}, got str'")
 
-    def test_many_ranges_of_a_weight(self):
-        names = [f"{a}{b}" for a in "abcdefgh" for b in "abcdefgh"]
-        header = ",".join(names)
-        for place, name in enumerate(names):
-            for call in (tag_for_header, tag_for_header_lenient):
-                self.assertEqual(call(header, [name]), name, place)
-                self.assertEqual(call(f"zz;q=0.9,{header.replace(',', ';q=0.5,')};q=0.5", [names[-1], name]), name, place)
-
     def test_extended_ranges(self):
         """In a list of ranges, each * after a hyphen is left out, and no other *."""
         self.assertIsNone(langtag.best_for_ranges(["de-*a"], ["dea"]))

@@ -3,11 +3,12 @@
  * with the package; by default it is this folder.
  */
 import assert from "node:assert/strict";
+import { once } from "node:events";
 import { readFileSync } from "node:fs";
 import { createServer } from "node:http";
-import { after, before, test } from "node:test";
+import { after, test } from "node:test";
 import { pathToFileURL } from "node:url";
-import { Chromium, program } from "./chromium.js";
+import { Chromium, skip } from "./chromium.js";
 import { floors } from "./rows.js";
 
 const ROOT = new URL("../../../", import.meta.url);
@@ -38,22 +39,13 @@ const server = createServer((request, response) => {
     }
 });
 
-let browser;
-
-before(async () => {
-    if (program === undefined) return;
-    await new Promise((resolve) => server.listen(0, "127.0.0.1", resolve));
-    browser = await Chromium.start(program);
-    console.log(await browser.version());
-    await browser.open(`http://127.0.0.1:${server.address().port}/`);
-});
-
+await once(server.listen(0, "127.0.0.1"), "listening");
+const browser = skip ? undefined : await Chromium.start();
+await browser?.open(`http://127.0.0.1:${server.address().port}/`);
 after(async () => {
     await browser?.close();
     server.close();
 });
-
-const skip = program === undefined && "CHROMIUM names no program";
 
 for (const [name, floor] of floors(readFileSync(new URL("rows/floors.txt", ROOT), "latin1"))) {
     test(`${name} in a page`, { skip }, async () => {

@@ -26,8 +26,8 @@ export class Chromium {
         });
     }
 
-    static async start(program) {
-        const browser = new Chromium(program);
+    static async start() {
+        const browser = new Chromium(process.env.CHROMIUM);
         const { targetInfos } = await browser.#send("Target.getTargets");
         const { targetId } = targetInfos.find(({ type }) => type === "page");
         browser.#session = (await browser.#send("Target.attachToTarget", { targetId, flatten: true })).sessionId;
@@ -77,10 +77,6 @@ export class Chromium {
         return metrics.find(({ name }) => name === "ProcessTime").value;
     }
 
-    async version() {
-        return (await this.#send("Browser.getVersion")).product;
-    }
-
     async close() {
         const ended = new Promise((resolve) => this.#process.once("exit", resolve));
         await this.#send("Browser.close").catch(() => {});
@@ -89,5 +85,5 @@ export class Chromium {
     }
 }
 
-/** The path of Chromium, which the variable CHROMIUM has; undefined if it is not set. */
-export const program = process.env.CHROMIUM;
+/** Why a test is not run that needs Chromium, which the variable CHROMIUM names, or false. */
+export const skip = process.env.CHROMIUM === undefined && "CHROMIUM names no program";

@@ -2,20 +2,13 @@
  * folder for pictures. */
 import assert from "node:assert/strict";
 import { writeFileSync } from "node:fs";
-import { after, before, test } from "node:test";
+import { after, test } from "node:test";
 import { pathToFileURL } from "node:url";
-import { Chromium, program } from "./chromium.js";
+import { Chromium, skip } from "./chromium.js";
 
 const PAGE = process.env.PAGE === undefined ? new URL("../page/langtag.html", import.meta.url) : pathToFileURL(process.env.PAGE);
-const skip = program === undefined && "CHROMIUM names no program";
-let browser;
-
-before(async () => {
-    if (program === undefined) return;
-    browser = await Chromium.start(program);
-    await browser.open(PAGE.href);
-});
-
+const browser = skip ? undefined : await Chromium.start();
+await browser?.open(PAGE.href);
 after(() => browser?.close());
 
 /** Replaces the text of a field, as if it was typed. */
@@ -89,9 +82,12 @@ test("the form of a Unicode locale identifier", { skip }, async () => {
 });
 
 test("a refusal, and what could stand there", { skip }, async () => {
-    for (const [text, refused] of [["de_CH", "_"], ["zh-Hant-", "…"], ["de-\u00fc", "\u00fc"], ["\u{1f600}", "\u{1f600}"], ["en-a", "…"], ["de-419-DE", "DE"]]) {
+    const bad = (character, place) => `invalid character \`${character}\`: expected a letter, a digit or a hyphen (character ${place})`;
+    for (const [text, refused, told] of [["de_CH", "_", bad("_", 3)], ["zh-Hant-", "…", "unexpected end: expected a subtag"],
+        ["de-\u00fc", "\u00fc", bad("\u00fc", 4)], ["de-\u{1f600}_", "\u{1f600}", bad("\u{1f600}", 4)], ["\u{1f600}-a", "\u{1f600}", bad("\u{1f600}", 1)],
+        ["en-a", "…", "unexpected end: expected a subtag"], ["de-419-DE", "DE", "unexpected subtag `DE` (character 8)"], ["de--a", "…", "empty subtag (character 4)"]]) {
         await type("tag", text);
-        assert.match(await summary("tag"), /^Not a tag: /);
+        assert.equal(await summary("tag"), `Not a tag: ${told}.`);
         assert.deepEqual(await shown("#tag-parts, #tag-forms"), []);
         assert.equal(await browser.value("document.getElementById('tag').getAttribute('aria-invalid')"), "true");
         assert.deepEqual(await shown("#tag-text .refused"), [refused]);
@@ -104,13 +100,6 @@ test("a refusal, and what could stand there", { skip }, async () => {
         await type("tag", text);
         const could = await shown("#tag-could li");
         assert.deepEqual(could.map((it, index) => it.slice(0, wanted[index]?.length)), wanted);
-    }
-    const expected = "expected a letter, a digit or a hyphen";
-    for (const [text, told] of [["de_CH", `invalid character \`_\`: ${expected} (character 3)`], ["de-\u{1f600}_", `invalid character \`\u{1f600}\`: ${expected} (character 4)`],
-        ["\u{1f600}-a", `invalid character \`\u{1f600}\`: ${expected} (character 1)`], ["de-419-DE", "unexpected subtag `DE` (character 8)"],
-        ["de--a", "empty subtag (character 4)"], ["en-a", "unexpected end: expected a subtag"]]) {
-        await type("tag", text);
-        assert.equal(await summary("tag"), `Not a tag: ${told}.`);
     }
     await type("tag", "");
     assert.equal(await summary("tag"), "Type a tag.");
