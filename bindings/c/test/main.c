@@ -14,7 +14,7 @@
 /* A literal as a pointer and a length. */
 #define TEXT(literal) (literal), (sizeof(literal) - 1)
 
-/* ---- langtag_parse and langtag_kind, langtag_repeats, langtag_suggestion, langtag_registry_date, langtag_with_part */
+/* ---- langtag_parse and langtag_kind, langtag_repeats, langtag_suggestion, langtag_with_part */
 
 static langtag_parts parts;
 static uint32_t parse(const char *text, size_t len) {
@@ -72,12 +72,6 @@ static void long_codes(void) {
     memcpy(code, "UK", 2);
     for (size_t len = 3; len <= sizeof code; len++)
         CHECK(langtag_suggestion(LANGTAG_INVALID_REGION, code, len, written, sizeof written) == 0);
-}
-
-/* The date of the registry. */
-static void versions(void) {
-    uint32_t date = langtag_registry_date();
-    CHECK(date / 10000 > 2000 && date / 100 % 100 - 1 < 12 && date % 100 - 1 < 31);
 }
 
 /* A number that is no part's. */
@@ -186,7 +180,6 @@ int main(int argc, char **argv) {
     if (argc > 1 && strcmp(argv[1], "--answer") == 0) return failures != 0;
     edges();
     written_always();
-    versions();
     many_variants();
     long_codes();
     other_parts();

@@ -62,12 +62,10 @@ static void check_views() {
 static void check_walks() {
     const auto one = tag::parse("de-rozaj-1994-u-co-eor-T-de");
     std::string seen;
-    for (std::string_view variant : langtag::subtags(one->variants())) seen.append(variant).append(1, ' ');
-    for (std::string_view extension : langtag::extensions(one->extensions())) seen.append(extension).append(1, ' ');
     langtag::for_each_subtag(one->script(), [&](std::string_view) { seen.append("none"); });
     langtag::for_each_subtag(one->text().substr(0, 8),
                              [&](std::string_view subtag) { seen.append(subtag).append(1, '.'); });
-    CHECK(seen == "rozaj 1994 u-co-eor T-de de.rozaj.");
+    CHECK(seen == "de.rozaj.");
     auto at = langtag::subtags("de-AT").begin();
     CHECK(*at++ == "de" && *at == "AT" && ++at == langtag::subtags("de-AT").end());
 }
@@ -134,7 +132,6 @@ static void check_likely() {
     CHECK(!langtag::match_for_header({}, tags) && !langtag::match_for_header("en", {}) && !langtag::from_posix({}));
     const std::string name = "de_DE.UTF-8@Foo";
     CHECK(langtag::unknown_modifier(name)->data() == name.data() + 12 && !langtag::unknown_modifier({}));
-    CHECK(langtag::cldr_version().size() == langtag_cldr_version(nullptr, 0));
 }
 
 /* Lists that contain tags. Texts that are not tags are skipped. */
