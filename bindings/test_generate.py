@@ -36,7 +36,7 @@ PLANTED = [
     ("rust/Cargo.toml", 'version = "0.2.0-dev"', 'version = "0.1.1"', "Cargo.toml"),
     ("rust/c/Cargo.toml", 'version = "0.2.0-dev"', 'version = "0.1.1"', "rust/c/Cargo.toml"),
     (MODULE, '__version__ = "0.2.0-dev"', '__version__ = "0.2.0"', "LANGTAG_VERSION"),
-    (MODULE, "REGISTRY_DATE = _registry_date()", f'REGISTRY_DATE = "{DATE}"', DATE),
+    (MODULE, r"""REGISTRY_DATE = re.sub("(....)(..)(..)", r"\1-\2-\3", str(_backend.registry_date()))""", f'REGISTRY_DATE = "{DATE}"', DATE),
     (check_numbers.DATED, "pub const FILE_DATE", "pub const DATE", "the registry's date"),
     (CRATE, "fn langtag_eq(a: &[u8], b: &[u8])", "fn langtag_eq(b: &[u8], a: &[u8])", HEADER),
     (CRATE, "pub singleton: Span", "pub singletons: Span", HEADER),
