@@ -247,7 +247,7 @@ FAULTS = {
     "JavaScript": [
         swapped(JS, "this.#part(1)", "this.#part(2)", "table.txt"),
         tested(CALLS, "return canonical(text, length);", "return read(at1, room);", "a range, a tag or a text of a megabyte"),
-        Fault(MEMORY, "Math.min(length, begin + 8192)", "Math.min(length, 8192)", "table.txt"),
+        Fault(MEMORY, "bytes.subarray(at, at + length)", "bytes.subarray(at, at + Math.min(length, 8192))", "table.txt"),
         Fault(JS, 'if (key !== "" && !found.has(key))', 'if (key !== "")', "unicode.txt"),
         tested(JS, "Array.isArray(pair) && [pair[0]", "[pair[0]", "keywords that are set and removed"),
         Fault(JS, 'text === "" && value !== null && !isList', 'text === "" && value !== null', "edits.txt"),

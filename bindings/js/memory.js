@@ -102,16 +102,13 @@ export function writeBytes(array, at) {
 /** Returns the first address, at or after an address, where spans can begin. */
 export const aligned = (at) => (at + ALIGNED - 1) & -ALIGNED;
 
+const decoder = new TextDecoder();
+
 /** Returns ASCII bytes as a string. */
 export function read(at, length) {
-    let text = "";
-    if (length <= 32) { // a loop is quicker for most tags
-        for (let index = at; index < at + length; index++) text += String.fromCharCode(bytes[index]);
-        return text;
-    }
-    for (let begin = 0; begin < length; begin += 8192) {
-        text += String.fromCharCode.apply(null, bytes.subarray(at + begin, at + Math.min(length, begin + 8192)));
-    }
+    if (length > 32) return decoder.decode(bytes.subarray(at, at + length));
+    let text = ""; // a loop is quicker for most tags
+    for (let index = at; index < at + length; index++) text += String.fromCharCode(bytes[index]);
     return text;
 }
 

@@ -71,7 +71,6 @@ test("a site does not change", () => {
     assert.deepEqual(site.tags, copy);
     assert.equal(site.bestForHeader("zh-TW"), copy[1]);
     assert.deepEqual([site.bestForHeader("de"), site.bestForHeader("de", null), site.bestForHeader("en-GB")], [undefined, null, "en"]);
-    assert.deepEqual(site.matchForHeader("nl;q=0, tlh"), { index: 0, tag: "en", distance: 30, range: "tlh" });
     assert.equal(site.bestForRanges([LanguageRange.parse("fi"), LanguageTag.parse("nn")], "de"), "nb");
     assert.throws(() => (site.tags = []), TypeError);
     assert.throws(() => site.tags.push("de"), TypeError);
@@ -195,7 +194,6 @@ test("Intl takes a tag as its text", () => {
 
 test("only a tag has a name", () => {
     for (const call of [langtag.describe, langtag.autonym]) assert.throws(() => call("de_CH"), InvalidTag);
-    for (const code of ["aa", "de", "iw", "zu"]) assert.notEqual(langtag.describe(code), code);
 });
 
 test("edits", () => {
