@@ -84,29 +84,6 @@ static void other_parts(void) {
 
 /* ---- langtag_eq, langtag_cmp and langtag_hash */
 
-/* A text that changes between two calls is read again: LANGTAG_PURE does not mean `const`. */
-static void changed_bytes(void) {
-    static char text[] = "de-DE-1996";
-    size_t len = sizeof text - 1;
-#define BOTH_ANSWERS(call, first, second)                                                                              \
-    do {                                                                                                               \
-        text[2] = '-';                                                                                                 \
-        bool was = (call) == (first);                                                                                  \
-        text[2] = '_';                                                                                                 \
-        CHECK(was && (call) == (second));                                                                              \
-    } while (0)
-    BOTH_ANSWERS(langtag_kind(text, len), LANGTAG_NORMAL, LANGTAG_NONE);
-    BOTH_ANSWERS(langtag_viable_len(text, len), 10, 2);
-    BOTH_ANSWERS(langtag_stop_len(text, len), 10, 3);
-    BOTH_ANSWERS(langtag_eq(text, len, TEXT("DE-de-1996")), true, false);
-    BOTH_ANSWERS(langtag_cmp(text, len, TEXT("de-DE-1996")), 0, 1);
-    BOTH_ANSWERS(langtag_hash(LANGTAG_HASH, text, 3), UINT64_C(0xca9a6518f462643d), UINT64_C(0xca9a5318f46245a7));
-    BOTH_ANSWERS(langtag_range_kind(text, len), LANGTAG_RANGE_BASIC, LANGTAG_RANGE_NONE);
-    BOTH_ANSWERS(langtag_matches_basic(TEXT("de"), text, len), true, false);
-    BOTH_ANSWERS(langtag_is_canonical(text, len), true, false);
-    BOTH_ANSWERS(langtag_matches_extended(TEXT("de-1996"), text, len), true, false);
-}
-
 /* A published vector of FNV-1a 64, whole and in two pieces. The rows have hashes of tags. */
 static void hashes(void) {
     CHECK(langtag_hash(LANGTAG_HASH, TEXT("FooBar")) == UINT64_C(0x85944171f73967e8));
@@ -184,7 +161,6 @@ int main(int argc, char **argv) {
     long_codes();
     other_parts();
     overlapping_texts();
-    changed_bytes();
     hashes();
     any_bytes();
     empty_subtags();
