@@ -18,11 +18,19 @@ import weakref
 import langtag
 import leaks
 import wrong_calls
-from langtag import (AcceptLanguage, EditError, Kind, Range, Tag, kind, look_up, parse, stop_len, tag_for_header,
-                     tag_for_header_lenient, viable_len)
+from langtag import (AcceptLanguage, EditError, InvalidTag, Kind, Range, Tag, kind, look_up, parse, stop_len,
+                     tag_for_header, tag_for_header_lenient, viable_len)
 
 
 class Kinds(unittest.TestCase):
+    def test_none(self):
+        for text in ("", "f", "en_US", "zh-x-é", "en\0", b"en\xff", "\ud800", "i-notexist", "K-ab", "\u212a"):
+            self.assertIsNone(kind(text))
+            with self.assertRaises(InvalidTag) as caught:
+                parse(text)
+            self.assertEqual(caught.exception.text, text)
+            self.assertTrue(str(caught.exception).startswith("invalid language tag `"))
+
     def test_subclasses_of_texts(self):
         class Short(bytes):
             __len__ = lambda self: 1
@@ -46,6 +54,10 @@ class Kinds(unittest.TestCase):
 
 
 class Values(unittest.TestCase):
+    def test_equality(self):
+        self.assertNotEqual(parse("zh"), "zh")
+        self.assertNotEqual(parse("zh"), Range("zh"))
+
     def test_subclasses(self):
         class One(Tag):
             pass

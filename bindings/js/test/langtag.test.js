@@ -159,6 +159,10 @@ test("one text is no list", () => {
     }
 });
 
+test("no tag equals a string that is no tag", () => {
+    assert.ok(!LanguageTag.parse("zh-Hant").equals("zh_Hant"));
+});
+
 test("a tag does not change", () => {
     const tag = LanguageTag.parse("zh-Hant");
     assert.throws(() => { tag.text = "en"; }, TypeError);
