@@ -42,12 +42,14 @@ class Faults(unittest.TestCase):
     def test_copy_binary(self):
         server.fresh("mule", encoding="MULE_INTERNAL")
         for database in ("faults", "mule"):
-            for kind, given, said in (("langtag", b"ZH-hant", "zh-Hant"), ("langtag_range", b"DE-*", "DE-*"), ("langtag_part", b"DE", "DE")):
-                self.assertEqual(self.binary(database, kind, given), ([said], ""))
-            of_bytes = "22021" if database == "faults" else "22P02"
-            for kind, given, code in (("langtag", b"", "22P02"), ("langtag", b"de\0", "22021"), ("langtag", b"de-\xff", of_bytes),
-                                      ("langtag_range", b"de_CH", "22P02"), ("langtag_part", b"de_CH", "22P02")):
-                self.assertIn(code, self.binary(database, kind, given)[1])
+            self.assertEqual(self.binary(database, "langtag", b"ZH-hant"), (["zh-Hant"], ""))
+            self.assertEqual(self.binary(database, "langtag_range", b"DE-*"), (["DE-*"], ""))
+            self.assertEqual(self.binary(database, "langtag_part", b"DE"), (["DE"], ""))
+            self.assertIn("22P02", self.binary(database, "langtag", b"")[1])
+            self.assertIn("22021", self.binary(database, "langtag", b"de\0")[1])
+            self.assertIn("22021" if database == "faults" else "22P02", self.binary(database, "langtag", b"de-\xff")[1])
+            self.assertIn("22P02", self.binary(database, "langtag_range", b"de_CH")[1])
+            self.assertIn("22P02", self.binary(database, "langtag_part", b"de_CH")[1])
 
     def test_copy_binary_of_long_values(self):
         """COPY in the binary format writes and reads each value whole."""
@@ -110,6 +112,13 @@ class Faults(unittest.TestCase):
         server.lines("ALTER EXTENSION langtag SET SCHEMA public", "apart")
         self.says("SET enable_seqscan = off; SELECT tag, variants(tag), kind(tag) FROM t WHERE tag <@ 'de'", "de-CH|{}|normal", database="apart")
 
+    def test_who_may_create_it(self):
+        """Tests a role that may only create objects in a database, and a role that owns nothing."""
+        server.lines("DROP DATABASE IF EXISTS lent; DROP ROLE IF EXISTS plain; CREATE ROLE plain LOGIN; CREATE DATABASE lent; "
+                     "GRANT CREATE ON DATABASE lent TO plain")
+        server.lines("SET ROLE plain; CREATE SCHEMA mine; CREATE EXTENSION langtag SCHEMA mine; SELECT 'DE'::mine.langtag", "lent")
+        server.lines("DROP DATABASE lent; DROP ROLE plain")
+
     def test_memory(self):
         """Makes two million calls, or CALLS, of each function in one session. The memory of the process must not grow."""
         count = int(os.environ.get("CALLS", "2000000"))
@@ -139,9 +148,10 @@ def dumped(database):
 
 class Dump(unittest.TestCase):
     def test_dump_and_restore(self):
-        for schema in ("public", "ext"):
-            with self.subTest(schema):
-                self.restored(schema)
+        self.restored("public")
+
+    def test_dump_and_restore_of_another_schema(self):
+        self.restored("ext")
 
     def restored(self, schema):
         server.fresh("dumped")
