@@ -1,5 +1,5 @@
 -- What a tag becomes if its record becomes another record: one form, which is a tag, and what is written of it.
-use Rattle.langtag_scan.proofs.Prelude.{◌≡◌, ℕ, List, inl, inr, refl, sym, ap, subst, ◌∙◌, length, append-nil, arith, drop_all}
+use Rattle.langtag_scan.proofs.Prelude.{◌≡◌, ℕ, List, inl, inr, refl, sym, ap, subst, ◌∙◌, length, append-nil, arith, drop_all, common_steps}
 use Rattle.langtag_scan.proofs.Grammar.{Record, Spells, IsWellFormed, spell, IsNormal, IsTag, AlikeRecords, Alike, fold_text}
 use Rattle.langtag_scan.proofs.Laws.{alike_normal, alike_parts, spelled_alike, spelled_once, normal_or_not}
 use Rattle.langtag.specs.Form.{IsAlikeForm, IsForm}
@@ -44,8 +44,7 @@ module _ (form_of : Record → Record) where
   pub written_whole :
       (old first one before after : List ℕ) (n len : ℕ) → Writes (IsForm form_of old) first one n → Writes (IsForm form_of old) before after len → length before ≡ n →
       (length after ≡ n) × IsForm form_of old after
-  written_whole old first one before after n len counted w room =
-      grind (arith, one_form old counted.text w.text counted.is_so w.is_so, drop_all len before, append-nil w.text)
+  written_whole old first one before after n len counted w room = grind (arith, common_steps, one_form, drop_all, append-nil)
 
 -- ---- one form after another
 

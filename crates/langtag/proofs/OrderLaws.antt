@@ -1,5 +1,5 @@
 -- The derived comparisons of the grandfathered tags, and the order of tags of which one begins the other.
-use Rattle.langtag_scan.proofs.Prelude.{◌≡◌, ◌==◌, ℕ, List, map, refl, ap, ◌∙◌, arith, nat_cmp, Fits-of_lt, common_steps, Greater}
+use Rattle.langtag_scan.proofs.Prelude.{◌≡◌, ◌==◌, ℕ, List, refl, ap, ◌∙◌, arith, nat_cmp, Fits-of_lt, common_steps, Greater, nat_tests}
 use Rattle.langtag_scan.proofs.Grammar.{EndsFirst, case_cmp, IsNormal, IsTag}
 use denote.Enum.Declared.{tag_of}
 use Rattle.std.specs.Hash.{usize}
@@ -24,11 +24,7 @@ pub equal : (a b : GrandfatheredLangTag) → tag_equality.eq-value.it a b ≡ (i
 equal a b = ap (λ n. n == tag_of the_type b) (tag_of-index a) ∙ ap (λ n. index_of a == n) (tag_of-index b)
 
 ordered : (a b : GrandfatheredLangTag) → tag_order.cmp-value.it a b ≡ nat_cmp (index_of a) (index_of b)
-ordered a b =
-    let rows : map (λ s. tag_order.cmp-value.it s b) GRANDFATHERED ≡ map (λ s. nat_cmp (index_of s) (index_of b)) GRANDFATHERED =
-    at_member (λ t. map (λ s. tag_order.cmp-value.it s t) GRANDFATHERED) (λ t. map (λ s. nat_cmp (index_of s) (index_of t)) GRANDFATHERED)
-    GRANDFATHERED (index_of b) b (listed b) refl in
-    at_member (λ s. tag_order.cmp-value.it s b) (λ s. nat_cmp (index_of s) (index_of b)) GRANDFATHERED (index_of a) a (listed a) rows
+ordered a b = grind (arith, nat_tests, nat_cmp, at_member)
 
 -- and what it feeds to a hasher
 hashed : (tag : GrandfatheredLangTag) → tag_hash.hash_input-value.it tag ≡ usize (index_of tag)

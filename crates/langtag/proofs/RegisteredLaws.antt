@@ -1,5 +1,5 @@
 -- The variants of `GrandfatheredLangTag` and `GRANDFATHERED`, and the irregular tags, beside the table of registered tags.
-use Rattle.langtag_scan.proofs.Prelude.{◌≡◌, ◌↔◌, ℕ, true, Bool, IsTrue, List, [], length, take, slice_get, Some, ap, ◌∙◌, arith, ◌<◌, ◌≤◌, false, cond, ltb, map, get_or, Option, None, refl, sym, subst, option_map, list_any, position, position_or_len, Any-from_list_any, list_any_at, slice_get_read, slice_get_within, get_or_from_slice_get, slice_get-get_or, slice_get-map, common_steps, option_map_or, lt-ltb, cases_lt, both_ways, get_or-map, position-Some, fails_before_first}
+use Rattle.langtag_scan.proofs.Prelude.{◌≡◌, ◌↔◌, ℕ, true, Bool, IsTrue, List, [], length, take, slice_get, Some, ap, ◌∙◌, arith, ◌<◌, ◌≤◌, false, cond, ltb, map, get_or, Option, None, refl, sym, subst, list_any, position, position_or_len, Any-from_list_any, list_any_at, slice_get_read, slice_get_within, get_or_from_slice_get, slice_get-get_or, slice_get-map, common_steps, option_map_or, lt-ltb, cases_lt, both_ways, get_or-map, position-Some, fails_before_first, nat_tests}
 use Rattle.std.proofs.Common.{Decides, zero-add, bytes_eq}
 use Rattle.std.specs.List.{range_with_len}
 use Rattle.langtag_scan.proofs.Grammar.{Alike, are_alike, fold_byte, fold_text, are_alike-decides, irregular_texts, Grandfathered, grandfathered_tags, IsIrregular, IsIrregularAt, IsNormal, IsTag, IsIrregularPrefix, is_letter, is_primary, EachRecord, segments}
@@ -18,9 +18,7 @@ module _ (test : List ℕ → Bool) (P : List ℕ → Type 0) (decides : (name :
   from_test found = grind (arith, common_steps, Any-from_list_any, slice_get_read)
 
   to_test : (k : ℕ) (name : List ℕ) → slice_get irregular_texts k ≡ Some name → P name → list_any test irregular_texts ≡ true
-  to_test k name at is =
-      list_any_at test irregular_texts k [] (slice_get_within irregular_texts k name at)
-      (ap test (get_or_from_slice_get irregular_texts k name [] at) ∙ (decides name).1 is)
+  to_test k name at is = grind (arith, nat_tests, list_any_at, slice_get_within irregular_texts k name at, get_or_from_slice_get irregular_texts k name [] at)
 
 pub begins_some : (p : List ℕ) → IsTrue (list_any (λ name. are_alike p (take (length p) name)) irregular_texts) ↔ IsIrregularPrefix p
 unfolding IsIrregularPrefix
@@ -86,9 +84,7 @@ listed tag = grind (arith, common_steps)
 
 -- what is equal at each member of a list is equal at one
 pub at_member : {A B : Type 0} (f g : A → B) (xs : List A) (k : ℕ) (x : A) → slice_get xs k ≡ Some x → map f xs ≡ map g xs → f x ≡ g x
-at_member f g xs k x at same =
-    let of : option_map f (slice_get xs k) ≡ option_map g (slice_get xs k) = sym (slice_get-map f xs k) ∙ ap (λ ys. slice_get ys k) same ∙ slice_get-map g xs k in
-    cc
+at_member f g xs k x at same = grind (arith, nat_tests, slice_get-map f xs k, slice_get-map g xs k)
 
 -- each spelling stands first at its own index
 first_of : (tag : GrandfatheredLangTag) → first_index (fold_text (text_of tag)) ≡ index_of tag
@@ -160,13 +156,11 @@ first_subtag text = slice_get (segments text) 0
 
 irregular_at_index : (tag : GrandfatheredLangTag) → slice_get irregular_texts (index_of tag) ≡ cond (ltb (index_of tag) 17) (Some (text_of tag)) None
 unfolding grandfathered_tags irregular_texts
-irregular_at_index tag =
-    at_member (λ t. slice_get irregular_texts (index_of t)) (λ t. cond (ltb (index_of t) 17) (Some (text_of t)) None) GRANDFATHERED (index_of tag) tag (listed tag) refl
+irregular_at_index tag = grind (arith, nat_tests, at_member, ltb)
 
 language_at_index : (tag : GrandfatheredLangTag) → language_of tag ≡ cond (ltb (index_of tag) 17) None (first_subtag (text_of tag))
 unfolding grandfathered_tags
-language_at_index tag =
-    at_member language_of (λ t. cond (ltb (index_of t) 17) None (first_subtag (text_of t))) GRANDFATHERED (index_of tag) tag (listed tag) refl
+language_at_index tag = grind (arith, nat_tests, at_member language_of, ltb)
 
 pub registered_primary : (tag : GrandfatheredLangTag) → EachRecord (text_of tag) (λ r. language_of tag ≡ Some r.primary)
 unfolding IsNormal IsIrregular IsIrregularAt

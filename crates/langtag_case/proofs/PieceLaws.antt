@@ -1,5 +1,5 @@
 -- The walk from piece to piece.
-use Rattle.langtag_scan.proofs.Prelude.{◌≡◌, ◌≢◌, ℕ, ◌+◌, ◌-◌, ◌<◌, ◌≤◌, true, false, ◌⊎◌, inl, inr, List, [], ◌∷◌, ◌++◌, length, map, take, drop, set, get_or, refl, sym, ap, subst, ◌∙◌, arith, append-nil, append_assoc, length-append, common_steps, to_ascii_uppercase, at_drop_more, take_more, take-append-drop, take_all, drop_all, take-map, drop-map, get_or-take, take-append_seam, drop-append_seam, slice_split_none, slice_split_at, length-slice_split, join_with_byte-slice_split, length-take, length-drop, ne_eqb, eq-eqb}
+use Rattle.langtag_scan.proofs.Prelude.{◌≡◌, ◌≢◌, ℕ, ◌+◌, ◌-◌, ◌<◌, ◌≤◌, true, false, ◌⊎◌, inl, inr, List, [], ◌∷◌, ◌++◌, length, map, take, drop, set, get_or, refl, sym, ap, subst, ◌∙◌, arith, append-nil, append_assoc, length-append, common_steps, to_ascii_uppercase, at_drop_more, take_more, take-append-drop, take_all, drop_all, take-map, drop-map, get_or-take, take-append_seam, drop-append_seam, slice_split_none, slice_split_at, length-slice_split, join_with_byte-slice_split, length-take, length-drop, ne_eqb, eq-eqb, nat_tests}
 use Prim.Native.Nat.{zero, suc}
 use borrow.Rule.Slice.PartMut.{put_mid}
 use Rattle.std.proofs.lemmas.List.Elements.{All-from_get_or}
@@ -47,9 +47,7 @@ cut s rest free (inl none) = record {
 cut s rest free (inr (q, hyphen)) = record {
   others = segments q;
   are = ap (λ t. segments (s ++ t)) hyphen ∙ slice_split_at is_hyphen s 45 q free refl;
-  joined = λ x.
-      join-cons x (later (segments q)) (later-some (segments q) (omega (arith, length-slice_split is_hyphen q)))
-      ∙ sym (ap (λ t. x ++ after_piece t) hyphen);
+  joined = grind (arith, nat_tests, join-cons, later-some, length-slice_split is_hyphen);
 }
 
 -- all subtags of a text, small

@@ -62,8 +62,7 @@ fold-recommended_subtag before s = grind (arith, common_steps, fold-cond, fold_t
 -- folded subtags come out as those they fold
 recommended_after-fold : (before ss : List (List ℕ)) → recommended_after (map fold_text before) (map fold_text ss) ≡ recommended_after before ss
 recommended_after-fold before [] = refl
-recommended_after-fold before (s ∷ ss) =
-    rw (recommended_subtag-fold before s, ← map-append fold_text before (s ∷ []), recommended_after-fold (before ++ s ∷ []) ss) refl
+recommended_after-fold before (s ∷ ss) = grind (arith, common_steps, recommended_subtag-fold, map-append, recommended_after-fold (before ++ s ∷ []) ss)
 
 -- and fold as they did
 fold-recommended_after : (before ss : List (List ℕ)) → map fold_text (recommended_after before ss) ≡ map fold_text ss
@@ -114,25 +113,12 @@ any_push before s v h = list_any-append is_single before (s ∷ []) ∙ rw (h, o
 -- after a singleton all subtags are small
 after_single : (before ss : List (List ℕ)) → list_any is_single before ≡ true → recommended_after before ss ≡ map fold_text ss
 after_single before [] some = refl
-after_single before (s ∷ ss) some =
-    rw (some, or-true (length before == 0), after_single (before ++ s ∷ []) ss (any_push before s true some)) refl
+after_single before (s ∷ ss) some = grind (arith, common_steps, or-true, any_push, after_single (before ++ s ∷ []) ss (any_push before s true some))
 
 -- where none stood before, those that are not first have the case of later ones
 after_none : (before ss : List (List ℕ)) → list_any is_single before ≡ false → (length before == 0) ≡ false → recommended_after before ss ≡ later ss
 after_none before [] none some = refl
-after_none before (s ∷ ss) none some =
-    by_single (is_single s) refl (λ many. after_none (before ++ s ∷ []) ss (any_push before s false none ∙ many) pushed)
-  where
-    here : recommended_subtag before s ≡ by_length s
-    here = rw (none, some) refl
-
-    pushed : (length (before ++ s ∷ []) == 0) ≡ false
-    pushed = ne_eqb (length (before ++ s ∷ [])) 0 (λ e. omega (arith, e, length-append before (s ∷ [])))
-
-    by_single :
-        (v : Bool) → is_single s ≡ v → (is_single s ≡ false → recommended_after (before ++ s ∷ []) ss ≡ later ss) →
-        recommended_after before (s ∷ ss) ≡ later (s ∷ ss)
-    by_single v many more = grind (arith, common_steps, after_single (before ++ s ∷ []) ss, any_push before s, eqb-true)
+after_none before (s ∷ ss) none some = grind (arith, common_steps, any_push, ne_eqb, length-append, after_single, eqb-true, after_none (before ++ s ∷ []) ss)
 
 -- what follows the first subtag
 pub after_first : (s : List ℕ) (ss : List (List ℕ)) (v : Bool) → is_single s ≡ v → recommended_after (s ∷ []) ss ≡ cond v (map fold_text ss) (later ss)

@@ -1,25 +1,22 @@
 -- The distance of texts, and what it is made of, do not change with the case of letters.
-use Rattle.langtag_scan.proofs.Prelude.{◌≡◌, ℕ, cond, List, [], ◌∷◌, Option, refl, ap, ◌∙◌, arith, rules, ◌&&◌, codes, Bool, map, None, Some, option_map, sym, nat_tests, common_steps, option_map_or}
+use Rattle.langtag_scan.proofs.Prelude.{◌≡◌, ℕ, cond, List, [], ◌∷◌, Option, refl, ap, ◌∙◌, arith, rules, codes, Bool, map, None, Some, option_map, sym, nat_tests, common_steps, option_map_or}
 use Rattle.langtag_scan.proofs.Grammar.{Alike, are_alike, fold_text, are_alike-decides, is_primary, is_extended, is_script, is_region, subtags}
 use Rattle.langtag_scan.proofs.CaseLaw.{fold_text-twice, length-fold, classes-fold, subtags-fold}
 use Rattle.langtag_range.proofs.Definitions.{basic_text, hyphened}
 use Rattle.langtag_range.proofs.AlikeTexts.{hyphened-fold, is_star-fold}
 use Rattle.langtag_range.proofs.BasicForms.{basic_text-alike}
-use Rattle.langtag_likely.proofs.Definitions.{are_alike_fields, known, without_region, without_language, keeping_language, most_unknown, most_likely, matching_fields, matching_form, text_fields, fields_of_subtags, counted, counts, last_language, after_language, script_of, after_script, region_of}
+use Rattle.langtag_likely.proofs.Definitions.{known, without_region, without_language, most_unknown, most_likely, matching_fields, matching_form, text_fields, fields_of_subtags, counted, last_language, after_language, script_of, after_script, region_of}
 use Rattle.langtag.specs.Fields.{Fields}
 use Rattle.langtag_likely.proofs.AlikeFields.{AlikeOptions, fields-right, alone_alike, added-alike, by_options, language-alike, letters-alike, suffices-alike}
 use Rattle.langtag.proofs.Alike.{AlikeFields, are_alike-left, are_alike-right}
 use Rattle.langtag_choice.specs.Distance.{distance_of_forms, is_among, language_distance, region_distance, script_distance, DistanceIgnoresCase, distance_of_texts}
 use Rattle.langtag_choice.specs.Nearness.{unlikely, unlikely_of, unlikely_form}
-use Rattle.langtag_choice.specs.Rules.{Rule, fits, distance_by}
+use Rattle.langtag_choice.specs.Rules.{Rule, distance_by}
 
 -- ---- the matching form
 
 unknown-alike : (a b : Fields) → AlikeFields a b → AlikeFields (most_unknown a) (most_unknown b)
-unknown-alike a b h =
-    by_options (λ o p. AlikeFields (option_map_or (keeping_language a) o a) (option_map_or (keeping_language b) p b)) h
-    (λ v w same. record { language = h.language; script = same.script; region = same.region }) _ _
-    (added-alike (without_language a) (without_language b) (record { language = refl; script = h.script; region = h.region }))
+unknown-alike a b h = grind (arith, nat_tests, added-alike (without_language a) (without_language b))
 
 likely-alike : (a b : Fields) → AlikeFields a b → AlikeFields (most_likely a) (most_likely b)
 unfolding most_likely
@@ -35,10 +32,7 @@ matching-alike a b same = likely-alike _ _ (letters-alike _ _ (language-alike a 
 distance_by-alike :
     (rules : List Rule) (otherwise : ℕ) (a b c d : Fields) → AlikeFields a b → AlikeFields c d → distance_by rules otherwise a c ≡ distance_by rules otherwise b d
 distance_by-alike [] otherwise a b c d h k = refl
-distance_by-alike (rule ∷ rules) otherwise a b c d h k =
-    ap (λ t. cond (t && are_alike_fields rule.supported c) rule.distance (distance_by rules otherwise a c)) (fields-right rule.desired a b h)
-    ∙ ap (λ t. cond (are_alike_fields rule.desired b && t) rule.distance (distance_by rules otherwise a c)) (fields-right rule.supported c d k)
-    ∙ ap (cond (fits b d rule) rule.distance) (distance_by-alike rules otherwise a b c d h k)
+distance_by-alike (rule ∷ rules) otherwise a b c d h k = grind (arith, common_steps, fields-right, distance_by-alike rules otherwise a b c d h k)
 
 pub both-alike : (a b c d : List ℕ) → Alike a b → Alike c d → are_alike a c ≡ are_alike b d
 both-alike a b c d h k = are_alike-left a b c h ∙ are_alike-right b c d k
@@ -60,10 +54,7 @@ regions-alike a b c d h k = grind (arith, both-alike, common_steps, are_alike-ri
 pub forms-alike :
     (a b c d : List ℕ) → Alike a b → Alike c d → (f g v w : Option Fields) → AlikeOptions f g → AlikeOptions v w → distance_of_forms a c f v ≡ distance_of_forms b d g w
 unfolding language_distance
-forms-alike a b c d h k f g v w same also =
-    grind (arith, nat_tests, both-alike a b c d h k, both-alike, distance_by-alike, alone_alike, scripts-alike, regions-alike)
-
--- ---- bytes and subtags
+forms-alike a b c d h k f g v w same also = grind (arith, nat_tests, both-alike a b c d h k, distance_by-alike, alone_alike, scripts-alike, regions-alike)
 
 -- ---- the fields of subtags
 
@@ -98,8 +89,7 @@ fold_fields f = record { language = fold_text f.language; script = fold_text f.s
 
 counted-fold : (subtags : List (List ℕ)) → counted (map fold_text subtags) ≡ map fold_text (counted subtags)
 counted-fold [] = refl
-counted-fold (s ∷ others) =
-    grind (arith, nat_tests, is_star-fold s, length-fold s, counted-fold others, cond-map (map fold_text) (counts s) (s ∷ counted others) (counted others))
+counted-fold (s ∷ others) = grind (arith, common_steps, is_star-fold, length-fold, cond-map, counted-fold others)
 
 fields_of_subtags-fold : (subtags : List (List ℕ)) → fields_of_subtags (map fold_text subtags) ≡ option_map fold_fields (fields_of_subtags subtags)
 fields_of_subtags-fold [] = refl

@@ -1,5 +1,5 @@
 -- The choice is the only one, answers lookup, is the tag that is equal, and does not change with the case of letters.
-use Rattle.langtag_scan.proofs.Prelude.{◌≡◌, ℕ, true, List, get_or, Option, Some, None, option_map, ap, refl, sym, subst, ◌∙◌, ◌-◌, ◌==◌, ◌≤◌, false, nat_lt, arith, Ordering, Less, Equal, Greater, inl, inr, ◌<◌, cond, not, [], ◌∷◌, ◌++◌, length, map, filter, All, eq-eqb, IsTrue, length-take, take, Bool, slice_get, take-append_seam, drop-append_seam, take-length, eqb_tells, nat_tests, and_parts, ltb-false, nat_list_cmp_total, common_steps, All-cons, All-nil, length-map, take-map, drop-map, slice_get-map, bytes_decides, slice_cmp, is_eq, nat_cmp, ordering_reverse}
+use Rattle.langtag_scan.proofs.Prelude.{◌≡◌, ℕ, true, List, get_or, Option, Some, None, option_map, ap, refl, sym, subst, ◌∙◌, ◌-◌, ◌==◌, ◌≤◌, false, nat_lt, arith, Ordering, Less, Equal, Greater, inl, inr, ◌<◌, cond, not, [], ◌∷◌, ◌++◌, length, map, filter, All, eq-eqb, IsTrue, length-take, Bool, slice_get, take-append_seam, drop-append_seam, take-length, eqb_tells, nat_tests, and_parts, ltb-false, nat_list_cmp_total, common_steps, All-cons, All-nil, length-map, take-map, drop-map, slice_get-map, bytes_decides, slice_cmp, is_eq, nat_cmp, ordering_reverse}
 use Rattle.langtag_scan.proofs.Grammar.{Alike, fold_byte, fold_text, are_alike, are_alike-decides}
 use Rattle.std.proofs.Math.ListN.{get_or-map}
 use Rattle.std.proofs.Math.Seq.{drop-length}
@@ -39,8 +39,7 @@ module _ (elements : List Element) (tags : List (Option (List ℕ))) where
   same_choice None None none also = refl
   same_choice None (Some j) none some = absurd (none some.pair)
   same_choice (Some i) None some none = absurd (none some.pair)
-  same_choice (Some i) (Some j) some also =
-      ap Some (sym also.here ∙ same_index also.pair some.pair (also.least some.pair) (some.least also.pair) ∙ some.here)
+  same_choice (Some i) (Some j) some also = grind (arith, nat_tests, same_index also.pair some.pair (also.least some.pair) (some.least also.pair))
 
   pub only_choice : (answer : Option ℕ) → IsChoice elements tags answer → IsOnlyChoice elements tags answer
   only_choice answer is = λ other also. same_choice answer other is also
@@ -70,10 +69,7 @@ ends_in_single-fold text = rw (length-map text fold_byte, get_or-map fold_byte t
 
 -- a tag that is the whole range
 pub whole_fallback : (range tag : List ℕ) → Alike range tag → is_fallback range tag ≡ true
-whole_fallback range tag alike =
-    let long : length tag ≡ length range = sym (length-alike range tag alike) in
-    let same = (are_alike-decides range tag).1 alike in
-    rw (long, take-length range, drop-length range, same, (eq-eqb (length range) (length range) refl)) refl
+whole_fallback range tag alike = grind (arith, common_steps, length-alike, are_alike-decides, take-length, drop-length, eq-eqb)
 
 shorter_fallback : (range text tag : List ℕ) → IsBefore range text → not (ends_in_single text) ≡ true → Alike text tag → is_fallback range tag ≡ true
 shorter_fallback range text tag before multiple alike =
@@ -100,8 +96,7 @@ look_up_answered elements tags answer some place element index tag range_there w
 
 alike_kept : (range tag : List ℕ) → 0 < length range → length range - kept range tag ≡ 0 → Alike range tag
 unfolding kept
-alike_kept range tag some whole =
-    grind (arith, nat_tests, and_parts, are_alike-decides (take (length tag) range) tag, length-alike (take (length tag) range) tag, length-take (length tag) range, take-length range)
+alike_kept range tag some whole = grind (arith, common_steps, and_parts, are_alike-decides, length-alike, length-take, take-length)
 
 module _ (elements : List Element) (all : List (Option (List ℕ))) (place : ℕ) (element : Element) (index : ℕ) (heaviest : IsHeaviest elements place element) (wish : IsTrue (is_wish element)) (most : element.weight ≤ 1000) (star : is_star element.range ≡ false) (long : 0 < length element.range) (first : IsFirstAlike elements all element.range index) where
   lost_none : length element.range - kept element.range first.tag ≡ 0
@@ -152,8 +147,7 @@ serves-fold element tag = rw (is_star-fold element.range, reach-fold element.ran
 
 rank-fold : (place : ℕ) (element : Element) (index : ℕ) (tag : List ℕ) → rank place (folded element) index (fold_text tag) ≡ rank place element index tag
 unfolding rank
-rank-fold place element index tag =
-    rw (reach-fold element.range tag, length-fold element.range, kept-fold element.range tag, unlikely-alike (fold_text tag) tag (fold_text-twice tag)) refl
+rank-fold place element index tag = grind (arith, common_steps, reach-fold, length-fold, kept-fold, unlikely-alike, fold_text-twice)
 
 -- ---- what is refused
 
@@ -169,15 +163,10 @@ is_refused-fold elements tag = grind (arith, nat_tests, longest-fold is_wish, lo
 
 -- ---- what is chosen
 
-mapped : {A B : Type 0} (f : A → B) (o : Option A) (z : B) → option_map f o ≡ Some z → (y : A) × (o ≡ Some y) × (z ≡ f y)
-mapped f o z is = grind arith
-
 -- where one list has an element, another that is equal but for case has one that is
 at-folded :
     {A : Type 0} (fold : A → A) (xs ys : List A) (k : ℕ) (x : A) → map fold xs ≡ map fold ys → slice_get xs k ≡ Some x → (y : A) × (slice_get ys k ≡ Some y) × (fold x ≡ fold y)
-at-folded {A} fold xs ys k x same there =
-    let equal : option_map fold (slice_get ys k) ≡ Some (fold x) = sym (slice_get-map fold ys k) ∙ ap (λ list. slice_get list k) (sym same) ∙ slice_get-map fold xs k ∙ ap (option_map fold) there in
-    mapped fold (slice_get ys k) (fold x) equal
+at-folded {A} fold xs ys k x same there = grind (arith, nat_tests, slice_get-map fold ys k, slice_get-map fold xs k)
 
 module _ (elements es : List Element) (tags ts : List (Option (List ℕ))) (same_elements : map folded elements ≡ map folded es) (same_tags : map (option_map fold_text) tags ≡ map (option_map fold_text) ts) where
   -- a pair among others that are equal but for case, of the same rank

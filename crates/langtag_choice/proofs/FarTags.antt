@@ -1,5 +1,5 @@
 -- Ranges as they are read, and tags that are far from a range, as their first letters and the numbers of languages show.
-use Rattle.langtag_scan.proofs.Prelude.{◌≡◌, ℕ, true, not, ◌==◌, List, [], ◌∷◌, length, length-drop, length-take, take, drop, filter, refl, sym, ap, ◌∙◌, arith, ◌&&◌, ◌||◌, codes, Bool, false, inl, inr, subst, ◌<◌, ◌≤◌, ◌+◌, ◌-◌, ◌*◌, cond, get_or, Option, Some, None, option_map, nat_tests, eqb_tells, common_steps, and_parts, both_ways, eq-eqb, false_from_ne_true, or_cases, and_from, or_parts, not-true, take_while-cons, ForSome, list_all, after_first, before_first, position_or_len}
+use Rattle.langtag_scan.proofs.Prelude.{◌≡◌, ℕ, true, not, ◌==◌, List, [], ◌∷◌, length, length-drop, length-take, take, drop, filter, refl, sym, ap, ◌∙◌, arith, ◌&&◌, ◌||◌, codes, Bool, false, subst, ◌<◌, ◌≤◌, ◌+◌, ◌-◌, ◌*◌, cond, get_or, Option, Some, None, option_map, nat_tests, eqb_tells, common_steps, and_parts, both_ways, eq-eqb, false_from_ne_true, or_cases, or_parts, not-true, take_while-cons, ForSome, list_all, after_first, before_first}
 use Rattle.langtag_scan.proofs.Grammar.{are_alike, fold_byte, are_alike-decides, subtags, are_letters, is_extended, is_letter, is_primary}
 use Rattle.std.proofs.Common.{lit≤}
 use Rattle.langtag_range.proofs.AlikeTexts.{is_star-fold}
@@ -10,14 +10,13 @@ use Rattle.langtag_likely.proofs.CommonTexts.{nothing_read, read_byte, read_noth
 use Rattle.langtag_likely.proofs.Definitions.{matching_form, language_replaced, matching_fields, after_common, BeginsPlain, counted, fields_of_subtags, text_fields, last_language, counted_parts, language_aliases, Likely, known, language_alone, likely_for}
 use Rattle.langtag_choice.specs.Nearness.{is_fallback, kept}
 use Rattle.langtag_likely.proofs.AddedTwice.{either_way}
-use Rattle.std.proofs.lemmas.Bool.{not_from_true}
 use Rattle.langtag_scan.proofs.Disjoint.{extended_three}
 use Rattle.langtag_tables.specs.Numbers.{letter_number}
 use Rattle.langtag_tables.proofs.Letters.{letter_number-tells, number_of_two, primary_length, primary_letters}
 use Rattle.langtag.specs.Fields.{Fields}
-use Rattle.langtag_likely.proofs.AlikeFields.{by_options, completed_language}
+use Rattle.langtag_likely.proofs.AlikeFields.{completed_language}
 use Rattle.langtag.proofs.Alike.{alike_length}
-use Rattle.langtag_choice.specs.Distance.{distance_of_forms, distance_of_texts, language_distance}
+use Rattle.langtag_choice.specs.Distance.{distance_of_texts, language_distance}
 use Rattle.langtag_choice.specs.FirstLetters.{HasNoExtended, IsLanguageOf, IsShort, first_two}
 use Rattle.langtag_choice.specs.NearLanguages.{AreFar, HasNumber, HaveOneLanguage, form_number, is_among_numbers}
 use Rattle.langtag_choice.specs.declared.matching_tables.TheConstants.{SHORT_ALIAS_KEYS}
@@ -60,8 +59,7 @@ tag_left : (range tag : List ℕ) → are_alike (take (length tag) range) tag �
 tag_left [] [] = refl
 tag_left [] (b ∷ tag) = rw (some_length b tag) refl
 tag_left (a ∷ range) [] = refl
-tag_left (a ∷ range) (b ∷ tag) =
-    either_way (fold_byte a == fold_byte b) (λ is. rw is (tag_left range tag)) (λ is. rw (is, some_length b tag) refl)
+tag_left (a ∷ range) (b ∷ tag) = grind (arith, nat_tests, some_length b tag, tag_left range tag)
 
 tag_dropped : (range tag : List ℕ) → (length (after_common range tag).1 == 0) ≡ true → drop (length tag) range ≡ (after_common range tag).0
 tag_dropped [] [] none = refl
@@ -72,8 +70,7 @@ tag_dropped (a ∷ range) (b ∷ tag) none = grind (arith, tag_dropped range tag
 range_left : (range tag : List ℕ) → are_alike range (take (length range) tag) ≡ (length (after_common range tag).0 == 0)
 range_left [] tag = refl
 range_left (a ∷ range) [] = rw (some_length a range) refl
-range_left (a ∷ range) (b ∷ tag) =
-    either_way (fold_byte a == fold_byte b) (λ is. rw is (range_left range tag)) (λ is. rw (is, some_length a range) refl)
+range_left (a ∷ range) (b ∷ tag) = grind (arith, nat_tests, some_length a range, range_left range tag)
 
 range_dropped : (range tag : List ℕ) → (length (after_common range tag).0 == 0) ≡ true → drop (length range) tag ≡ (after_common range tag).1
 range_dropped [] tag none = refl
@@ -113,14 +110,7 @@ module _ (key : Fields) (two : length key.language ≡ 2) (letters : are_letters
   same_number word plain alike = grind (arith, nat_tests, eqb_tells (letter_number key.language) (letter_number word), both_ways, letter_number-tells word key.language plain letters)
 
   apart : (row : Likely) → is_listed row ≡ true → are_alike row.from.language key.language ≡ false
-  apart row listed = false_from_ne_true (are_alike row.from.language key.language) (λ alike.
-      let word = row.from.language in
-      let parts = and_parts (are_letters word) (not (length word == 2) || is_among_numbers SHORT_ALIAS_KEYS (letter_number word)) listed in
-      let number = same_number word parts.0 alike in
-      elim (or_cases (not (length word == 2)) (is_among_numbers SHORT_ALIAS_KEYS (letter_number word)) parts.1) [
-        | inl longer ↦ both_ways _ (not_from_true (length word == 2) (eq-eqb (length word) 2 (alike_length word key.language alike ∙ two))) longer
-        | inr found ↦ both_ways _ (ap (is_among_numbers SHORT_ALIAS_KEYS) (sym number) ∙ absent) found
-      ])
+  apart row listed = grind (arith, common_steps, false_from_ne_true, and_parts, same_number, or_cases)
 
   no_alias : (rows : List Likely) → list_all is_listed rows ≡ true → likely_for rows (language_alone key) ≡ None
   no_alias [] all = refl
@@ -135,17 +125,13 @@ module _ (key : Fields) (two : length key.language ≡ 2) (letters : are_letters
 head-take : (n : ℕ) (text : List ℕ) → 2 ≤ length (take n text) → first_two (take n text) ≡ first_two text
 head-take n text long = grind (arith, common_steps)
 
-pub apart_letters : (a b : ℕ × ℕ) → not ((a.0 == b.0) && (a.1 == b.1)) ≡ true → Some a ≡ Some b → ⊥
-apart_letters a b apart same = grind (arith, nat_tests, both_ways, not-true, and_from (a.0 == b.0) (a.1 == b.1), eq-eqb a.0 b.0, eq-eqb a.1 b.1)
-
 -- ---- what a text begins with
 
 unmarked : (x : ℕ) (text : List ℕ) → is_separator x ≡ false → before_first is_separator (x ∷ text) ≡ x ∷ before_first is_separator text
 unmarked x text is = take_while-cons (λ b. not (is_separator b)) x text ∙ ap (λ b. cond (not b) (x ∷ before_first is_separator text) []) is
 
 pub few_extended : (text : List ℕ) → length text ≤ 2 → is_extended (before_first is_separator text) ≡ false
-few_extended text few =
-    grind (arith, nat_tests, false_from_ne_true, extended_three (before_first is_separator text), length-take (position_or_len is_separator text) text)
+few_extended text few = grind (arith, common_steps, false_from_ne_true, extended_three, length-take)
 
 -- no mark stands at the third place from 0 on
 longer : (x y z n : ℕ) (text : List ℕ) → is_separator n ≡ false → is_extended (before_first is_separator (x ∷ y ∷ z ∷ n ∷ text)) ≡ false
@@ -197,10 +183,7 @@ module _ (text : List ℕ) (short : IsShort text) where
 
 -- the number of two letters
 number_of_letters : (language : List ℕ) (letters : ℕ × ℕ) → length language ≡ 2 → first_two language ≡ Some letters → letter_number language ≡ (letters.0 - 96) * 26 + (letters.1 - 96)
-number_of_letters [] letters two is = absurd cc
-number_of_letters (a ∷ []) letters two is = absurd cc
-number_of_letters (a ∷ b ∷ []) letters two is = grind (arith, number_of_two)
-number_of_letters (a ∷ b ∷ c ∷ rest) letters two is = absurd (omega (arith, two))
+number_of_letters language letters two is = grind (arith, nat_tests, number_of_two)
 
 pub language_of_letters :
     (letters : ℕ × ℕ) (number : ℕ) → number ≡ (letters.0 - 96) * 26 + (letters.1 - 96) → is_among_numbers SHORT_ALIAS_KEYS number ≡ false → IsLanguageOf letters number
@@ -225,12 +208,6 @@ language_of_letters letters number number_is absent text short begins = by_und (
 
 -- ---- how far it is
 
--- what is alike has a form or has none
-form_alone : (range tag : List ℕ) (f : Fields) → matching_form range ≡ Some f → matching_form tag ≡ None → are_alike range tag ≡ false
-form_alone range tag f some none = false_from_ne_true (are_alike range tag) (λ yes.
-    by_options (λ a b. a ≡ Some f → b ≡ None → ⊥) (λ is not. cc) (λ a b alike is not. cc) _ _
-    (matching_form-alike range tag ((are_alike-decides range tag).0 yes)) some none)
-
 number_had : (own : ℕ) (f : Fields) → form_number (Some f) ≡ Some own → HasNumber own f
 number_had own f is = grind (arith, nat_tests)
 
@@ -244,12 +221,8 @@ number_is o f number is letters number_of g there = let same : f ≡ g = cc in (
 pub far_by_numbers :
     (own other : ℕ) (range tag : List ℕ) → AreFar own other → form_number (matching_form range) ≡ Some own → ForSome (matching_form tag) (HasNumber other) → 50 ≤ distance_of_texts range tag
 unfolding distance_of_texts
-far_by_numbers own other range tag far desired supported = by_forms (matching_form range) (matching_form tag) refl refl desired
-  where
-    by_forms : (r t : Option Fields) → matching_form range ≡ r → matching_form tag ≡ t → form_number r ≡ Some own → 50 ≤ distance_of_forms range tag r t
-    by_forms None t r_is t_is desired = absurd cc
-    by_forms (Some d) None r_is t_is desired = rw (form_alone range tag d r_is t_is) (lit≤ tt)
-    by_forms (Some d) (Some s) r_is t_is desired = let is = far d s (number_had own d desired) (supported s t_is) in omega (arith, is)
+far_by_numbers own other range tag far desired supported =
+    grind (arith, nat_tests, lit≤, number_had own, false_from_ne_true (are_alike range tag), matching_form-alike range tag, are_alike-decides range tag)
 
 -- languages with one number are equal
 pub one_language : (own other : ℕ) (r t : Option Fields) → form_number r ≡ Some own → ForSome t (HasNumber other) → own ≡ other → HaveOneLanguage r t

@@ -1,5 +1,5 @@
 -- What loops over ranges and over tags have found, and that it is the choice.
-use Rattle.langtag_scan.proofs.Prelude.{◌≡◌, ℕ, true, List, get_or, Option, Some, None, option_map, ap, refl, sym, subst, ◌∙◌, ◌-◌, ◌==◌, ◌≤◌, false, not, ◌&&◌, ◌||◌, nat_lt, arith, Bool, [], ◌∷◌, ◌+◌, ◌<◌, zero, suc, length, min, inl, inr, slice_get, replicate, or-true, eqb_tells, nat_tests, and_parts, eq-eqb, eqb-true, ltb-false, ltb-true, not-true, or_cases, cases_lt, common_steps, get_or_past, get_or_from_slice_get, slice_get-get_or, slice_get_within, list_any, ForSome, option_map_or}
+use Rattle.langtag_scan.proofs.Prelude.{◌≡◌, ℕ, true, List, get_or, Option, Some, None, option_map, ap, refl, sym, subst, ◌∙◌, ◌-◌, ◌==◌, ◌≤◌, false, ◌&&◌, ◌||◌, nat_lt, arith, Bool, [], ◌∷◌, ◌+◌, ◌<◌, zero, suc, length, min, inl, inr, slice_get, replicate, or-true, eqb_tells, nat_tests, and_parts, eq-eqb, eqb-true, ltb-false, ltb-true, not-true, or_cases, cases_lt, common_steps, get_or_from_slice_get, slice_get-get_or, slice_get_within, list_any, ForSome}
 use Rattle.std.proofs.lemmas.Option.{slice_get_cases}
 use Rattle.langtag_range.proofs.Definitions.{Element, basic_text}
 use Rattle.langtag_choice.specs.Best.{IsAtMost, IsChoice, IsMatchOf, Pair, rank, rank_of_pair, serves, reach, service, is_excluded, is_refused, longest}
@@ -75,11 +75,7 @@ module _ (elements : List Element) (tags : List (Option (List ℕ))) where
 unrefused_tag :
     (elements : List Element) (tags : List (Option (List ℕ))) (index : ℕ) → index < length tags → is_unrefused_at elements tags index ≡ true →
     (tag : List ℕ) × (slice_get tags index ≡ Some (Some tag)) × (is_refused elements tag ≡ false)
-unrefused_tag elements tags index inside is = by_entry (get_or tags index None) refl is
-  where
-    by_entry : (o : Option (List ℕ)) → get_or tags index None ≡ o → option_map_or (λ tag. not (is_refused elements tag)) o false ≡ true → (tag : List ℕ) × (slice_get tags index ≡ Some (Some tag)) × (is_refused elements tag ≡ false)
-    by_entry None here is = absurd cc
-    by_entry (Some tag) here is = (tag, slice_get-get_or tags index None inside ∙ ap Some here, not-true (is_refused elements tag) is)
+unrefused_tag elements tags index inside is = grind (arith, nat_tests, slice_get-get_or tags index, not-true)
 
 pub unrefused_entry :
     (elements : List Element) (tags : List (Option (List ℕ))) (index : ℕ) (tag : List ℕ) → get_or tags index None ≡ Some tag → is_refused elements tag ≡ false → is_unrefused_at elements tags index ≡ true
@@ -221,10 +217,6 @@ pub flag_next :
     (start : ℕ) (flags : List Bool) (offset index : ℕ) →
     (is_flagged start flags index && nat_lt index (start + (offset + 1))) ≡ ((is_flagged start flags index && nat_lt index (start + offset)) || (get_or flags offset false && (index == (start + offset))))
 flag_next start flags offset index = grind (arith, eqb_tells, nat_tests)
-
--- there is no flag past the last
-pub all_flags : (start : ℕ) (flags : List Bool) (index : ℕ) → is_flagged start flags index ≡ (is_flagged start flags index && nat_lt index (start + length flags))
-all_flags start flags index = grind (arith, nat_tests, get_or_past flags (index - start) false)
 
 -- the entries before some, and these
 pub block_flags :

@@ -1,6 +1,6 @@
 -- The tags of a site by their indices.
 -- The tags that are chosen in turn.
-use Rattle.langtag_scan.proofs.Prelude.{◌≡◌, ℕ, ◌<◌, List, length, get_or, None, Some, sym, ap, ◌∙◌, option_map, zero, suc, ◌≢◌, ◌⊎◌, inl, inr, ◌≤◌, ◌+◌, ◌-◌, ◌==◌, [], ◌∷◌, ◌++◌, Option, is_some, cond, count_by, slice_get, set, drop, refl, subst, arith, All, get_or-map, length-map, append_assoc, append-nil, drop-drop, drop-set-lt, length-append, length-set, eqb_tells, All-cons, All-nil, count_by-le-length, sum_by-cons, list_any}
+use Rattle.langtag_scan.proofs.Prelude.{◌≡◌, ℕ, ◌<◌, List, length, get_or, None, Some, sym, ap, ◌∙◌, option_map, zero, suc, ◌≢◌, ◌⊎◌, inl, inr, ◌≤◌, ◌+◌, ◌-◌, ◌==◌, [], ◌∷◌, ◌++◌, Option, is_some, cond, count_by, slice_get, set, drop, refl, subst, arith, All, get_or-map, length-map, append_assoc, append-nil, drop-drop, drop-set-lt, length-append, length-set, eqb_tells, All-cons, All-nil, count_by-le-length, sum_by-cons, list_any, common_steps, nat_tests}
 use Rattle.std.proofs.Common.{Contains}
 use Rattle.langtag.specs.Text.{lang_tag_text}
 use Rattle.langtag_choice.specs.ListTexts.{tag_texts}
@@ -43,8 +43,7 @@ pub entry_left :
     (tags : List (Option (List ℕ))) (chosen : List ℕ) (index : ℕ) →
     get_or (without_all tags chosen) index None ≡ cond (list_any (λ other. other == index) chosen) None (get_or tags index None)
 entry_left tags [] index = refl
-entry_left tags (first ∷ chosen) index =
-    grind (arith, entry_left (without tags first) chosen index, gone tags first index, unwrap_or-slice_get (without tags first) index None, unwrap_or-slice_get tags index None)
+entry_left tags (first ∷ chosen) index = grind (arith, common_steps, gone, unwrap_or-slice_get, entry_left (without tags first) chosen index)
 
 without_one_more : (tags : List (Option (List ℕ))) (chosen : List ℕ) (index : ℕ) → without_all tags (chosen ++ index ∷ []) ≡ without (without_all tags chosen) index
 without_one_more tags [] index = refl
@@ -75,8 +74,7 @@ module _ (elements : List Element) (tags : List (Option (List ℕ))) (room : ℕ
 
 -- the rest of an array, after one more entry was written
 pub rest_after : (new old : List ℕ) (count index : ℕ) → drop count new ≡ drop count old → drop (count + 1) (set new count index) ≡ drop (count + 1) old
-rest_after new old count index same =
-    drop-set-lt (count + 1) new count index (omega arith) ∙ sym (drop-drop 1 count new) ∙ ap (drop 1) same ∙ drop-drop 1 count old
+rest_after new old count index same = grind (arith, nat_tests, drop-set-lt (count + 1) new count index, drop-drop 1 count new, drop-drop 1 count old)
 
 -- ---- one tag fewer
 
@@ -130,8 +128,7 @@ number_of_tags tags = count_by is_some tags
 one_fewer : (tags : List (Option (List ℕ))) (index : ℕ) (tag : List ℕ) → slice_get tags index ≡ Some (Some tag) → number_of_tags (without tags index) + 1 ≡ number_of_tags tags
 one_fewer [] index tag there = absurd cc
 one_fewer (first ∷ tags) zero tag there = grind (arith, sum_by-cons one_if_tag None tags, sum_by-cons one_if_tag first tags)
-one_fewer (first ∷ tags) (suc index) tag there =
-    grind (arith, sum_by-cons one_if_tag first (without tags index), sum_by-cons one_if_tag first tags, one_fewer tags index tag there)
+one_fewer (first ∷ tags) (suc index) tag there = grind (arith, common_steps, sum_by-cons, one_fewer tags index tag there)
 
 module _ (elements : List Element) where
   none_left : (tags : List (Option (List ℕ))) (room : ℕ) (indices : List ℕ) → AreSuitable elements tags room indices → (length indices < room) ⊎ (number_of_tags tags ≤ room) →

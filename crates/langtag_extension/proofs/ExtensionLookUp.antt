@@ -1,9 +1,8 @@
 -- The extensions of a text: the groups of its subtags, how many there are, and the first one of a singleton.
-use Rattle.langtag_scan.proofs.Prelude.{ℕ, ◌≤◌, ◌+◌, List, [], ◌∷◌, length, arith, ◌≡◌, Bool, refl, ap, ◌∙◌, Option, None, Some, map, cond, slice_index, find, ◌==◌, true, false, ◌++◌, sym, append-nil, append_assoc, ◌≢◌, ◌<◌, suc, ◌-◌, get_or, take, drop, Bor, MatchOption, encode_utf8, length-map, get_or-take, get_or-drop, drop-append-le, length-take, length-drop, common_steps, option_map_or, AllByRecursion, list_all, list_all-append, drop-cons, length-slice_split, join_with_byte-slice_split, slice_split-cons_yes, slice_split-cons_no, false_from_ne_true, encode_ascii, is_ascii, flat_map, option_map}
-use Rattle.langtag_scan.proofs.Grammar.{join, subtags, is_hyphen, segments, segments_left, NoHyphenWithin, IsHyphenFree, fold_byte, Extension, IsWellFormedExtension, extension_flat, is_singleton}
+use Rattle.langtag_scan.proofs.Prelude.{ℕ, ◌≤◌, ◌+◌, List, [], ◌∷◌, length, arith, ◌≡◌, Bool, refl, ap, ◌∙◌, Option, None, Some, map, cond, slice_index, find, true, false, ◌++◌, sym, append-nil, append_assoc, ◌≢◌, ◌<◌, suc, ◌-◌, get_or, take, drop, Bor, MatchOption, encode_utf8, length-map, get_or-take, get_or-drop, drop-append-le, length-take, length-drop, common_steps, option_map_or, AllByRecursion, list_all, list_all-append, drop-cons, length-slice_split, join_with_byte-slice_split, slice_split-cons_yes, slice_split-cons_no, false_from_ne_true, encode_ascii, is_ascii, flat_map, option_map, nat_tests}
+use Rattle.langtag_scan.proofs.Grammar.{join, subtags, is_hyphen, segments, segments_left, NoHyphenWithin, IsHyphenFree, Extension, IsWellFormedExtension, extension_flat, is_singleton}
 use Rattle.langtag_scan.proofs.Laws.{length-subtags, slice_split-push, slice_split-append, join-hyphenated, join-append, alphanumeric_below, singleton_alphanumeric}
 use Rattle.langtag_extension.specs.ExtensionTexts.{put_first, groups, extension_texts, opens, group_texts, goes_on, texts_left}
-use Rattle.langtag_scan.proofs.BoolFacts.{chosen}
 use Rattle.langtag_extension.specs.Decided.{opens_alike}
 use Rattle.langtag_extension.specs.Spelling.{extension_spelling, SpellsExtension, find_extension}
 use Rattle.std.proofs.Math.Seq.{take-add}
@@ -40,15 +39,12 @@ pub find_spellings :
     (b : ℕ) (es : List Extension) →
     find (opens_alike b) (map extension_spelling es) ≡ option_map extension_spelling (find_extension b es)
 find_spellings b [] = refl
-find_spellings b (e ∷ es) =
-    ap (λ c. cond (fold_byte c == fold_byte b) (Some (extension_spelling e)) (find (opens_alike b) (map extension_spelling es))) (first_byte-spelling e)
-    ∙ cond-map extension_spelling (fold_byte e.singleton == fold_byte b) e (find_extension b es) _ (find_spellings b es)
+find_spellings b (e ∷ es) = grind (arith, common_steps, first_byte-spelling, cond-map, find_spellings b es)
 
 -- what is found is one of the extensions
 pub extension_found : (b : ℕ) (es : List Extension) → AllByRecursion IsWellFormedExtension es → (e : Extension) → find_extension b es ≡ Some e → IsWellFormedExtension e
 extension_found b [] fits e found = absurd cc
-extension_found b (x ∷ es) fits e found =
-    grind (arith, common_steps, chosen (fold_byte x.singleton == fold_byte b) (Some x) (find_extension b es) (Some e) found, extension_found b es fits.1 e)
+extension_found b (x ∷ es) fits e found = grind (arith, nat_tests, extension_found b es fits.1 e)
 
 -- the subtags of the extension that is found
 pub subtags_found :
@@ -93,8 +89,7 @@ join-group_texts (s ∷ x ∷ ss) = grind (arith, common_steps, groups-cons x ss
 pub join-spellings : (es : List Extension) → join (map extension_spelling es) ≡ join (flat_map extension_flat es)
 join-spellings [] = refl
 join-spellings (e ∷ []) = ap (λ ss. join ((e.singleton ∷ []) ∷ ss)) (sym (append-nil e.subtags))
-join-spellings (e ∷ f ∷ es) =
-    grind (arith, common_steps, join-spellings (f ∷ es), join-hyphenated (f.singleton ∷ []), join-append (e.singleton ∷ []) e.subtags)
+join-spellings (e ∷ f ∷ es) = grind (arith, nat_tests, join-hyphenated (f.singleton ∷ []), join-append (e.singleton ∷ []) e.subtags, join-spellings (f ∷ es))
 
 -- ---- the subtags of a text in groups: those of the first extension, and those of the others
 
@@ -134,8 +129,7 @@ groups-split :
     (text first : List ℕ) (rest : Option (Bor (List ℕ))) → MatchOption rest (text ≡ first) (λ r. text ≡ first ++ 45 ∷ r.now) →
     list_all goes_on (drop 1 (segments first)) ≡ true → opens (segments_left rest) ≡ true →
     groups (segments text) ≡ segments first ∷ groups (segments_left rest)
-groups-split text first None whole long opened =
-    grind (arith, common_steps, append-nil (segments first), length-slice_split is_hyphen first, groups-first)
+groups-split text first None whole long opened = grind (arith, nat_tests, append-nil (segments first), length-slice_split is_hyphen first, groups-first)
 groups-split text first (Some rest) joined long opened =
     grind (arith, common_steps, slice_split-append first rest.now, length-slice_split is_hyphen first, groups-first)
 

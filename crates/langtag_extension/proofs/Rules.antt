@@ -1,5 +1,5 @@
 -- The one list that spells a text is found again in it, and the tests of its subtags say whether there is one.
-use Rattle.langtag_scan.proofs.Prelude.{◌≡◌, ◌↔◌, ℕ, Bool, true, IsTrue, List, [], ◌∷◌, drop, ◌==◌, refl, ap, ◌∙◌, arith, map, rules, list_all, AllByRecursion, flat_map, and_parts, common_steps}
+use Rattle.langtag_scan.proofs.Prelude.{◌≡◌, ◌↔◌, ℕ, Bool, true, IsTrue, List, [], ◌∷◌, drop, ◌==◌, refl, ap, ◌∙◌, arith, map, rules, list_all, AllByRecursion, flat_map, and_parts, common_steps, nat_tests}
 use Rattle.langtag_scan.proofs.Grammar.{fold_text, are_alike, is_singleton, is_extension_subtag, Extension, IsWellFormedExtension, extension_flat, join, subtags}
 use Rattle.langtag_scan.proofs.Laws.{each_test-fold, subtags_test-fold, alike_subtags_test, classes-fold, length-fold, join-fold, IsSubtag, of_one, of_extension_subtag, singleton_alphanumeric, each_from_test, test_from_each, each_subtag, subtags-joined, join-subtags, length-after_first, each-append}
 use Rattle.langtag_scan.proofs.BoolFacts.{between_true}
@@ -84,9 +84,7 @@ opens-flat (e ∷ es) = refl
 -- the subtags of all extensions, in groups, are those of each
 groups-flat : (es : List Extension) → AllByRecursion IsWellFormedExtension es → groups (flat_map extension_flat es) ≡ map extension_flat es
 groups-flat [] fits = refl
-groups-flat (e ∷ es) fits =
-    groups-first (e.singleton ∷ []) e.subtags (flat_map extension_flat es) (goes_on-each e.subtags fits.0.subtags) (opens-flat es)
-    ∙ ap (λ gs. extension_flat e ∷ gs) (groups-flat es fits.1)
+groups-flat (e ∷ es) fits = grind (arith, common_steps, groups-first, goes_on-each, opens-flat, groups-flat es fits.1)
 
 -- all of them are subtags, so they are found again in their join
 
@@ -104,13 +102,11 @@ extension_texts_spelled es text spells = grind (arith, common_steps, groups-flat
 
 are_extension_texts_spelled : (es : List Extension) → AllByRecursion IsWellFormedExtension es → are_extension_texts (map extension_spelling es) ≡ true
 are_extension_texts_spelled [] fits = refl
-are_extension_texts_spelled (e ∷ es) fits =
-    rw (is_extension_text-from_rule (extension_spelling e) (e, record { member = fits.0; joined = refl })) (are_extension_texts_spelled es fits.1)
+are_extension_texts_spelled (e ∷ es) fits = grind (arith, common_steps, is_extension_text-from_rule, fits.0, are_extension_texts_spelled es fits.1)
 
 -- from the rule to the test
 pub is_extensions_text-from_rule : (text : List ℕ) → IsExtensions text → IsTrue (is_extensions_text text)
-is_extensions_text-from_rule text (es, spells) =
-    ap are_extension_texts (extension_texts_spelled es text spells) ∙ are_extension_texts_spelled es spells.members
+is_extensions_text-from_rule text (es, spells) = grind (arith, nat_tests, extension_texts_spelled es text spells, are_extension_texts_spelled es spells.members)
 
 -- the extensions that the texts are
 extensions_of_texts :
@@ -125,8 +121,7 @@ extensions_of_texts (t ∷ ts) pass =
 
 -- from the test to the rule
 pub IsExtensions-from_test : (text : List ℕ) → IsTrue (is_extensions_text text) → IsExtensions text
-IsExtensions-from_test text pass =
-    grind (arith, common_steps, extensions_of_texts (extension_texts text) pass, join-spellings, join-group_texts (subtags text), join-subtags text)
+IsExtensions-from_test text pass = grind (arith, common_steps, extensions_of_texts, join-spellings, join-group_texts, join-subtags)
 
 -- an answer that is the test decides the rule
 pub IsExtensions-decided : (text : List ℕ) (answer : Bool) → answer ≡ is_extensions_text text → IsTrue answer ↔ IsExtensions text

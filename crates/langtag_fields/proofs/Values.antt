@@ -1,5 +1,5 @@
 -- A value beside a key, and an entry's value; and the table of languages, which has a bit for each registered one and no other.
-use Rattle.langtag_scan.proofs.Prelude.{◌≡◌, ◌||◌, ℕ, zero, suc, Bool, true, List, [], ◌∷◌, Some, map, slice_get, refl, ap, arith, ◌+◌, ◌*◌, ◌-◌, ◌/◌, ◌%◌, ◌<◌, ◌≤◌, false, ◌==◌, leb, length, get_or, sym, ◌∙◌, ◌≢◌, ltb, cond, take, drop, Option, None, list_all, list_any, bytes_eq, and_parts, eq-eqb, ne_eqb, leb-true, ltb-true, false_from_ne_true, common_steps, ◌^◌, get_or_append_left, get_or-append-add, length-map, length-drop, drop-map, take_all, get_or-map, Result, fold-map, flat_map, fold, find, Ok, Err}
+use Rattle.langtag_scan.proofs.Prelude.{◌≡◌, ◌||◌, ℕ, zero, suc, Bool, true, List, [], ◌∷◌, Some, map, slice_get, refl, ap, arith, ◌+◌, ◌*◌, ◌-◌, ◌/◌, ◌%◌, ◌<◌, ◌≤◌, false, ◌==◌, leb, length, get_or, sym, ◌∙◌, ◌≢◌, ltb, cond, take, drop, Option, None, list_all, list_any, bytes_eq, and_parts, eq-eqb, ne_eqb, leb-true, ltb-true, false_from_ne_true, common_steps, ◌^◌, get_or_append_left, get_or-append-add, length-map, length-drop, drop-map, take_all, get_or-map, Result, fold-map, flat_map, fold, find, Ok, Err, nat_tests}
 use Rattle.std.proofs.lemmas.List.FromFn.{get_or-map-range_with_len, length-map-range_with_len}
 use Rattle.langtag_scan.proofs.Grammar.{fold_byte, are_alike, fold_text, folded_number, Alike, are_alike-decides, is_letter, are_letters, are_alphanumeric}
 use Rattle.langtag_fields.specs.declared.tables.TheConstants.{LANGUAGE_BITS}
@@ -51,17 +51,12 @@ bit_of_word word k below = get_or-map-range_with_len (λ k. word / 2 ^ k % 2 == 
 
 bit_of_words : (words : List ℕ) (q k : ℕ) → q < length words → k < 64 → get_or (flat_map bits words) (q * 64 + k) false ≡ (get_or words q 0 / 2 ^ k % 2 == 1)
 bit_of_words [] q k inside below = absurd (omega arith)
-bit_of_words (word ∷ words) zero k inside below =
-    grind (arith, common_steps, length-bits word, get_or_append_left (bits word) (flat_map bits words) false k, bit_of_word word k below)
-bit_of_words (word ∷ words) (suc q) k inside below =
-    grind (arith, common_steps, length-bits word, get_or-append-add (bits word) (flat_map bits words) (q * 64 + k) false, bit_of_words words q k)
+bit_of_words (word ∷ words) zero k inside below = grind (arith, common_steps, length-bits, get_or_append_left, bit_of_word)
+bit_of_words (word ∷ words) (suc q) k inside below = grind (arith, common_steps, length-bits, get_or-append-add, bit_of_words words q k)
 
 pub language_bit_at : (index : ℕ) → index < 18304 → language_bit index ≡ (get_or LANGUAGE_BITS (index / 64) 0 / 2 ^ (index % 64) % 2 == 1)
 unfolding language_bit
-language_bit_at index below =
-    let at : index ≡ index / 64 * 64 + index % 64 = omega arith in
-    ap (λ i. get_or (flat_map bits LANGUAGE_BITS) i false) at
-    ∙ bit_of_words LANGUAGE_BITS (index / 64) (index % 64) (omega arith) (omega arith)
+language_bit_at index below = grind (arith, nat_tests, bit_of_words LANGUAGE_BITS (index / 64) (index % 64))
 
 -- ---- the places of the bits
 
@@ -93,8 +88,7 @@ language_from_bit text letters from =
 -- no registered language is longer than three letters
 pub long_apart : (text : List ℕ) (list : List (List ℕ)) → 3 < length text → list_all is_short list ≡ true → list_any (are_alike text) list ≡ false
 long_apart text [] long all = refl
-long_apart text (first ∷ list) long all =
-    grind (arith, common_steps, and_parts, leb-true, are_alike-decides text first, length-map text fold_byte, length-map first fold_byte, long_apart text list)
+long_apart text (first ∷ list) long all = grind (arith, common_steps, and_parts, leb-true, are_alike-decides, length-map, long_apart text list)
 
 pub long_language : (text : List ℕ) → 3 < length text → is_registered_language text ≡ false
 unfolding is_registered_language
@@ -137,16 +131,14 @@ value_at list (Err i) = None
 pub value_searched :
     (keys : List ℕ) (list : List Entry) (text : List ℕ) (key : ℕ) (found : Result ℕ ℕ) → AreKeysOf keys (map (λ e. e.subtag) list) → are_alphanumeric text ≡ true →
     key ≡ folded_number text → IsSearched keys key found → value_for list text ≡ value_at list found
-value_searched keys list text key found of good is at =
-    grind (arith, common_steps, value_found 0 list text, value_absent list text of.plain good, searched_apart (numbers_of list) (folded_number text))
+value_searched keys list text key found of good is at = grind (arith, common_steps, value_found, value_absent, searched_apart)
 
 -- no subtag of at most so many letters is alike a longer text
 pub value_of_long :
     (most : ℕ) (list : List Entry) (text : List ℕ) → most < length text → list_all (λ e. ltb (length e.subtag) (most + 1)) list ≡ true →
     None ≡ value_for list text
 value_of_long most [] text long all = refl
-value_of_long most (e ∷ list) text long all =
-    grind (arith, common_steps, and_parts, ltb-true, are_alike-decides e.subtag text, length-map e.subtag fold_byte, length-map text fold_byte, value_of_long most list text)
+value_of_long most (e ∷ list) text long all = grind (arith, common_steps, and_parts, ltb-true, are_alike-decides, length-map, value_of_long most list text)
 
 -- what holds of each value holds of the one that is found
 pub value_good :
@@ -196,8 +188,7 @@ ending_at list text (Err i) = None
 pub end_searched :
     (keys : List ℕ) (list : List Entry) (text : List ℕ) (key : ℕ) (found : Result ℕ ℕ) → AreEndsOf keys (map (λ e. e.subtag) list) →
     key ≡ end_number text → IsSearched keys key found → value_for list text ≡ ending_at list text found
-end_searched keys list text key found of is at =
-    grind (arith, common_steps, end_found 0 list text, end_absent list text, searched_apart (ends_of list) (end_number text))
+end_searched keys list text key found of is at = grind (arith, common_steps, end_found, end_absent, searched_apart)
 
 -- as the code has it: the number of what stands from a start on, and a list of pairs
 pub end_of : (bytes : List ℕ) (start key : ℕ) → start ≡ length bytes - 8 → key ≡ folded_number (take (length bytes - start) (drop start bytes)) → key ≡ end_number bytes

@@ -83,8 +83,7 @@ simple_record text = grind (arith, common_steps)
 well_formed :
     (r : Record) → IsSimple r → IsTrue (is_primary r.primary) → IsTrue (option_map_or is_script r.script true) →
     IsTrue (option_map_or is_region r.region true) → IsTrue (list_all is_variant r.variants) → IsWellFormed r
-well_formed r simple p s g v =
-    grind (arith, common_steps, if_some_from_test is_script r.script s, if_some_from_test is_region r.region g, each_from_test is_variant r.variants v)
+well_formed r simple p s g v = grind (arith, common_steps, if_some_from_test, each_from_test)
 
 spelled_from_test : (text : List ℕ) → is_spelled text ≡ true → Spells (record_of text) text
 spelled_from_test text h = grind (arith, common_steps, and_parts, well_formed, simple_record text, bytes_decides (spell (record_of text)) text)

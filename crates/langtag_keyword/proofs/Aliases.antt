@@ -1,5 +1,7 @@
 -- The tables have what the lists say, and the case of a text changes nothing of its alias.
-use Rattle.langtag_keyword.proofs.Common.{◌≡◌, ℕ, List, ◌&&◌, find, option_map, ap, ◌∙◌, map, refl, bytes_eq, Alike, are_alike, fold_text, Alias, TypeAlias, alias_for, type_alias_for}
+use Rattle.std.proofs.lemmas.Bool.Decides.{nat_tests}
+use Rattle.std.proofs.Common.{arith}
+use Rattle.langtag_keyword.proofs.Common.{◌≡◌, ℕ, List, find, option_map, ap, map, refl, bytes_eq, Alike, fold_text, Alias, TypeAlias, alias_for, type_alias_for}
 use Rattle.langtag_keyword.specs.Aliases.{subdivision_aliases, transform_type_aliases, unicode_type_aliases}
 use Rattle.langtag_keyword.specs.declared.alias_tables.TheConstants.{SUBDIVISION_ALIASES, TRANSFORM_TYPE_ALIASES, UNICODE_TYPE_ALIASES}
 
@@ -7,9 +9,7 @@ pub alias_for-alike : (aliases : List Alias) (a b : List ℕ) → Alike a b → 
 alias_for-alike aliases a b alike = ap (λ t. option_map (λ (alias : Alias). alias.new) (find (λ (alias : Alias). bytes_eq (fold_text alias.old) t) aliases)) alike
 
 pub type_alias_for-alike : (aliases : List TypeAlias) (k l a b : List ℕ) → Alike k l → Alike a b → type_alias_for aliases k a ≡ type_alias_for aliases l b
-type_alias_for-alike aliases k l a b keys types =
-    ap (λ t. option_map (λ (alias : TypeAlias). alias.new) (find (λ (alias : TypeAlias). bytes_eq (fold_text alias.key) t && are_alike alias.old a) aliases)) keys
-    ∙ ap (λ t. option_map (λ (alias : TypeAlias). alias.new) (find (λ (alias : TypeAlias). are_alike alias.key l && bytes_eq (fold_text alias.old) t) aliases)) types
+type_alias_for-alike aliases k l a b keys types = grind (arith, nat_tests)
 
 -- ---- the tables
 

@@ -1,19 +1,15 @@
 -- The order of the alphabet.
-use Rattle.langtag_keyword.proofs.Common.{◌≡◌, ℕ, ◌+◌, ◌<◌, ◌≤◌, true, false, nat_lt, List, [], ◌∷◌, ◌++◌, length, get_or, take, refl, sym, ap, ◌∙◌, arith, append_assoc, ◌||◌, Bool, cond, map, subst, false≢true, nat_tests, map-append, take_all, take_more, fold_byte, fold_text, are_alike, in_alphabet, is_before, put_among, common_steps, AllByRecursion, list_any, before_key, fold_text-twice, bytes_eq, are_alike-decides}
-use Rattle.langtag_scan.proofs.Prelude.{Less, Equal, Greater, Ordering, nat_list_cmp_total, is_eq-slice_cmp, bytes_eq-Decides, slice_cmp, is_eq, is_lt, nat_cmp, ordering_reverse}
+use Rattle.langtag_keyword.proofs.Common.{◌≡◌, ℕ, ◌+◌, ◌<◌, ◌≤◌, true, false, nat_lt, List, [], ◌∷◌, ◌++◌, length, get_or, take, refl, sym, ap, ◌∙◌, arith, append_assoc, ◌||◌, Bool, map, subst, false≢true, nat_tests, map-append, take_all, take_more, fold_byte, fold_text, are_alike, in_alphabet, is_before, put_among, common_steps, AllByRecursion, list_any, before_key, fold_text-twice, are_alike-decides}
+use Rattle.langtag_scan.proofs.Prelude.{Less, Ordering, nat_list_cmp_total, is_eq-slice_cmp, bytes_eq-Decides, slice_cmp, is_eq, is_lt, nat_cmp, ordering_reverse}
 use Rattle.langtag_output.specs.Output.{with_subtag}
 
 -- ---- the order
 
 is_less : (r : Ordering) → is_lt r ≡ true → r ≡ Less
-is_less Less h = refl
-is_less Equal h = absurd (false≢true h)
-is_less Greater h = absurd (false≢true h)
+is_less r h = grind (arith, common_steps, false≢true)
 
 ties : (r : Ordering) → is_lt r ≡ false → is_lt (ordering_reverse r) ≡ false → is_eq r ≡ true
-ties Less a b = absurd (false≢true (sym a))
-ties Equal a b = refl
-ties Greater a b = absurd (false≢true (sym b))
+ties r a b = grind (arith, common_steps, false≢true)
 
 pub before-trans : (a b c : List ℕ) → is_before a b ≡ true → is_before b c ≡ true → is_before a c ≡ true
 before-trans a b c one two = ap is_lt (nat_list_cmp_total.trans a b c (is_less _ one) (is_less _ two))
@@ -23,9 +19,6 @@ before-back a b one = ap is_lt (nat_list_cmp_total.antisymm b a ∙ ap ordering_
 
 pub before-tie : (a b : List ℕ) → is_before a b ≡ false → is_before b a ≡ false → a ≡ b
 before-tie a b one two = (bytes_eq-Decides a b).0 (sym (is_eq-slice_cmp a b) ∙ ties (slice_cmp nat_cmp a b) one (ap is_lt (sym (nat_list_cmp_total.antisymm b a)) ∙ two))
-
-pub before-itself : (a : List ℕ) → is_before a a ≡ false
-before-itself a = grind (arith, nat_tests, before-back a a)
 
 -- ---- texts that rise
 
@@ -51,9 +44,7 @@ rise-in_alphabet (s ∷ ss) = rise-put (fold_text s) (in_alphabet ss) (rise-in_a
 -- ---- one of two texts has ended
 
 pub before-left : (a b : List ℕ) → length a < 1 → nat_lt (length a) (length b) ≡ is_before (fold_text a) (fold_text b)
-before-left [] [] none = refl
-before-left [] (y ∷ b) none = let less : nat_lt (length {A = ℕ} []) (length (y ∷ b)) ≡ true = grind (arith, nat_tests) in less
-before-left (x ∷ a) b none = absurd (omega (arith, none))
+before-left a b none = grind (arith, common_steps)
 
 pub before-right : (a b : List ℕ) → length b < 1 → nat_lt (length a) (length b) ≡ is_before (fold_text a) (fold_text b)
 before-right [] [] none = refl
@@ -65,8 +56,7 @@ before-right a (y ∷ b) none = absurd (omega (arith, none))
 pub byte-put :
     (text sub items : List ℕ) (k r : ℕ) → items ≡ sub → k < length items → r ≡ fold_byte (get_or items k 0) →
     (text ++ fold_text (take k sub)) ++ r ∷ [] ≡ text ++ fold_text (take (k + 1) sub)
-byte-put text sub items k r same inside is =
-    grind (arith, nat_tests, take_more sub k 0, append_assoc text (fold_text (take k sub)) (r ∷ []), map-append fold_byte (take k sub) (get_or sub k 0 ∷ []))
+byte-put text sub items k r same inside is = grind (arith, common_steps, take_more, append_assoc, map-append)
 
 pub bytes-put : (text sub : List ℕ) (k : ℕ) → length sub ≤ k → with_subtag text [] ++ fold_text (take k sub) ≡ with_subtag text (fold_text sub)
 unfolding with_subtag
@@ -107,14 +97,9 @@ pub lower-in_alphabet : (ss : List (List ℕ)) → AreLower (in_alphabet ss)
 lower-in_alphabet [] = tt
 lower-in_alphabet (s ∷ ss) = each-put (λ s. fold_text s ≡ s) (fold_text s) (in_alphabet ss) (fold_text-twice s) (lower-in_alphabet ss)
 
-put-under : (s : List ℕ) (ss : List (List ℕ)) → Under s ss → put_among s ss ≡ s ∷ ss
-put-under s [] under = refl
-put-under s (t ∷ ts) under = ap (λ b. cond b (s ∷ t ∷ ts) (cond (is_before t s) (t ∷ put_among s ts) (t ∷ ts))) under
-
 pub in_alphabet-risen : (ss : List (List ℕ)) → AreLower ss → Rise ss → in_alphabet ss ≡ ss
 in_alphabet-risen [] lower rise = refl
-in_alphabet-risen (s ∷ ss) lower rise =
-    ap (λ t. put_among t (in_alphabet ss)) lower.0 ∙ ap (put_among s) (in_alphabet-risen ss lower.1 rise.1) ∙ put-under s ss rise.0
+in_alphabet-risen (s ∷ ss) lower rise = grind (arith, nat_tests, lower.0, in_alphabet-risen ss lower.1 rise.1)
 
 pub in_alphabet-twice : (ss : List (List ℕ)) → in_alphabet (in_alphabet ss) ≡ in_alphabet ss
 in_alphabet-twice ss = in_alphabet-risen (in_alphabet ss) (lower-in_alphabet ss) (rise-in_alphabet ss)
@@ -156,9 +141,7 @@ among-put k = any-put (λ s. are_alike s k)
 
 pub among-alphabet : (k : List ℕ) (ss : List (List ℕ)) → among k (in_alphabet ss) ≡ among k ss
 among-alphabet k [] = refl
-among-alphabet k (s ∷ ss) =
-    among-put k (fold_text s) (in_alphabet ss) ∙ ap (λ b. are_alike (fold_text s) k || b) (among-alphabet k ss)
-    ∙ ap (λ t. bytes_eq t (fold_text k) || among k ss) (fold_text-twice s)
+among-alphabet k (s ∷ ss) = grind (arith, nat_tests, among-put k (fold_text s) (in_alphabet ss), fold_text-twice s, among-alphabet k ss)
 
 pub lower-put : (x : List ℕ) (ss : List (List ℕ)) → fold_text x ≡ x → AreLower ss → AreLower (put_among x ss)
 lower-put = each-put (λ s. fold_text s ≡ s)
@@ -175,7 +158,7 @@ under-each s (t ∷ ts) under rise = (under, under-each s ts (under-next s t ts 
 
 -- a text in lowercase that comes before another is not alike it
 pub before-apart : (s t : List ℕ) → fold_text s ≡ s → fold_text t ≡ t → is_before s t ≡ true → (are_alike s t ≡ false) × (are_alike t s ≡ false)
-before-apart s t low other below = grind (arith, nat_tests, are_alike-decides s t, are_alike-decides t s, before-itself s)
+before-apart s t low other below = grind (arith, nat_tests, are_alike-decides s t, are_alike-decides t s, before-back s s)
 
 pub after-apart :
     (s : List ℕ) (ss : List (List ℕ)) → fold_text s ≡ s → AreLower ss → AllByRecursion (λ t. is_before s t ≡ true) ss → AllByRecursion (λ t. are_alike t s ≡ false) ss

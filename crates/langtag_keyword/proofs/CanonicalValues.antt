@@ -1,5 +1,6 @@
 -- A canonical value is its own canonical value: no replacement is replaced, and the empty value stays.
-use Rattle.langtag_keyword.proofs.Common.{common_steps, arith, ◌≡◌, ℕ, true, not, cond, List, [], ◌∷◌, map, Option, None, Some, unwrap_or, refl, ap, false≢true, not-true, list_all, is_none, fold_text-twice, join-subtags, are_alike, fold_text, are_alike-decides, join, subtags, Alias, TypeAlias, alias_for, type_alias_for, unicode_value, both, found_has}
+use Rattle.std.proofs.lemmas.Bool.Decides.{nat_tests}
+use Rattle.langtag_keyword.proofs.Common.{common_steps, arith, ◌≡◌, ℕ, true, not, cond, List, [], map, Option, None, unwrap_or, refl, ap, false≢true, not-true, list_all, is_none, fold_text-twice, join-subtags, are_alike, fold_text, are_alike-decides, join, subtags, Alias, TypeAlias, alias_for, type_alias_for, unicode_value, both, found_has}
 use Rattle.langtag_scan.proofs.CaseLaw.{join-fold, map-twice, subtags-fold}
 use Rattle.langtag_scan.specs.Case.{fold_byte}
 use Rattle.langtag_keyword.specs.Aliases.{subdivision_aliases, transform_type_aliases, unicode_type_aliases}
@@ -32,8 +33,7 @@ transforms_settled = refl
 -- ---- no replacement is replaced
 
 is_none-none : (o : Option (List ℕ)) → is_none o ≡ true → o ≡ None
-is_none-none None is = refl
-is_none-none (Some new) is = absurd (false≢true is)
+is_none-none o is = grind (arith, common_steps, false≢true)
 
 alias-own :
     (rows : List Alias) (text : List ℕ) → list_all {X = Alias} (λ row. is_none (alias_for rows row.new)) rows ≡ true →
@@ -44,9 +44,6 @@ type-own :
     (rows : List TypeAlias) (key text : List ℕ) → list_all {X = TypeAlias} (λ row. is_none (type_alias_for rows row.key row.new)) rows ≡ true →
     type_alias_for rows key (fold_text (unwrap_or (type_alias_for rows key text) text)) ≡ None
 type-own rows key text settled = grind (arith, common_steps, type_alias_for-alike, fold_text-twice, is_none-none, found_has, found_is, both, are_alike-decides)
-
-type-empty : (rows : List TypeAlias) (key : List ℕ) → list_all {X = TypeAlias} (λ row. not (are_alike row.old [])) rows ≡ true → type_alias_for rows key [] ≡ None
-type-empty rows key no_empty = grind (arith, common_steps, false≢true, not-true, found_has, both, found_is)
 
 -- ---- values of `u`
 
@@ -59,7 +56,7 @@ replaced-own key text = grind (arith, common_steps, alias-own subdivision_aliase
 
 replaced-empty : (key : List ℕ) → replaced key [] ≡ []
 unfolding subdivision unicode_type
-replaced-empty key = grind (arith, common_steps, no_empty_subdivision, type-empty, no_empty_type)
+replaced-empty key = grind (arith, common_steps, no_empty_subdivision, no_empty_type, false≢true, not-true, found_has, both, found_is)
 
 unicode-own : (key text : List ℕ) → unicode_value key (fold_text (unicode_value key text)) ≡ fold_text (unicode_value key text)
 unicode-own key text = grind (arith, common_steps, replaced-empty, replaced-own, fold_text-twice)
@@ -74,9 +71,7 @@ transform-own key text = ap (λ o. unwrap_or o (fold_text (transform_value key t
 
 module _ (canonical : List ℕ → List ℕ) (own : (text : List ℕ) → canonical (fold_text (canonical text)) ≡ fold_text (canonical text)) where
   value-settled : (w : List (List ℕ)) → map fold_text (subtags (canonical (join (map fold_text (subtags (canonical (join w))))))) ≡ map fold_text (subtags (canonical (join w)))
-  value-settled w =
-      let c : List ℕ = canonical (join w) in
-      rw (join-fold (subtags c), join-subtags c, own (join w), subtags-fold c) (map-twice fold_text fold_text-twice (subtags c))
+  value-settled w = grind (arith, nat_tests, join-fold, join-subtags, subtags-fold, map-twice fold_text fold_text-twice, fold_text-twice)
 
 pub unicode-settled :
     (key : List ℕ) (w : List (List ℕ)) →

@@ -1,9 +1,8 @@
 -- What is found in a list has what all of the list have, and what follows from that.
-use Rattle.langtag_scan.proofs.Prelude.{common_steps, arith, ◌≡◌, Bool, true, false, List, [], ◌∷◌, ◌&&◌, Some, refl, false≢true, find, AllByRecursion, list_all}
+use Rattle.langtag_scan.proofs.Prelude.{common_steps, arith, ◌≡◌, Bool, true, List, [], ◌∷◌, ◌&&◌, Some, false≢true, find, AllByRecursion, list_all}
 
 pub both : (x y : Bool) → (x && y) ≡ true → (x ≡ true) × (y ≡ true)
-both true y is = (refl, is)
-both false y is = absurd (false≢true is)
+both x y is = grind (arith, common_steps, false≢true)
 
 -- what is found has what all have
 pub found_has : {X : Type 0} (good test : X → Bool) (xs : List X) (x : X) → list_all good xs ≡ true → find test xs ≡ Some x → good x ≡ true

@@ -54,35 +54,10 @@ bit-more rows row place r p within fits = grind (arith, nat_tests, eqb_tells r r
 key-more :
     (rows : List ℕ) (a b c d : ℕ) → length rows ≡ 36 → is_alphanumeric a ≡ true → is_alphanumeric b ≡ true → is_alphanumeric c ≡ true → is_alphanumeric d ≡ true →
     has_key (with_key rows (c ∷ d ∷ [])) (a ∷ b ∷ []) ≡ (has_key rows (a ∷ b ∷ []) || are_alike (a ∷ b ∷ []) (c ∷ d ∷ []))
-key-more rows a b c d size is_a is_b is_c is_d =
-    let more = bit-more rows (place_of c) (place_of d) (place_of a) (place_of b) (omega (arith, size, place-within c is_c)) (omega (arith, place-within d is_d)) in
-    more ∙ rw (place-tells a c is_a is_c, place-tells b d is_b is_d) (grind (arith, nat_tests))
-
-rows-more : (rows s : List ℕ) → length (with_key rows s) ≡ length rows
-rows-more rows [] = refl
-rows-more rows (a ∷ []) = refl
-rows-more rows (a ∷ b ∷ []) = length-set rows (place_of a) (bit_or (slice_index_or rows (place_of a) 0) (1 * 2 ^ place_of b % 2 ^ 64))
-rows-more rows (a ∷ b ∷ c ∷ s) = refl
+key-more rows a b c d size is_a is_b is_c is_d = grind (arith, common_steps, bit-more, place-within, place-tells)
 
 pub met-more : (rows : List ℕ) (before : List (List ℕ)) (s : List ℕ) → IsSubtag s → HasKeys rows before → HasKeys (with_key rows s) (before ++ s ∷ [])
-met-more rows before s fits met = record { rows = rows-more rows s ∙ met.rows; same = λ key is two. by_length key s is fits two ∙ ap (λ b. b || are_alike key s) (met.same key is two) ∙ sym (after key) }
-  where
-    by_length : (key s : List ℕ) → IsSubtag key → IsSubtag s → length key ≡ 2 → has_key (with_key rows s) key ≡ (has_key rows key || are_alike key s)
-    by_length (a ∷ b ∷ []) [] is none two = absurd (omega (arith, none.some))
-    by_length (a ∷ b ∷ []) (c ∷ []) is one two = grind (arith, common_steps)
-    by_length (a ∷ b ∷ []) (c ∷ d ∷ []) is same two =
-        let k = and_parts (is_alphanumeric a) (are_alphanumeric (b ∷ [])) is.alphanumeric in
-        let l = and_parts (is_alphanumeric b) (are_alphanumeric []) k.1 in
-        let m = and_parts (is_alphanumeric c) (are_alphanumeric (d ∷ [])) same.alphanumeric in
-        let n = and_parts (is_alphanumeric d) (are_alphanumeric []) m.1 in
-        key-more rows a b c d met.rows k.0 l.0 m.0 n.0
-    by_length (a ∷ b ∷ []) (c ∷ d ∷ e ∷ s) is longer two = grind (arith, common_steps)
-    by_length [] s is fits two = absurd (omega (arith, two))
-    by_length (a ∷ []) s is fits two = absurd (omega (arith, two))
-    by_length (a ∷ b ∷ c ∷ key) s is fits two = absurd (omega (arith, two))
-
-    after : (key : List ℕ) → list_any (are_alike key) (before ++ s ∷ []) ≡ (list_any (are_alike key) before || are_alike key s)
-    after key = list_any-append (are_alike key) before (s ∷ []) ∙ grind (arith, common_steps)
+met-more rows before s fits met = grind (arith, common_steps, and_parts, key-more, list_any-append, length-set, bit_or)
 
 -- a new set has no key
 pub met-none : (rows : List ℕ) → rows ≡ replicate 36 0 → HasKeys rows []

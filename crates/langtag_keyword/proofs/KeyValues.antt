@@ -1,5 +1,6 @@
 -- The places of the keys that begin with one character.
-use Rattle.langtag_keyword.proofs.Common.{◌≡◌, ℕ, ◌<◌, ◌≤◌, Bool, true, ◌==◌, ◌&&◌, List, [], ◌∷◌, length, get_or, Option, None, option_map, ap, sym, subst, ◌∙◌, arith, and_parts, nat_tests, IsSubtag, are_alike, are_alphanumeric, is_alphanumeric, fold_byte, join, value_of}
+use Rattle.std.proofs.lemmas.Grind.{common_steps}
+use Rattle.langtag_keyword.proofs.Common.{◌≡◌, ℕ, ◌<◌, ◌≤◌, Bool, true, ◌==◌, ◌&&◌, List, [], ◌∷◌, length, get_or, Option, None, option_map, sym, subst, arith, and_parts, IsSubtag, are_alike, is_alphanumeric, fold_byte, join, value_of}
 use Rattle.std.proofs.Common.{Bor}
 use Rattle.langtag_keyword.specs.KeySets.{place_of}
 use Rattle.langtag_keyword.proofs.KeySetLaws.{place-tells}
@@ -8,13 +9,7 @@ use Rattle.langtag_keyword.proofs.KeySetLaws.{place-tells}
 pub place-found :
     (opens : List ℕ → Bool) (first second place : ℕ) (s : List ℕ) → IsSubtag s → 2 ≤ length s → length s < 3 → fold_byte (get_or s 0 0) ≡ fold_byte first → opens s ≡ true →
     place ≡ place_of (get_or s 1 0) → is_alphanumeric second ≡ true → (place == place_of second) ≡ (opens s && are_alike s (first ∷ second ∷ []))
-place-found opens first second place [] is some few same key at other = absurd (omega (arith, some))
-place-found opens first second place (a ∷ []) is some few same key at other = absurd (omega (arith, some))
-place-found opens first second place (a ∷ b ∷ c ∷ s) is some few same key at other = absurd (omega (arith, few))
-place-found opens first second place (a ∷ b ∷ []) is some few same key at other =
-    let k = and_parts (is_alphanumeric a) (are_alphanumeric (b ∷ [])) is.alphanumeric in
-    let l = and_parts (is_alphanumeric b) (are_alphanumeric []) k.1 in
-    ap (λ p. p == place_of second) at ∙ place-tells b second l.0 other ∙ grind (arith, nat_tests, same, key)
+place-found opens first second place s is some few same key at other = grind (arith, common_steps, and_parts, place-tells)
 
 module _ (opens : List ℕ → Bool) (ss : List (List ℕ)) where
   -- the values of the keys that begin with `first`
@@ -28,10 +23,4 @@ module _ (opens : List ℕ → Bool) (ss : List (List ℕ)) where
   pub value-at :
       (values : List (Option (Bor (List ℕ)))) (key : List ℕ) (first place : ℕ) → IsSubtag key → length key ≡ 2 → first ≡ get_or key 0 0 → place ≡ place_of (get_or key 1 0) → AreValues first values →
       option_map (λ v. v.now) (get_or values place None) ≡ option_map join (value_of opens key ss)
-  value-at values [] first place is two begins at all = absurd (omega (arith, two))
-  value-at values (a ∷ []) first place is two begins at all = absurd (omega (arith, two))
-  value-at values (a ∷ b ∷ c ∷ key) first place is two begins at all = absurd (omega (arith, two))
-  value-at values (a ∷ b ∷ []) first place is two begins at all =
-      let k = and_parts (is_alphanumeric a) (are_alphanumeric (b ∷ [])) is.alphanumeric in
-      let l = and_parts (is_alphanumeric b) (are_alphanumeric []) k.1 in
-      ap (λ p. option_map (λ v. v.now) (get_or values p None)) at ∙ all b l.0 ∙ ap (λ f. option_map join (value_of opens (f ∷ b ∷ []) ss)) begins
+  value-at values key first place is two begins at all = grind (arith, common_steps, and_parts)

@@ -1,6 +1,6 @@
 -- Keywords that are written key after key, in the order of the keys, and what becomes of them when a keyword is set or
 -- removed.
-use Rattle.langtag_keyword.proofs.Common.{common_steps, ◌≡◌, ℕ, ◌≤◌, Bool, true, false, cond, ◌&&◌, not, List, [], ◌∷◌, ◌++◌, length, find, Option, None, Some, unwrap_or, refl, sym, ap, ◌∙◌, arith, append-nil, append_assoc, and_parts, flat_map, AllByRecursion, is_some, option_map_or, nat_tests, find_extension, are_alike, fold_text, Extension, Record, extension_flat, changed_from, extension_of, is_this_key, keyword_error, put_keyword, with_changed_u, with_keyword, without_keyword, without_within, is_place, is_of, is_before, is_key}
+use Rattle.langtag_keyword.proofs.Common.{common_steps, ◌≡◌, ℕ, ◌≤◌, Bool, true, false, cond, ◌&&◌, not, List, [], ◌∷◌, ◌++◌, length, find, Option, None, Some, refl, sym, ap, ◌∙◌, arith, append-nil, append_assoc, and_parts, flat_map, AllByRecursion, is_some, option_map_or, nat_tests, find_extension, are_alike, fold_text, Extension, Record, extension_flat, changed_from, extension_of, is_this_key, keyword_error, put_keyword, with_changed_u, with_keyword, without_keyword, without_within, is_place, is_of, is_before, is_key}
 use Rattle.langtag_scan.specs.Case.{fold_byte}
 use Rattle.langtag_keyword.specs.Edit.{edited_record, is_place_of_u}
 use Rattle.langtag_keyword.proofs.KeywordLaws.{put-here, put-later, without-gone, AreNoKeys, ArePassed, fits_from, passed, standing-this, without-kept}
@@ -34,17 +34,10 @@ module _ (key k : List ℕ) (v w : List (List ℕ)) (this : is_this_key key k �
 
     put-twice : (ss : List (List ℕ)) → ArePassed (is_place key stands) (is_this_key key) ss → put_keyword key true (k ∷ w) (put_keyword key stands (k ∷ v) ss) ≡ put_keyword key stands (k ∷ w) ss
     put-twice [] passed = ap (put_keyword key true (k ∷ w)) (sym (append-nil (k ∷ v))) ∙ again-first [] ∙ append-nil (k ∷ w)
-    put-twice (s ∷ ss) passed =
-        grind (arith, nat_tests, put-twice ss passed.1, again-first (without_keyword key (s ∷ ss)), without-twice key true true (s ∷ ss) refl, put-later key s (put_keyword key stands (k ∷ v) ss) true (k ∷ w))
+    put-twice (s ∷ ss) passed = grind (arith, nat_tests, again-first, without-twice, put-later, put-twice ss passed.1)
 
 with-twice : (key : List ℕ) (v w ss : List (List ℕ)) → is_key key ≡ true → AreNoKeys v → with_keyword key w (with_keyword key v ss) ≡ with_keyword key w ss
-with-twice key v w ss is all =
-    let standing = find (is_this_key key) ss in
-    let k = unwrap_or standing key in
-    let this = standing-this key ss is in
-    let are = passed (is_place key) (is_this_key key) (λ s. refl) ss standing refl in
-    ap (λ o. put_keyword key (is_some o) (unwrap_or o key ∷ w) (with_keyword key v ss)) (find-put key k v w this all (is_some standing) ss are)
-    ∙ put-twice key k v w this all (is_some standing) ss are
+with-twice key v w ss is all = grind (arith, nat_tests, standing-this key ss is, passed (is_place key) (is_this_key key), find-put key, put-twice key)
 
 -- ---- extensions
 
@@ -145,8 +138,7 @@ module _ (value : List ℕ → Option (List (List ℕ))) (are : AreValues value)
   without-others rest inside (j ∷ keys) others same = grind (arith, common_steps, without-others rest inside keys others.1 same, without-others rest false keys others.1 refl, without-kept, without-passed)
 
   pub without-all : (inside : Bool) (keys : List (List ℕ)) → AreOthers keys → without_within key inside (blocks value keys) ≡ blocks value keys
-  without-all inside keys others =
-      ap (without_within key inside) (sym (append-nil (blocks value keys))) ∙ without-others [] inside keys others refl ∙ append-nil (blocks value keys)
+  without-all inside keys others = grind (arith, nat_tests, append-nil, without-others [] inside keys others)
 
   pub put-others :
       (stands : Bool) (keyword rest keys : List (List ℕ)) → AllByRecursion (λ j. is_place key stands j ≡ false) keys →
@@ -185,10 +177,7 @@ module _ (value : List ℕ → Option (List (List ℕ))) (are : AreValues value)
 
       -- the key with its old value goes
       old-gone : (old : List (List ℕ)) → value key ≡ Some old → without_keyword key (key ∷ (old ++ blocks value after)) ≡ blocks value after
-      old-gone old is =
-          let fits = are key old is in
-          without-gone key key (old ++ blocks value after) false true (sym (ap (λ t. cond t (are_alike key key) false) fits.0 ∙ itself)) refl
-          ∙ without-value key old (blocks value after) fits.1 ∙ without-all true after after_others
+      old-gone old is = grind (arith, nat_tests, without-gone, without-value, without-all)
 
       pub removed-among : without_keyword key (blocks value before ++ (block value key ++ blocks value after)) ≡ blocks value before ++ blocks value after
       removed-among = grind (arith, common_steps, without-others (block value key ++ blocks value after) false before before_others refl, without-all false after after_others, old-gone)

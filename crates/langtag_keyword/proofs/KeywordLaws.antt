@@ -1,5 +1,5 @@
 -- What is set is read, what is removed is not, and other keys keep their values.
-use Rattle.langtag_keyword.proofs.Common.{common_steps, flat_map-append, ◌≡◌, ℕ, ◌+◌, Bool, true, false, cond, ◌&&◌, List, [], ◌∷◌, ◌++◌, length, find, Option, None, Some, unwrap_or, refl, ap, ◌∙◌, arith, eqb-true, ◌≤◌, not, fold, take, sym, append_assoc, option_map, and_parts, false≢true, AllByRecursion, flat_map, is_some, nat_tests, are_alike, are_alike-decides, is_extension_subtag, is_place, is_this_key, is_type, is_unicode_key, keyword_error, put_keyword, with_keyword, without_keyword, without_within, at_place, changed_from, edited, with_changed_u, before_key, is_key, value_of, length-slice_split, with_joined, of_primary, to_variants, Extension, IsWellFormed, Record, extension_flat, one_flat, private_part_flat, spell, is_hyphen, join, segments, extension_form, forms_after, is_language_or_none, is_of, is_transform, transform_form, unicode_form}
+use Rattle.langtag_keyword.proofs.Common.{common_steps, flat_map-append, ◌≡◌, ℕ, ◌+◌, Bool, true, false, cond, ◌&&◌, List, [], ◌∷◌, ◌++◌, length, find, Option, None, Some, unwrap_or, refl, ap, ◌∙◌, arith, eqb-true, not, fold, take, sym, append_assoc, option_map, and_parts, false≢true, AllByRecursion, flat_map, is_some, nat_tests, are_alike, are_alike-decides, is_extension_subtag, is_place, is_this_key, is_type, is_unicode_key, keyword_error, put_keyword, with_keyword, without_keyword, without_within, at_place, changed_from, edited, with_changed_u, before_key, is_key, value_of, length-slice_split, with_joined, of_primary, to_variants, Extension, IsWellFormed, Record, extension_flat, one_flat, private_part_flat, spell, is_hyphen, join, segments, extension_form, forms_after, is_language_or_none, is_of, is_transform, transform_form, unicode_form}
 use Rattle.langtag_scan.proofs.Prelude.{leb, leb-true, Bor}
 use Rattle.langtag_keyword.specs.Edit.{invalid_type, invalid_type_from, belongs, edited_record, is_place_of_u}
 use Rattle.langtag_output.specs.Output.{with_subtag}
@@ -79,8 +79,7 @@ module _ (key k : List ℕ) (value : List (List ℕ)) (this : is_this_key key k 
   -- where each subtag that is passed is another key, or no key
   value-put : (stands : Bool) (ss : List (List ℕ)) → ArePassed (is_place key stands) (is_this_key key) ss → value_of is_key key (put_keyword key stands (k ∷ value) ss) ≡ Some value
   value-put stands [] passed = value-first value ∙ ap Some (before-whole value all)
-  value-put stands (s ∷ ss) passed =
-      grind (arith, nat_tests, value-put stands ss passed.1, value-here stands s ss, value-skipped s (put_keyword key stands (k ∷ value) ss))
+  value-put stands (s ∷ ss) passed = grind (arith, nat_tests, value-here stands s ss, value-skipped s, value-put stands ss passed.1)
 
 -- get after set
 pub value-with : (key : List ℕ) (value ss : List (List ℕ)) → is_key key ≡ true → AreNoKeys value → value_of is_key key (with_keyword key value ss) ≡ Some value
@@ -134,10 +133,7 @@ types-each P of_type at [] none = tt
 types-each P of_type at (s ∷ value) none = grind (arith, nat_tests, types-each P of_type (at + (length s + 1)) value)
 
 key-two : (key : List ℕ) → is_unicode_key key ≡ true → is_key key ≡ true
-key-two [] is = absurd (false≢true is)
-key-two (a ∷ []) is = absurd (false≢true is)
-key-two (a ∷ b ∷ []) is = refl
-key-two (a ∷ b ∷ c ∷ key) is = absurd (false≢true is)
+key-two key is = grind (arith, common_steps, false≢true)
 
 -- ---- the laws of the setters
 
@@ -182,8 +178,7 @@ others_after_removal key other ss differ = others-without key other differ false
 
 -- a text has a segment
 pub language-some : (text : List ℕ) (ss : List (List ℕ)) → segments text ≡ ss → is_language_id (segments text) ≡ is_language_or_none ss
-language-some text [] is = absurd (omega (arith, ap length is, length-slice_split is_hyphen text))
-language-some text (s ∷ ss) is = ap is_language_id is
+language-some text ss is = grind (arith, nat_tests, length-slice_split is_hyphen text)
 
 -- ---- which form an extension has
 
@@ -232,13 +227,11 @@ form_joined r fits = extensions_joined r fits (forms_after false false r.extensi
 module _ (key s : List ℕ) (ss : List (List ℕ)) where
   -- a subtag goes with its keyword
   pub without-gone : (inside b : Bool) → b ≡ belongs key inside s → b ≡ true → without_within key inside (s ∷ ss) ≡ without_within key b ss
-  without-gone inside b is so =
-      ap (λ t. cond t (without_within key true ss) (s ∷ without_within key false ss)) (sym is ∙ so) ∙ ap (λ t. without_within key t ss) (sym so)
+  without-gone inside b is so = grind (arith, nat_tests)
 
   -- or stays
   pub without-kept : (inside b : Bool) → b ≡ belongs key inside s → b ≡ false → without_within key inside (s ∷ ss) ≡ s ∷ without_within key b ss
-  without-kept inside b is other =
-      ap (λ t. cond t (without_within key true ss) (s ∷ without_within key false ss)) (sym is ∙ other) ∙ ap (λ t. s ∷ without_within key t ss) (sym other)
+  without-kept inside b is other = grind (arith, nat_tests)
 
   -- the keyword goes here
   pub put-here : (stands : Bool) (keyword : List (List ℕ)) → is_place key stands s ≡ true → put_keyword key stands keyword (s ∷ ss) ≡ keyword ++ without_keyword key (s ∷ ss)
@@ -256,12 +249,10 @@ put_at_standing key standing value ss = put_keyword key (is_some standing) (unwr
 
 -- as a slice and as its bytes
 pub standing-some : (o : Option (Bor (List ℕ))) → is_some (option_map (λ t. t.now) o) ≡ is_some o
-standing-some None = refl
-standing-some (Some t) = refl
+standing-some o = grind (arith, nat_tests)
 
 pub standing-text : (o : Option (Bor (List ℕ))) (key : Bor (List ℕ)) → (unwrap_or o key).now ≡ unwrap_or (option_map (λ t. t.now) o) key.now
-standing-text None key = refl
-standing-text (Some t) key = refl
+standing-text o key = grind (arith, nat_tests)
 
 -- ---- the place of `u`
 
@@ -269,8 +260,7 @@ module _ (change : List (List ℕ) → List (List ℕ)) (stands : Bool) (e : Ext
   pub u-here :
       is_place_of_u stands e ≡ true →
       flat_map extension_flat (changed_from change stands (e ∷ es)) ≡ flat_map extension_flat (at_place change stands e) ++ flat_map extension_flat es
-  u-here is =
-      ap (λ b. flat_map extension_flat (cond b (at_place change stands e ++ es) (e ∷ changed_from change stands es))) is ∙ flat_map-append extension_flat (at_place change stands e) es
+  u-here is = grind (arith, nat_tests, flat_map-append extension_flat)
 
   pub u-later :
       is_place_of_u stands e ≡ false →

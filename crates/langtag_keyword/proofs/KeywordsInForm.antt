@@ -1,5 +1,6 @@
 -- Keywords that are written in the order of their keys are read again as they are: so keywords in their form are their own
 -- form, and subtags in which each key has the same value have the same form.
+use Rattle.std.proofs.lemmas.Bool.Decides.{nat_tests}
 use Rattle.langtag_keyword.proofs.Common.{each-weaker, common_steps, arith, ◌≡◌, ℕ, Bool, true, false, cond, ◌||◌, List, [], ◌∷◌, ◌++◌, map, Option, None, Some, option_map, refl, sym, ap, ◌∙◌, append-nil, AllByRecursion, filter, flat_map, is_some, option_map_or, fold_text, are_alike-decides, join, subtags, is_before, put_among, before_key, value_of}
 use Rattle.langtag_keyword.specs.Form as form
 use Rattle.langtag_keyword.specs.Form.{keys_in_order}
@@ -66,8 +67,7 @@ module _ (opens : List ℕ → Bool) where
         (k : List ℕ) (keys : List (List ℕ)) → fold_text k ≡ k → AllByRecursion (λ j. fold_text j ≡ j) keys →
         value_of opens k (blocks value keys) ≡ cond (among k keys) (value k) None
     value-found k [] lower lowers = refl
-    value-found k (j ∷ keys) lower lowers =
-        grind (arith, common_steps, value-found k keys lower lowers.1, are j, are_alike-decides j k, before-blocks, value-plain k)
+    value-found k (j ∷ keys) lower lowers = grind (arith, nat_tests, are_alike-decides j k, before-blocks, value-plain k, value-found k keys lower lowers.1)
 
   -- ---- which keys are in order
 
@@ -93,9 +93,7 @@ module _ (opens : List ℕ → Bool) where
 
     -- the form, key after key
     pub form-blocks : (ss : List (List ℕ)) → form.keywords_form opens canonical ss ≡ blocks (values_in_form ss) (keys_in_order opens ss)
-    form-blocks ss =
-        let same : (k : List ℕ) → form.keyword_form opens canonical ss k ≡ block (values_in_form ss) k = λ k. grind (arith, common_steps) in
-        λ i. flat_map (λ k. same k i) (keys_in_order opens ss)
+    form-blocks ss = grind (arith, nat_tests)
 
     -- a key is among the keys of subtags in which it has a value
     has-value : (k : List ℕ) (ss : List (List ℕ)) → among k (keys_in_order opens ss) ≡ is_some (values_in_form ss k)

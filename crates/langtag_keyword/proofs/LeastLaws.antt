@@ -1,5 +1,5 @@
 -- Numbers that rise, and the least of numbers in any order.
-use Rattle.langtag_scan.proofs.Prelude.{◌≡◌, ℕ, zero, suc, ◌+◌, ◌<◌, ◌≤◌, Bool, true, false, ◌==◌, ◌&&◌, ◌||◌, List, [], ◌∷◌, ◌++◌, length, get_or, set, take, drop, refl, ap, sym, subst, ◌∙◌, arith, append_assoc, leb, ltb, filter, IsNonDecreasing, nat_tests, at_drop_more, drop-drop, drop-set-lt, get_or-take, length-set, length-take, take-take, take_all, take_more_set, list_any_at, list_any-append}
+use Rattle.langtag_scan.proofs.Prelude.{◌≡◌, ℕ, zero, suc, ◌+◌, ◌<◌, ◌≤◌, Bool, true, false, ◌==◌, ◌&&◌, ◌||◌, List, [], ◌∷◌, ◌++◌, length, get_or, set, take, drop, refl, ap, sym, subst, ◌∙◌, arith, leb, ltb, filter, IsNonDecreasing, nat_tests, at_drop_more, drop-drop, get_or-take, length-set, length-take, take-take, take_all, take_more_set, list_any_at, list_any-append}
 use Rattle.langtag_keyword.specs.Least.{HoldsLeast, IsOffered, IsSettled, Least, AscendsFrom, has, is_within, ascending_after}
 
 -- ---- numbers that rise
@@ -18,9 +18,7 @@ same-rise l [] [] rx ry same = refl
 same-rise l [] (y ∷ ys) rx ry same = absurd (grind (arith, nat_tests, same y))
 same-rise l (x ∷ xs) [] rx ry same = absurd (grind (arith, nat_tests, same x))
 same-rise l (x ∷ xs) (y ∷ ys) rx ry same =
-    let one : x ≡ y = grind (arith, nat_tests, same x, same y, low-rise y x ys ry.1, low-rise x y xs rx.1) in
-    let rest : (n : ℕ) → has n xs ≡ has n ys = λ n. grind (arith, nat_tests, same n, low-rise x x xs rx.1, low-rise y y ys ry.1) in
-    ap (λ z. z ∷ xs) one ∙ ap (λ zs. y ∷ zs) (same-rise y xs ys (subst (λ z. AscendsFrom z xs) one rx.1) ry.1 rest)
+    grind (arith, nat_tests, low-rise y x ys ry.1, low-rise x y xs rx.1, low-rise x x xs rx.1, low-rise y y ys ry.1, ry.1, same-rise y xs ys)
 
 -- ---- those that pass a test
 
@@ -39,18 +37,15 @@ above last ns = filter (ltb last) ns
 
 pub above-all : (last l : ℕ) (ns : List ℕ) → last ≤ l → AscendsFrom l ns → above last ns ≡ ns
 above-all last l [] below rise = refl
-above-all last l (n ∷ ns) below rise =
-    grind (arith, nat_tests, above-all last n ns (omega (arith, below, rise.0)) rise.1)
+above-all last l (n ∷ ns) below rise = grind (arith, nat_tests, rise.0, rise.1, above-all last n ns)
 
 none-within : (last limit l : ℕ) (ns : List ℕ) → limit ≤ l → AscendsFrom l ns → filter (is_within last limit) ns ≡ []
 none-within last limit l [] below rise = refl
-none-within last limit l (n ∷ ns) below rise =
-    grind (arith, nat_tests, none-within last limit n ns (omega (arith, below, rise.0)) rise.1)
+none-within last limit l (n ∷ ns) below rise = grind (arith, nat_tests, rise.0, rise.1, none-within last limit n ns)
 
 pub above-split : (last limit l : ℕ) (ns : List ℕ) → last ≤ limit → AscendsFrom l ns → above last ns ≡ filter (is_within last limit) ns ++ above limit ns
 above-split last limit l [] order rise = refl
-above-split last limit l (n ∷ ns) order rise =
-    grind (arith, nat_tests, above-split last limit n ns order rise.1, λ (h : limit ≤ n). none-within last limit n ns h rise.1)
+above-split last limit l (n ∷ ns) order rise = grind (arith, nat_tests, none-within last limit n ns, above-split last limit n ns order rise.1)
 
 abbrev pub AllUpTo : ℕ → List ℕ → Type 0
 AllUpTo most [] = Unit
@@ -117,24 +112,6 @@ module _ (all ns : List ℕ) (index count last : ℕ) (inside : index < length n
   here : drop index all ≡ get_or ns index 0 ∷ drop (index + 1) all
   here = sym moved.left ∙ at_drop_more (λ ms. ms) ns index 0 inside ∙ ap (λ ms. get_or ns index 0 ∷ ms) next
 
-  pub moved-more : last < get_or ns index 0 → Moved all (set ns count (get_or ns index 0)) (index + 1) (count + 1) (get_or ns index 0)
-  moved-more over =
-      let n = get_or ns index 0 in
-      let rest = ascending_after n (drop (index + 1) all) in
-      let first : ascending_after last (drop index all) ≡ n ∷ rest = grind (arith, nat_tests, here) in
-      record {
-        few = omega (arith, moved.few);
-        left = drop-set-lt (index + 1) ns count n (omega (arith, moved.few)) ∙ next;
-        so_far =
-            ap (λ ms. ms ++ rest) (take_more_set ns count n (omega (arith, moved.few, inside)))
-            ∙ append_assoc (take count ns) (n ∷ []) rest ∙ ap (λ ms. take count ns ++ ms) (sym first) ∙ moved.so_far;
-      }
-
-  pub moved-passed : get_or ns index 0 ≤ last → Moved all ns (index + 1) count last
-  moved-passed under =
-      let rest : ascending_after last (drop index all) ≡ ascending_after last (drop (index + 1) all) = grind (arith, nat_tests, here) in
-      record { few = omega (arith, moved.few); left = next; so_far = ap (λ ms. take count ns ++ ms) (sym rest) ∙ moved.so_far }
-
 -- ---- one number more
 
 least-first : (l k : ℕ) (ns : List ℕ) → AscendsFrom l ns → k < length ns → l < get_or ns k 0
@@ -146,9 +123,7 @@ least-first l (suc k) (n ∷ ns) rise inside = omega (arith, rise.0, least-first
 has-take : (n k l : ℕ) (ns : List ℕ) → AscendsFrom l ns → k < length ns → has n (take (suc k) ns) ≡ (leb n (get_or ns k 0) && has n ns)
 has-take n k l [] rise inside = absurd (omega arith)
 has-take n zero l (m ∷ ms) rise inside = grind (arith, nat_tests, low-rise m n ms rise.1)
-has-take n (suc k) l (m ∷ ms) rise inside =
-    let within : k < length ms = omega (arith, inside) in
-    grind (arith, nat_tests, has-take n k m ms rise.1 within, least-first m k ms rise.1 within)
+has-take n (suc k) l (m ∷ ms) rise inside = grind (arith, nat_tests, least-first m k ms rise.1, has-take n k m ms rise.1)
 
 -- one number more was offered, and there was no room left
 module _

@@ -1,11 +1,11 @@
 -- The numbers of subtags are in the order of the alphabet, and tell the subtags.
-use Rattle.langtag_keyword.proofs.Common.{is_alphanumeric, and_parts, are_alphanumeric, each-weaker, ◌≡◌, ℕ, zero, suc, ◌+◌, ◌*◌, ◌<◌, ◌≤◌, ◌-◌, Bool, true, false, not, cond, ◌==◌, ◌&&◌, ◌||◌, List, [], ◌∷◌, ◌++◌, length, get_or, take, drop, map, append_assoc, append-nil, refl, sym, ap, subst, ◌∙◌, arith, flat_map-append, AllByRecursion, filter, flat_map, list_any, false≢true, nat_tests, at_drop_more, take_more, pushes_both, pushes_ended, pushes_same, Output, Pushes, length-fold, IsSubtag, fold_text, in_alphabet, is_before, IsOffered, Least, key_of, number_text, order_number}
-use Rattle.langtag_scan.proofs.Prelude.{◌/◌, ◌%◌, ◌^◌, ltb-false, ltb-true, ltb, filter-append, All, All-from_recursion}
+use Rattle.langtag_keyword.proofs.Common.{is_alphanumeric, and_parts, are_alphanumeric, each-weaker, ◌≡◌, ℕ, zero, suc, ◌+◌, ◌*◌, ◌<◌, ◌≤◌, ◌-◌, Bool, true, false, not, cond, ◌==◌, ◌&&◌, ◌||◌, List, [], ◌∷◌, ◌++◌, length, get_or, drop, map, append_assoc, append-nil, refl, sym, ap, subst, ◌∙◌, arith, flat_map-append, AllByRecursion, filter, flat_map, list_any, false≢true, nat_tests, at_drop_more, pushes_both, pushes_ended, pushes_same, Output, Pushes, length-fold, IsSubtag, fold_text, in_alphabet, is_before, IsOffered, Least, key_of, number_text, order_number}
+use Rattle.langtag_scan.proofs.Prelude.{◌%◌, ◌^◌, ltb-false, ltb-true, ltb, All, All-from_recursion, common_steps}
 use Rattle.langtag_scan.proofs.Grammar.{folded_number}
 use Rattle.langtag_scan.specs.Case.{fold_byte}
 use Rattle.langtag_scan.specs.Class.{is_digit, is_letter}
 use Rattle.std.proofs.Math.Nat.{mod-eq_of_lt, pow-suc}
-use Rattle.std.specs.Int.{byte_at, bytes_high_first}
+use Rattle.std.specs.Int.{bytes_high_first}
 use Rattle.std.proofs.lemmas.List.Elements.{All-filter}
 use Rattle.std.proofs.lemmas.Nat.{div-mul-add, mul-add-lt}
 use Rattle.langtag_output.specs.Output.{with_subtag}
@@ -31,8 +31,7 @@ has_number s is = record { some = omega (arith, length-fold s, is.some); short =
 -- ---- their number
 
 left-nil : (k : ℕ) → left_number k [] ≡ 0
-left-nil zero = refl
-left-nil (suc k) = refl
+left-nil k = grind (arith, nat_tests)
 
 power-some : (k : ℕ) → 0 < 256 ^ k
 power-some zero = omega arith
@@ -44,8 +43,7 @@ left-below (suc k) [] bytes = power-some (suc k)
 left-below (suc k) (b ∷ s) bytes = omega (arith, mul-add-lt b (256 ^ k) (left_number k s) 256 bytes.0.most (left-below k s bytes.1), pow-suc 256 k)
 
 left-some : (k b : ℕ) (s : List ℕ) → 0 < b → 0 < left_number (suc k) (b ∷ s)
-left-some k (suc b) s some = omega (arith, power-some k)
-left-some k zero s some = absurd (omega (arith, some))
+left-some k b s some = grind (arith, nat_tests, power-some k)
 
 left-less : (k x y r q : ℕ) → x < y → r < 256 ^ k → x * 256 ^ k + r < y * 256 ^ k + q
 left-less k x y r q less below = grind (arith, mul-add-lt x (256 ^ k) r y less below)
@@ -62,22 +60,15 @@ left-before (suc k) (x ∷ a) (y ∷ b) la lb ab bb before =
 
 -- ---- the text of a number
 
-byte-of : (k h r n : ℕ) → n ≡ h * 256 ^ k + r → r < 256 ^ k → byte_at k n ≡ h % 256
-byte-of zero h r n is below = ap (λ m. m % 256) (omega (arith, is, below))
-byte-of (suc k) h r n is below = ap (λ m. m / 256 ^ suc k % 256) is ∙ ap (λ m. m % 256) (div-mul-add h (256 ^ suc k) r below)
-
 -- one digit
 digit :
     (k h r n d : ℕ) (s : List ℕ) → n ≡ h * 256 ^ k + r → r < 256 ^ k → h % 256 ≡ d →
     filter (λ b. not (b == 0)) (bytes_high_first k n) ≡ s →
     filter (λ b. not (b == 0)) (bytes_high_first (suc k) n) ≡ cond (not (d == 0)) (d ∷ s) s
-digit k h r n d s is below low rest = grind (arith, nat_tests, byte-of k h r n is below)
+digit k h r n d s is below low rest = grind (arith, common_steps, div-mul-add)
 
 some-kept : (b : ℕ) (s : List ℕ) → 0 < b → cond (not (b == 0)) (b ∷ s) s ≡ b ∷ s
 some-kept b s some = let test : (b == 0) ≡ false = grind (arith, nat_tests) in ap (λ c. cond (not c) (b ∷ s) s) test
-
-none-kept : (b : ℕ) (s : List ℕ) → b ≤ 0 → cond (not (b == 0)) (b ∷ s) s ≡ s
-none-kept b s none = let test : (b == 0) ≡ true = grind (arith, nat_tests) in ap (λ c. cond (not c) (b ∷ s) s) test
 
 wider : (k q b r : ℕ) → q * 256 ^ suc k + (b * 256 ^ k + r) ≡ (q * 256 + b) * 256 ^ k + r
 wider k q b r = ap (λ p. q * p + (b * 256 ^ k + r)) (pow-suc 256 k) ∙ spread (256 ^ k)
@@ -102,9 +93,7 @@ digits_of (suc k) q (b ∷ s) short bytes =
     ∙ some-kept b s bytes.0.some
 
 digits_at : (k : ℕ) (s : List ℕ) → length s ≤ k → AreBytes s → filter (λ b. not (b == 0)) (bytes_high_first k (left_number k s)) ≡ s
-digits_at k s short bytes =
-    let is : left_number k s ≡ 0 * 256 ^ k + left_number k s = omega arith in
-    ap (λ n. filter (λ b. not (b == 0)) (bytes_high_first k n)) is ∙ digits_of k 0 s short bytes
+digits_at k s short bytes = grind (arith, nat_tests, bytes_high_first k, digits_of k 0 s short bytes)
 
 pub text_of_number : (s : List ℕ) → HasNumber s → number_text (left_number 8 s) ≡ s
 text_of_number s number = digits_at 8 s number.short number.bytes
@@ -129,9 +118,7 @@ order_below s is = left-below 8 (fold_text s) (has_number s is).bytes
 
 -- a number that is shifted loses nothing
 pub shifted_number : (s : List ℕ) (n k r : ℕ) → IsSubtag s → n ≡ folded_number s → k ≡ 64 - 8 * length s → r ≡ n * 2 ^ k % 2 ^ 64 → r ≡ order_number s
-shifted_number s n k r is number shift result =
-    let whole : n * 2 ^ k ≡ order_number s = ap (λ m. m * 2 ^ k) number ∙ ap (λ j. folded_number s * 2 ^ j) shift ∙ shifted s is.some is.short in
-    result ∙ ap (λ m. m % 2 ^ 64) whole ∙ mod-eq_of_lt (order_below s is)
+shifted_number s n k r is number shift result = grind (arith, nat_tests, shifted s is.some is.short, mod-eq_of_lt (order_below s is), order_below s is)
 
 -- ---- texts in order
 
@@ -150,8 +137,7 @@ rises-after s (t ∷ ts) one all under rise =
     (left-before 8 s t one.short all.0.short one.bytes all.0.bytes under, rises-after t ts all.0 all.1 rise.0 rise.1)
 
 number-some : (s : List ℕ) → HasNumber s → 0 < left_number 8 s
-number-some [] number = absurd (omega (arith, number.some))
-number-some (b ∷ s) number = left-some 7 b s number.bytes.0.some
+number-some s number = grind (arith, nat_tests, left-some 7)
 
 rise-numbers : (ss : List (List ℕ)) → AllByRecursion HasNumber ss → Rise ss → AscendsFrom 0 (numbers ss)
 rise-numbers [] all rise = tt
@@ -167,9 +153,7 @@ has-numbers n (s ∷ ss) = ap (λ b. (left_number 8 s == n) || b) (has-numbers n
 -- their order changes nothing of which numbers they have
 has-in_order : (n : ℕ) (ss : List (List ℕ)) → has n (map order_number ss) ≡ has n (numbers (in_alphabet ss))
 has-in_order n [] = refl
-has-in_order n (s ∷ ss) =
-    ap (λ b. (order_number s == n) || b) (has-in_order n ss ∙ has-numbers n (in_alphabet ss))
-    ∙ sym (has-numbers n (in_alphabet (s ∷ ss)) ∙ any-put (λ t. left_number 8 t == n) (fold_text s) (in_alphabet ss))
+has-in_order n (s ∷ ss) = grind (arith, nat_tests, has-numbers n (in_alphabet ss), has-numbers n (in_alphabet (s ∷ ss)), any-put, has-in_order n ss)
 
 up_to : (most : ℕ) (ss : List (List ℕ)) → 18446744073709551615 ≤ most → AllByRecursion HasNumber ss → AllUpTo most (numbers ss)
 up_to most [] long all = tt
@@ -198,13 +182,7 @@ abbrev pub AreKeys : List (List ℕ) → Type 0
 AreKeys ss = AllByRecursion (λ s. IsSubtag s × (length s ≡ 2)) ss
 
 key-back : (s : List ℕ) → IsKey s → key_of (left_number 8 s) ≡ s
-key-back [] is = absurd (omega (arith, is.1))
-key-back (a ∷ []) is = absurd (omega (arith, is.1))
-key-back (a ∷ b ∷ []) is =
-    let one : (a * 256 ^ 7 + (b * 256 ^ 6 + 0)) / 256 ^ 7 % 256 ≡ a = omega (arith, is.0.bytes.0.most, is.0.bytes.1.0.most) in
-    let two : (a * 256 ^ 7 + (b * 256 ^ 6 + 0)) / 256 ^ 6 % 256 ≡ b = omega (arith, is.0.bytes.0.most, is.0.bytes.1.0.most) in
-    ap (λ d. d ∷ (a * 256 ^ 7 + (b * 256 ^ 6 + 0)) / 256 ^ 6 % 256 ∷ []) one ∙ ap (λ d. a ∷ d ∷ []) two
-key-back (a ∷ b ∷ c ∷ s) is = absurd (omega (arith, is.1))
+key-back s is = grind (arith, nat_tests, is.1)
 
 put-keys : (f : List ℕ → List (List ℕ)) (ss : List (List ℕ)) → AllByRecursion IsKey ss → flat_map (λ n. f (key_of n)) (numbers ss) ≡ flat_map f ss
 put-keys f [] all = refl
@@ -315,28 +293,9 @@ module _ {put : ℕ → List (List ℕ)} {ss : List (List ℕ)} {least : Least} 
 
 -- ---- digits that are put
 
-nonzero-more :
-    (ns : List ℕ) (k : ℕ) → k < length ns →
-    filter (λ b. not (b == 0)) (take (k + 1) ns) ≡ filter (λ b. not (b == 0)) (take k ns) ++ cond (not (get_or ns k 0 == 0)) (get_or ns k 0 ∷ []) []
-nonzero-more ns k inside = rw (take_more ns k 0 inside, filter-append)
-
-pub digit_put :
-    (text ns : List ℕ) (k : ℕ) → k < length ns → 0 < get_or ns k 0 →
-    (text ++ filter (λ b. not (b == 0)) (take k ns)) ++ get_or ns k 0 ∷ [] ≡ text ++ filter (λ b. not (b == 0)) (take (k + 1) ns)
-digit_put text ns k inside some =
-    append_assoc text (filter (λ b. not (b == 0)) (take k ns)) (get_or ns k 0 ∷ [])
-    ∙ sym (ap (λ t. text ++ t) (nonzero-more ns k inside ∙ ap (λ t. filter (λ b. not (b == 0)) (take k ns) ++ t) (some-kept (get_or ns k 0) [] some)))
-
-pub zero_passed :
-    (text ns : List ℕ) (k : ℕ) → k < length ns → get_or ns k 0 ≤ 0 →
-    text ++ filter (λ b. not (b == 0)) (take k ns) ≡ text ++ filter (λ b. not (b == 0)) (take (k + 1) ns)
-zero_passed text ns k inside none =
-    sym (ap (λ t. text ++ t) (nonzero-more ns k inside ∙ ap (λ t. filter (λ b. not (b == 0)) (take k ns) ++ t) (none-kept (get_or ns k 0) [] none) ∙ append-nil (filter (λ b. not (b == 0)) (take k ns))))
-
 pub after-hyphen : (text s : List ℕ) → with_subtag text [] ++ s ≡ with_subtag text s
 unfolding with_subtag
-after-hyphen [] s = refl
-after-hyphen (b ∷ text) s = append_assoc (b ∷ text) (45 ∷ []) s
+after-hyphen text s = grind (arith, nat_tests, append_assoc)
 
 -- ---- numbers that are offered
 

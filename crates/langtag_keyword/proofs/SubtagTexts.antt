@@ -1,13 +1,12 @@
 -- The subtags of an extension, and those before a key, in its text.
 use Rattle.langtag_keyword.proofs.Common.{◌≡◌, ℕ, ◌≤◌, ◌<◌, ◌+◌, ◌-◌, Bool, true, false, List, [], ◌∷◌, ◌++◌, length, take, drop, get_or, Option, None, Some, suc, refl, ap, sym, subst, ◌∙◌, arith, cond, append-nil, zero, IsUtf8, IsCharBoundary-after_ascii, common_steps, length-append, AllByRecursion, list_any, option_map_or, length-slice_split, Extension, Record, IsWellFormed, is_hyphen, join, segments, subtags, NoHyphenWithin, hyphenated, length-join, IsSubtag, of_extension_subtag, each_subtag, subtags-joined, join-subtags, is_extension_subtag, SpellsExtension, IsExtension, find_extension, extension_found, length_with_hyphens, opens_keyword, before_key, is_new_key, keywords_after, are_alike, option_map}
-use Rattle.langtag_scan.proofs.Prelude.{take-append-drop, IsCharBoundary, get_or-append_seam, drop-cons, slice_split_at, slice_split_none}
+use Rattle.langtag_scan.proofs.Prelude.{take-append-drop, IsCharBoundary, get_or-append_seam, drop-cons, slice_split_at, slice_split_none, nat_tests}
 use Rattle.langtag_scan.proofs.Grammar.{IsHyphenFree}
-use Rattle.std.proofs.lemmas.Str.{IsCharBoundary-start, IsCharBoundary-end, IsCharBoundary-before_ascii}
+use Rattle.std.proofs.lemmas.Str.{IsCharBoundary-start, IsCharBoundary-end}
 use Rattle.langtag_scan.proofs.Laws.{join-append, length-hyphenated, take-join, length-subtags}
 use Rattle.langtag_keyword.specs.Keywords.{subtags_of, each_once_after}
 use Rattle.langtag_keyword.specs.Transform.{some_text}
 use Rattle.langtag_keyword.specs.declared.keys.Keys.{Keys}
-use Rattle.langtag_keyword.specs.declared.keys.Keys.TheVariants.{Unicode, Transform}
 
 -- ---- the text of an extension without its singleton
 
@@ -17,9 +16,7 @@ subtags-after_singleton e text spells = by_subtags e.subtags refl
   where
     by_subtags : (ss : List (List ℕ)) → e.subtags ≡ ss → subtags (drop 2 text) ≡ e.subtags
     by_subtags [] is = absurd (omega (arith, spells.member.some, ap length is))
-    by_subtags (s ∷ ss) is =
-        let cut : text ≡ e.singleton ∷ 45 ∷ join (s ∷ ss) = sym spells.joined ∙ ap (λ xs. join ((e.singleton ∷ []) ∷ xs)) is in
-        ap (λ t. subtags (drop 2 t)) cut ∙ ap (λ xs. subtags (join xs)) (sym is) ∙ subtags-joined e.subtags (each_subtag is_extension_subtag of_extension_subtag e.subtags spells.member.subtags)
+    by_subtags (s ∷ ss) is = grind (arith, nat_tests, subtags-joined, each_subtag is_extension_subtag of_extension_subtag, of_extension_subtag)
 
 -- and the text may be cut there
 pub boundary-after_singleton : (text : List ℕ) → IsUtf8 text → IsExtension text → IsCharBoundary text 2
@@ -62,9 +59,7 @@ boundary-before (x ∷ xs) ys utf8 = rw (length-more x xs) (rw (join-append x xs
   where
     by_rest : (zs : List (List ℕ)) → IsCharBoundary (join (x ∷ xs) ++ hyphenated zs) (length (join (x ∷ xs)))
     by_rest [] = rw (append-nil (join (x ∷ xs))) (IsCharBoundary-end (join (x ∷ xs)))
-    by_rest (z ∷ zs) =
-        IsCharBoundary-before_ascii (join (x ∷ xs) ++ hyphenated (z ∷ zs)) (length (join (x ∷ xs))) (omega (arith, length-append (join (x ∷ xs)) (hyphenated (z ∷ zs))))
-        (rw (get_or-append_seam (join (x ∷ xs)) 45 (z ++ hyphenated zs) 0) (omega arith))
+    by_rest (z ∷ zs) = grind (arith, nat_tests, length-append, get_or-append_seam)
 
 length-before : (bs ys : List (List ℕ)) → length_with_hyphens bs ≤ length (join (bs ++ ys)) + 1
 length-before [] ys = omega arith
@@ -79,28 +74,15 @@ length-before_key test text = omega (arith, length-before (before_key test (subt
 
 -- the text of the subtags before the first key stands at the start
 pub take-before_key : (test : List ℕ → Bool) (text : List ℕ) (n : ℕ) → n ≡ length_with_hyphens (before_key test (subtags text)) - 1 → take n text ≡ join (before_key test (subtags text))
-take-before_key test text n is =
-    let ss = subtags text in
-    ap (λ k. take k text) is ∙ ap (take (length_with_hyphens (before_key test ss) - 1)) (sym (before-whole test text)) ∙ take-before (before_key test ss) (from_key test ss)
+take-before_key test text n is = grind (arith, nat_tests, before-whole test text, take-before)
 
 -- and the text may be cut after it
 pub boundary-before_key : (test : List ℕ → Bool) (text : List ℕ) (n : ℕ) → IsUtf8 text → n ≡ length_with_hyphens (before_key test (subtags text)) - 1 → IsCharBoundary text n
-boundary-before_key test text n utf8 is =
-    let ss = subtags text in
-    let whole = before-whole test text in
-    let cut : IsCharBoundary text (length_with_hyphens (before_key test ss) - 1) =
-    subst (λ t. IsCharBoundary t (length_with_hyphens (before_key test ss) - 1)) whole (boundary-before (before_key test ss) (from_key test ss) (subst IsUtf8 (sym whole) utf8)) in
-    subst (IsCharBoundary text) (sym is) cut
-
--- no key is empty
-opens-nothing : (keys : Keys) → opens_keyword keys [] ≡ false
-opens-nothing Unicode = refl
-opens-nothing Transform = refl
+boundary-before_key test text n utf8 is = grind (arith, nat_tests, before-whole test text, boundary-before)
 
 -- the empty text has one segment, which is no key and has no bytes
 pub before_key-segments : (keys : Keys) (text : List ℕ) → join (before_key (opens_keyword keys) (subtags text)) ≡ join (before_key (opens_keyword keys) (segments text))
-before_key-segments keys [] = rw (opens-nothing keys) refl
-before_key-segments keys (b ∷ text) = refl
+before_key-segments keys text = grind (arith, nat_tests)
 
 -- one more subtag before the key, or the key
 pub before_key-more : (test : List ℕ → Bool) (s : List ℕ) (ss : List (List ℕ)) → test s ≡ false → before_key test (s ∷ ss) ≡ s ∷ before_key test ss
@@ -127,9 +109,7 @@ segments-cut text first rest end below free hyphen is_first is_rest =
     rw cut (slice_split_at is_hyphen first 45 rest kept refl)
 
 pub segments-whole : (text : List ℕ) (end : ℕ) → end ≡ length text → NoHyphenWithin text 0 end → segments text ≡ text ∷ []
-segments-whole text end is free =
-    let kept : IsHyphenFree text = grind (arith, common_steps) in
-    slice_split_none is_hyphen text kept
+segments-whole text end is free = grind (arith, nat_tests, slice_split_none is_hyphen text)
 
 -- ---- the subtags of the attributes
 
@@ -164,8 +144,7 @@ extension-some b r fits text found option is = ap (option_map subtags) is ∙ by
     by_found (Some e) some (c ∷ t) same = ap Some same
 
 pub nothing-some : (text : List ℕ) → subtags text ≡ [] → some_text text ≡ None
-nothing-some [] none = refl
-nothing-some (c ∷ t) none = absurd (omega (arith, ap length none, length-slice_split is_hyphen (c ∷ t)))
+nothing-some text none = grind (arith, nat_tests, length-slice_split is_hyphen)
 
 -- ---- an extension without its singleton
 
@@ -186,9 +165,7 @@ pub take-turn : (all : List (List ℕ)) (n : ℕ) (s : List ℕ) (rest : List (L
 take-turn [] zero s rest left = absurd cc
 take-turn [] (suc n) s rest left = absurd cc
 take-turn (x ∷ all) zero s rest left = let same : x ≡ s = cc in ap (λ y. y ∷ []) (sym same)
-take-turn (x ∷ all) (suc n) s rest left =
-    let more : suc (n + 1) ≡ suc n + 1 = omega arith in
-    ap (λ ss. x ∷ ss) (take-turn all n s rest left) ∙ ap (λ m. take m (x ∷ all)) more
+take-turn (x ∷ all) (suc n) s rest left = grind (arith, nat_tests, take-turn all n s rest left)
 
 module _ (test : List ℕ → Bool) where
   -- a new key
@@ -202,22 +179,16 @@ module _ (test : List ℕ → Bool) where
   pub keywords-other :
       (all : List (List ℕ)) (n : ℕ) (s : List ℕ) (rest : List (List ℕ)) → drop n all ≡ s ∷ rest → is_new_key test (take n all) s ≡ false →
       keywords_after test (take n all) (s ∷ rest) ≡ keywords_after test (take (n + 1) all) rest
-  keywords-other all n s rest left other =
-      ap (λ b. cond b (record { key = s; value = join (before_key test rest) } ∷ keywords_after test (take n all ++ s ∷ []) rest) (keywords_after test (take n all ++ s ∷ []) rest)) other
-      ∙ ap (λ before. keywords_after test before rest) (take-turn all n s rest left)
+  keywords-other all n s rest left other = grind (arith, nat_tests, take-turn all n s rest left)
 
 -- a new attribute
 pub first-new :
     (all : List (List ℕ)) (n : ℕ) (s : List ℕ) (rest : List (List ℕ)) → drop n all ≡ s ∷ rest → list_any (are_alike s) (take n all) ≡ false →
     each_once_after (take n all) (s ∷ rest) ≡ s ∷ each_once_after (take (n + 1) all) rest
-first-new all n s rest left new =
-    ap (λ b. cond b (each_once_after (take n all ++ s ∷ []) rest) (s ∷ each_once_after (take n all ++ s ∷ []) rest)) new
-    ∙ ap (λ before. s ∷ each_once_after before rest) (take-turn all n s rest left)
+first-new all n s rest left new = grind (arith, nat_tests, take-turn all n s rest left)
 
 -- a repeated one
 pub first-other :
     (all : List (List ℕ)) (n : ℕ) (s : List ℕ) (rest : List (List ℕ)) → drop n all ≡ s ∷ rest → list_any (are_alike s) (take n all) ≡ true →
     each_once_after (take n all) (s ∷ rest) ≡ each_once_after (take (n + 1) all) rest
-first-other all n s rest left old =
-    ap (λ b. cond b (each_once_after (take n all ++ s ∷ []) rest) (s ∷ each_once_after (take n all ++ s ∷ []) rest)) old
-    ∙ ap (λ before. each_once_after before rest) (take-turn all n s rest left)
+first-other all n s rest left old = grind (arith, nat_tests, take-turn all n s rest left)

@@ -10,8 +10,7 @@ use Rattle.langtag_keyword.proofs.SubtagTexts.{length-more}
 
 written-length : (s : List ℕ) (ss : List (List ℕ)) → 1 ≤ length s → length (fold with_subtag [] (s ∷ ss)) + 1 ≡ length_with_hyphens (s ∷ ss)
 written-length s ss some =
-    let joined : fold with_subtag [] (s ∷ ss) ≡ join (s ∷ ss) = sym (with_joined [] s ss some) ∙ with_subtag-none [] (join (s ∷ ss)) refl in
-    omega (arith, ap length joined, length-more s ss)
+    grind (arith, nat_tests, with_joined [] s ss some, with_subtag-none [] (join (s ∷ ss)), length-more s ss)
 
 in_order-length : (ss : List (List ℕ)) → 0 < length ss → AllByRecursion HasNumber ss → length (fold with_subtag [] ss) + 1 ≡ length_with_hyphens ss
 in_order-length [] some all = absurd (omega (arith, some))

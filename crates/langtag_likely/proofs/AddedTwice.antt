@@ -233,10 +233,7 @@ module _ (f : Fields) (row : Likely) (key : Fields) (is_key : IsKey f key) (from
   region_not = other_test (codes "ZZ") f.region row.to.region region_known whole.region_known
 
   added_again : add_likely likely_subtags (known_fields most) ≡ Some most
-  added_again =
-      let same : known_fields most ≡ most = rw (known_stays (codes "Zzzz") most.script script_not, known_stays (codes "ZZ") most.region region_not) refl in
-      ap (add_likely likely_subtags) same
-      ∙ either_way (is_there most.language) (λ there. whole_again most there (there_other f.script row.to.script whole.script) (there_other f.region row.to.region whole.region) (alone_found there)) unknown_again
+  added_again = grind (arith, nat_tests, most, known_stays, script_not, region_not, whole_again most, there_other, alone_found, unknown_again)
 
   row_facts : RowFacts f row.to
   row_facts = grind (arith, nat_tests, alone_found, unknown_most, script_written, unknown_row)

@@ -1,5 +1,5 @@
 -- Fields that are equal but for case have likely subtags that are. A language that is there stays in the matching form.
-use Rattle.langtag_scan.proofs.Prelude.{◌≡◌, ℕ, ◌<◌, List, length, option_map, arith, true, false, Bool, cond, [], ◌∷◌, Option, None, Some, refl, ap, ◌∙◌, subst, common_steps, option_map_or}
+use Rattle.langtag_scan.proofs.Prelude.{◌≡◌, ℕ, ◌<◌, List, length, option_map, arith, true, Bool, cond, [], ◌∷◌, Option, None, Some, refl, subst, common_steps, nat_tests}
 use Rattle.langtag_scan.proofs.Grammar.{Alike}
 use Rattle.langtag.specs.Fields.{Fields}
 use Rattle.langtag_likely.proofs.Definitions.{completed, letters_replaced, matching_form, most_likely, region_replaced, replaced_form, language_replaced, Likely, are_alike_fields, likely_for, looked_up, filled, or_other, known, known_fields, add_likely, language_alone, without_script, without_region, likely_subtags, add_likely_subtags, canonical_fields, least, remove_likely_subtags, suffices}
@@ -20,19 +20,13 @@ pub alike_fields : (a b : Fields) → are_alike_fields a b ≡ true → AlikeFie
 alike_fields a b is = grind (arith, alike_is)
 
 pub fields-right : (a b c : Fields) → AlikeFields b c → are_alike_fields a b ≡ are_alike_fields a c
-fields-right a b c h =
-    rw (are_alike-right a.language _ _ h.language, are_alike-right a.script _ _ h.script, are_alike-right a.region _ _ h.region) refl
-
-fields-left : (a b c : Fields) → AlikeFields a b → are_alike_fields a c ≡ are_alike_fields b c
-fields-left a b c h =
-    rw (are_alike-left _ _ c.language h.language, are_alike-left _ _ c.script h.script, are_alike-left _ _ c.region h.region) refl
+fields-right a b c h = grind (arith, nat_tests, are_alike-right a.language, are_alike-right a.script, are_alike-right a.region)
 
 -- ---- likely subtags added
 
 pub likely_for-alike : (rows : List Likely) (a b : Fields) → AlikeFields a b → likely_for rows a ≡ likely_for rows b
 likely_for-alike [] a b h = refl
-likely_for-alike (row ∷ rows) a b h =
-    ap (λ t. cond t (Some row.to) (likely_for rows a)) (fields-right row.from a b h) ∙ ap (cond (are_alike_fields row.from b) (Some row.to)) (likely_for-alike rows a b h)
+likely_for-alike (row ∷ rows) a b h = grind (arith, nat_tests, fields-right row.from a b h, likely_for-alike rows a b h)
 
 pub alone_alike : (a b : Fields) → Alike a.language b.language → AlikeFields (language_alone a) (language_alone b)
 alone_alike a b h = record { language = h; script = refl; region = refl }
@@ -94,9 +88,7 @@ pub known_fields-alike : (a b : Fields) → AlikeFields a b → AlikeFields (kno
 known_fields-alike a b h = grind arith
 
 pub suffices-alike : (m n a b : Fields) → AlikeFields m n → AlikeFields a b → suffices m a ≡ suffices n b
-suffices-alike m n a b most few =
-    by_options (λ o p. option_map_or (λ form. are_alike_fields m form) o false ≡ option_map_or (λ form. are_alike_fields n form) p false) refl
-    (λ v w same. fields-left m n v most ∙ fields-right n v w same) _ _ (likely_added-alike a b few)
+suffices-alike m n a b most few = grind (arith, common_steps, fields-right n, likely_added-alike a b few, are_alike-left)
 
 few-alike :
     (s t u : Bool) (a b m n : Fields) → AlikeFields a b → AlikeFields m n →
@@ -114,5 +106,4 @@ least-alike m n h =
     (few-alike (suffices n (language_alone (known_fields n))) (suffices n (without_script (known_fields n))) (suffices n (without_region (known_fields n))) (known_fields m) (known_fields n) m n k h)
 
 pub removed-alike : (a b : Fields) → AlikeFields a b → AlikeOptions (remove_likely_subtags a) (remove_likely_subtags b)
-removed-alike a b h =
-    by_options (λ o p. AlikeOptions (option_map least o) (option_map least p)) tt least-alike _ _ (likely_added-alike a b h)
+removed-alike a b h = grind (arith, nat_tests, least-alike, likely_added-alike a b h)

@@ -6,7 +6,6 @@ use Rattle.langtag_range.proofs.WantedTexts.{cut_or_whole, segments-read}
 use Rattle.langtag_likely.proofs.Definitions.{known, counts, fields_of_subtags, text_fields, after_language, after_script, last_language, counted_parts, region_of, script_of, after_common, BeginsPlain}
 use Rattle.langtag_range.proofs.BasicForms.{length-basic}
 use Rattle.langtag_range.proofs.Among.{basic_form-byte}
-use Rattle.langtag_likely.proofs.AddedTwice.{either_way}
 
 -- the first subtag, if it counts, and those of the rest
 pub next_part :
@@ -99,8 +98,7 @@ alike_left : (range text : List ℕ) → are_alike range text ≡ ((length (afte
 alike_left [] [] = refl
 alike_left [] (b ∷ text) = rw (some_length b text) refl
 alike_left (a ∷ range) [] = rw (some_length a range) refl
-alike_left (a ∷ range) (b ∷ text) =
-    either_way (fold_byte a == fold_byte b) (λ is. rw is (alike_left range text)) (λ is. rw (is, some_length a range) refl)
+alike_left (a ∷ range) (b ∷ text) = grind (arith, nat_tests, some_length a range, alike_left range text)
 
 pub nothing_left :
     (range text left rest : List ℕ) → BeginsPlain left → (basic_text left, rest) ≡ after_common (basic_text range) text →

@@ -1,5 +1,5 @@
 -- The maximal and the minimal record of a record are their own, and each undoes the other.
-use Rattle.langtag_scan.proofs.Prelude.{◌≡◌, ℕ, true, false, List, [], ◌∷◌, Option, None, Some, option_map, refl, sym, ap, ◌∙◌, arith, codes, ◌≤◌, length, map, inl, inr, ◌⊎◌, IsTrue, AllByRecursion, option_map_or}
+use Rattle.langtag_scan.proofs.Prelude.{◌≡◌, ℕ, true, false, List, [], ◌∷◌, Option, None, Some, option_map, refl, sym, ap, ◌∙◌, arith, codes, ◌≤◌, length, map, inl, inr, ◌⊎◌, IsTrue, AllByRecursion, option_map_or, nat_tests}
 use Rattle.langtag_scan.proofs.Grammar.{AlikeRecords, fold_record, Alike, fold_text, are_alike, is_extended, Record, IsWellFormed}
 use Rattle.langtag_tables.proofs.Letters.{primary_length, extended_primary}
 use Rattle.langtag_likely.proofs.Definitions.{or_other, filled, known, known_fields, add_likely, language_alone, without_script, without_region, likely_subtags, add_likely_subtags, canonical_fields, fields_of, language_field, least, put_fields, put_language, maximal_record, minimal_record, suffices}
@@ -72,12 +72,10 @@ module _ (m : Fields) (again : add_likely_subtags (known_fields m) ≡ Some m) w
     alone_same = sym (suffices-alike m form a (language_alone k) same (record { language = same.language; script = refl; region = refl }))
 
     with_region_same : suffices form (without_script k) ≡ suffices m b
-    with_region_same =
-        sym (suffices-alike m form b (without_script k) same (record { language = same.language; script = refl; region = (known_fields-alike m form same).region }))
+    with_region_same = grind (arith, nat_tests, suffices-alike, same, known_fields-alike)
 
     with_script_same : suffices form (without_region k) ≡ suffices m c
-    with_script_same =
-        sym (suffices-alike m form c (without_region k) same (record { language = same.language; script = (known_fields-alike m form same).script; region = refl }))
+    with_script_same = grind (arith, nat_tests, suffices-alike, same, known_fields-alike)
 
   by_language : suffices m a ≡ true → HasForm m a
   by_language one = grind (arith, sufficed m a one, language_back m.language)

@@ -1,5 +1,5 @@
 -- The maximal and the minimal record of a well-formed one are well-formed, and not much longer; the laws of both forms, over texts.
-use Rattle.langtag_scan.proofs.Prelude.{◌≡◌, ℕ, ◌≤◌, true, Bool, cond, List, [], ◌∷◌, length, Option, Some, option_map, IfSome, IsTrue, refl, arith, rules, codes, ◌+◌, length-append, sym, ap, ◌∙◌, and_parts, list_all, AllByRecursion, option_map_or}
+use Rattle.langtag_scan.proofs.Prelude.{◌≡◌, ℕ, ◌≤◌, true, Bool, cond, List, [], ◌∷◌, length, Option, Some, option_map, IfSome, IsTrue, refl, arith, rules, codes, ◌+◌, length-append, sym, ap, ◌∙◌, and_parts, list_all, AllByRecursion, option_map_or, nat_tests}
 use Rattle.langtag_scan.proofs.Grammar.{is_primary, is_extended, is_script, is_region, Record, IsWellFormed, one_flat, spell, IsNormal}
 use Rattle.langtag_scan.proofs.Laws.{script_four, region_short, hyphenated, length-spell, of_primary, spelled_once}
 use Rattle.langtag.proofs.Definitions.{is_language_field, is_script_field, is_region_field, Fields, IsForm, IsAlikeForm}
@@ -116,8 +116,7 @@ region_size o is = grind (arith, region_short, length-append)
 
 -- the fields of another tag
 put_length : (r : Record) (f : Fields) → IsWellFormed (put_fields r f) → length (spell (put_fields r f)) ≤ length (spell r) + 17
-put_length r f well =
-    omega (arith, length-spell r, length-spell (put_fields r f), (of_primary _ well.primary).short, script_size _ well.script, region_size _ well.region)
+put_length r f well = grind (arith, nat_tests, length-spell r, length-spell (put_fields r f), of_primary, script_size, region_size)
 
 by_fields : (r : Record) (o : Option Fields) → IsWellFormed (option_map_or (put_fields r) o r) → length (spell (option_map_or (put_fields r) o r)) ≤ length (spell r) + 17
 by_fields r o well = grind (arith, put_length)

@@ -1,5 +1,5 @@
 -- A bit of the table of languages tells whether a language has a row, and the bits from it on where the row stands.
-use Rattle.langtag_scan.proofs.Prelude.{◌≡◌, ℕ, zero, suc, ◌+◌, ◌*◌, ◌-◌, ◌/◌, ◌%◌, ◌^◌, ◌<◌, ◌≤◌, true, false, ◌==◌, Bool, cond, ltb, List, [], ◌∷◌, ◌++◌, length, get_or, map, take, Option, None, Some, refl, ap, sym, ◌∙◌, arith, list_all, and_parts, eq-eqb, ne_eqb, ltb-true, get_or_append_left, get_or-append-add, take-append-le}
+use Rattle.langtag_scan.proofs.Prelude.{◌≡◌, ℕ, zero, suc, ◌+◌, ◌*◌, ◌-◌, ◌/◌, ◌%◌, ◌^◌, ◌<◌, ◌≤◌, true, false, ◌==◌, Bool, cond, ltb, List, [], ◌∷◌, ◌++◌, length, get_or, map, take, Option, None, Some, refl, ap, sym, ◌∙◌, arith, list_all, and_parts, eq-eqb, ne_eqb, ltb-true, get_or_append_left, get_or-append-add, take-append-le, common_steps, nat_tests}
 use Rattle.std.proofs.Common.{count_ones}
 use Rattle.std.specs.Int.Count.{ones_step}
 use Rattle.std.proofs.Math.Nat.{div-one, pow-succ', two-pow-succ, div-div-eq-div-mul}
@@ -37,8 +37,7 @@ half_below k word small = let double = two-pow-succ k in omega (arith, small, do
 count-bits : (k word : ℕ) → word < 2 ^ k → count_ones word ≡ count (bits k word)
 unfolding bits
 count-bits zero word small = grind (arith, ones_le_self 0)
-count-bits (suc k) word small =
-    ones_step word ∙ ap (λ n. word % 2 + n) (count-bits k (word / 2) (half_below k word small)) ∙ sym (count-lowest word (bits k (word / 2)))
+count-bits (suc k) word small = grind (arith, common_steps, ones_step, half_below, count-lowest, count-bits k (word / 2) (half_below k word small))
 
 shifted_again : (word i : ℕ) → word / 2 ^ suc i ≡ word / 2 / 2 ^ i
 shifted_again word i = ap (λ n. word / n) (pow-succ' 2 i) ∙ sym (div-div-eq-div-mul word 2 (2 ^ i))
@@ -69,26 +68,15 @@ ends before (word ∷ list) = (before + count (bits 64 word)) ∷ ends (before +
 bit_of_words : (list : List ℕ) (q i : ℕ) → q < length list → i < 64 → get_or (words list) (q * 64 + i) false ≡ (get_or list q 0 / 2 ^ i % 2 == 1)
 bit_of_words [] q i inside below = absurd (omega (arith, inside))
 bit_of_words (word ∷ list) zero i inside below =
-    let here : i < length (bits 64 word) = omega (arith, length-bits 64 word, below) in
-    ap (λ n. get_or (words (word ∷ list)) n false) (let e : 0 * 64 + i ≡ i = omega arith in e)
-    ∙ get_or_append_left (bits 64 word) (words list) false i here ∙ bit_at 64 word i below
+    grind (arith, nat_tests, length-bits 64 word, get_or_append_left (bits 64 word) (words list), bit_at 64 word i below)
 bit_of_words (word ∷ list) (suc q) i inside below =
-    let at : suc q * 64 + i ≡ length (bits 64 word) + (q * 64 + i) = omega (arith, length-bits 64 word) in
-    ap (λ n. get_or (words (word ∷ list)) n false) at
-    ∙ get_or-append-add (bits 64 word) (words list) (q * 64 + i) false
-    ∙ bit_of_words list q i (omega (arith, inside)) below
+    grind (arith, nat_tests, length-bits 64 word, get_or-append-add (bits 64 word) (words list) (q * 64 + i), bit_of_words list q i)
 
 count-words :
     (before : ℕ) (list : List ℕ) (q i : ℕ) → list_all is_word list ≡ true → q < length list → i < 64 →
     before + count (take (q * 64 + i) (words list)) + count_ones (get_or list q 0 / 2 ^ i) ≡ get_or (ends before list) q 0
 count-words before [] q i all inside below = absurd (omega (arith, inside))
-count-words before (word ∷ list) zero i all inside below =
-    let small = ltb-true word (2 ^ 64) (and_parts (is_word word) (list_all is_word list) all).0 in
-    let split = count-split 64 word i small below in
-    let here : i ≤ length (bits 64 word) = omega (arith, length-bits 64 word, below) in
-    let at : 0 * 64 + i ≡ i = omega arith in
-    let kept = ap count (ap (λ n. take n (words (word ∷ list))) at ∙ take-append-le i (bits 64 word) (words list) here) in
-    omega (arith, split, kept)
+count-words before (word ∷ list) zero i all inside below = grind (arith, common_steps, ltb-true, and_parts, count-split, length-bits, count, take-append-le)
 count-words before (word ∷ list) (suc q) i all inside below =
     let parts = and_parts (is_word word) (list_all is_word list) all in
     let at : suc q * 64 + i ≡ length (bits 64 word) + (q * 64 + i) = omega (arith, length-bits 64 word) in

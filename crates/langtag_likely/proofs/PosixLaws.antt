@@ -17,9 +17,7 @@ use Rattle.langtag_likely.specs.Scripts.{script_codes}
 pub alone : (vs : List (List ℕ)) → AllByRecursion (λ s. IsTrue (is_variant s)) vs → are_alike (join vs) (codes "POSIX") ≡ is_posix_alone vs
 alone [] all = refl
 alone (v ∷ []) all = refl
-alone (a ∷ b ∷ vs) all =
-    false_from_ne_true _ (λ same.
-    omega (arith, alike_length (join (a ∷ b ∷ vs)) (codes "POSIX") same, length-append a (45 ∷ join (b ∷ vs)), length-join b vs, variant_four a all.0, variant_four b all.1.0))
+alone (a ∷ b ∷ vs) all = grind (arith, common_steps, false_from_ne_true, alike_length, length-append, length-join, variant_four)
 
 posix_six : (vs : List (List ℕ)) → is_posix_alone vs ≡ true → length (hyphenated vs) ≡ 6
 posix_six vs is = grind (arith, common_steps, length-append, alike_length)
@@ -103,9 +101,7 @@ module _ (r : Record) (same : (ends_of r).variants ≡ (ends_of r).extensions) (
 pub written_posix :
     (r : Record) (a b new : List ℕ) → IsAroundPosix r a b → new ≡ a ++ (codes "-u-va-posix" ++ (b ++ [])) →
     (new ≡ spell (posix_replaced r)) × (length new ≡ length (spell r) + 5)
-written_posix r a b new around is =
-    let text : new ≡ a ++ (codes "-u-va-posix" ++ b) = is ∙ ap (λ t. a ++ (codes "-u-va-posix" ++ t)) (append-nil b) in
-    (text ∙ around.replaced, omega (arith, ap length text, length-append a (codes "-u-va-posix" ++ b), around.shorter))
+written_posix r a b new around is = grind (arith, common_steps, append-nil b, length-append a (codes "-u-va-posix" ++ b))
 
 pub posix_tag : (r : Record) (new : List ℕ) → IsWellFormed r → new ≡ spell (posix_replaced r) → IsTag new
 unfolding IsTag IsNormal

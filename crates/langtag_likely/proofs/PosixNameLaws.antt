@@ -1,5 +1,5 @@
 -- The text of a name, and that it is read as it stands: neither Android nor .NET writes a tag so.
-use Rattle.langtag_scan.proofs.Prelude.{◌≡◌, ℕ, ◌+◌, ◌≤◌, not, true, false, Bool, cond, suc, List, [], ◌∷◌, ◌++◌, length, drop, IfSome, refl, sym, ap, ◌∙◌, arith, flat_map, append_assoc, append-nil, unwrap_or, ◌<◌, ◌==◌, inl, inr, None, subst, ◌⊎◌, codes, length-append, AllByRecursion, after_first, before_first, list_any, position_or_len, and_parts, or_parts, false_from_ne_true, nat_tests, map-append, list_any-append, take_while-cons}
+use Rattle.langtag_scan.proofs.Prelude.{◌≡◌, ℕ, ◌≤◌, not, true, false, Bool, cond, suc, List, [], ◌∷◌, ◌++◌, length, IfSome, refl, sym, ap, ◌∙◌, arith, flat_map, append_assoc, append-nil, unwrap_or, ◌<◌, ◌==◌, inl, inr, None, subst, ◌⊎◌, codes, length-append, AllByRecursion, after_first, before_first, list_any, and_parts, or_parts, false_from_ne_true, nat_tests, map-append, list_any-append, take_while-cons}
 use Rattle.langtag_scan.proofs.Grammar.{Alike, fold_byte, are_alike, are_alphanumeric, is_alphanumeric, is_digit, is_letter, is_region, is_script, Record, extension_flat, one_flat, private_part_flat, spell, join, is_hyphen, are_alike-decides}
 use Rattle.langtag_scan.proofs.Laws.{drop-join, hyphenated, hyphenated-append, join-hyphenated, alike_region, region_short, script_four, of_region}
 use Rattle.langtag_range.specs.Wanted.{hyphened, hyphened_byte}
@@ -69,9 +69,6 @@ module _ (a b c : List ℕ) (first : are_alphanumeric a ≡ true) (second : are_
 
   -- a byte that is neither a letter, nor a digit, nor an underscore is not in them
   module _ (p : ℕ → Bool) (other : (byte : ℕ) → is_alphanumeric byte ≡ true → p byte ≡ false) (no_underscore : p 95 ≡ false) where
-    none_marked : (text : List ℕ) → are_alphanumeric text ≡ true → list_any p (marked 95 text) ≡ false
-    none_marked text all = grind (arith, nat_tests, free_of)
-
     pub place_free : list_any p (place_text a b c) ≡ false
     place_free = grind (arith, nat_tests, list_any-append, free_of)
 
@@ -86,11 +83,7 @@ module _ (p : ℕ → Bool) where
 
   pub after_rest : (text rest : List ℕ) → list_any p text ≡ false → after_first p (text ++ rest) ≡ after_first p rest
   after_rest [] rest free = refl
-  after_rest (b ∷ text) rest free =
-      let k = or_parts (p b) (list_any p text) free in
-      let n = position_or_len p (text ++ rest) in
-      let next : 1 + n + 1 ≡ suc (n + 1) = omega arith in
-      rw k.0 (ap (λ place. drop place (b ∷ (text ++ rest))) next ∙ after_rest text rest k.1)
+  after_rest (b ∷ text) rest free = grind (arith, nat_tests, or_parts, suc, after_rest text rest)
 
 -- ---- the lengths of what is read
 

@@ -1,5 +1,5 @@
 -- A tag with other fields, piece by piece.
-use Rattle.langtag_scan.proofs.Prelude.{◌≡◌, ℕ, ◌+◌, ◌≤◌, true, List, [], ◌∷◌, ◌++◌, length, drop, arith, append_assoc, rules, codes, flat_map, length-append, append-nil, common_steps}
+use Rattle.langtag_scan.proofs.Prelude.{◌≡◌, ℕ, ◌+◌, ◌≤◌, true, List, [], ◌∷◌, ◌++◌, length, drop, arith, append_assoc, rules, codes, flat_map, length-append, append-nil, common_steps, nat_tests}
 use Rattle.langtag_scan.proofs.Grammar.{are_alike, ends_of, Record, one_flat, extension_flat, private_part_flat, spell, join}
 use Rattle.langtag_scan.proofs.Laws.{hyphenated, hyphenated-append, join-append, drop-join, ends_in_order, length-spell}
 use Rattle.langtag.proofs.Definitions.{SpellsLanguage, Fields, subtag_of}
@@ -18,9 +18,7 @@ und_alone primary extended text other spells und = grind (arith, common_steps, p
 
 rest_of : (r : Record) → drop (ends_of r).region (spell r) ≡ hyphenated (r.variants ++ (flat_map extension_flat r.extensions ++ private_part_flat r.private_use))
 rest_of r =
-    let others = r.variants ++ (flat_map extension_flat r.extensions ++ private_part_flat r.private_use) in
-    let cut = drop-join r.primary (r.extended ++ (one_flat r.script ++ one_flat r.region)) others in
-    simp append_assoc at cut
+    grind (arith, nat_tests, flat_map extension_flat r.extensions, drop-join r.primary (r.extended ++ (one_flat r.script ++ one_flat r.region)), append_assoc)
 
 -- the language, the script and the region, each with its hyphen, and what stands after the old region
 pub put_spelled :

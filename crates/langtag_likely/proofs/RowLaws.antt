@@ -1,5 +1,5 @@
 -- The rows of the tables are those of the lists, and what is deprecated is found by its number: by computation.
-use Rattle.langtag_scan.proofs.Prelude.{◌≡◌, ℕ, ◌+◌, ◌<◌, true, ◌==◌, Bool, List, [], length, get_or, map, Option, None, option_map, sym, ap, ◌∙◌, arith, ◌&&◌, ltb, not, refl, IsUtf8, codes, get_or-map, nil_from_length, IsUtf8-from_ascii, list_all}
+use Rattle.langtag_scan.proofs.Prelude.{◌≡◌, ℕ, ◌+◌, ◌<◌, true, ◌==◌, Bool, List, [], length, get_or, map, Option, None, option_map, sym, ap, ◌∙◌, arith, ◌&&◌, ltb, not, refl, IsUtf8, codes, get_or-map, nil_from_length, IsUtf8-from_ascii, list_all, common_steps, nat_tests}
 use Rattle.langtag_scan.proofs.Grammar.{are_letters, are_alphanumeric, is_letter, is_digit, is_primary, is_script, is_region, is_alphanumeric, are_alike, folded_number, fold_byte}
 use Rattle.langtag_tables.specs.Numbers.{letter_number}
 use Rattle.langtag_tables.proofs.Letters.{letter_number-tells}
@@ -154,8 +154,7 @@ pub at_index :
 at_index rows texts column i same inside = ap (λ list. get_or list i []) same ∙ get_or-map column rows i no_row [] inside
 
 none_at : (rows : List Likely) (column : Likely → List ℕ) (i : ℕ) → map column rows ≡ map (λ row. []) rows → i < length rows → [] ≡ column (get_or rows i no_row)
-none_at rows column i none inside =
-    sym (sym (get_or-map column rows i no_row [] inside) ∙ ap (λ list. get_or list i []) none ∙ get_or-map (λ row. []) rows i no_row [] inside)
+none_at rows column i none inside = grind (arith, common_steps, get_or-map column rows i no_row [] inside)
 
 -- ---- languages
 
@@ -189,8 +188,7 @@ pub region_found :
     (f : Fields) (keys : List ℕ) (number : ℕ) (o : Option ℕ) → are_alphanumeric f.region ≡ true → keys ≡ map region_key rows → number ≡ folded_number f.region → o ≡ first_index keys number →
     option_map (λ i. (get_or rows i no_row).to) o ≡ likely_for rows (region_alone f)
 region_found rows alone f keys number o plain keys_are number_is is =
-    ap (option_map (λ i. (get_or rows i no_row).to)) (is ∙ ap (λ list. first_index list number) keys_are ∙ ap (first_index (map region_key rows)) number_is)
-    ∙ found_by_number region_number is_region_alone (region_alone f) (region-tells f plain) rows alone
+    grind (arith, nat_tests, found_by_number region_number is_region_alone (region_alone f) (region-tells f plain) rows alone, region-tells f plain)
 
 pub region_at :
     (i : ℕ) (region : List ℕ) → i < length region_aliases → region ≡ name_at REGION_ALIAS_NAMES i →

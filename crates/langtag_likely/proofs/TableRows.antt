@@ -1,6 +1,6 @@
 -- The numbers of fields tell them apart but for case, so a row is found by the number of its left side. The tables have the rows
 -- of the lists: by computation.
-use Rattle.langtag_scan.proofs.Prelude.{◌≡◌, ◌≢◌, ℕ, zero, suc, ◌<◌, true, ltb, List, [], ◌∷◌, length, get_or, None, Some, refl, sym, ap, ◌∙◌, arith, Bool, rules, Result, nat_cmp, map, ◌+◌, ◌*◌, ◌≤◌, ◌==◌, leb, ◌&&◌, false, cond, ◌++◌, Option, option_map, ◌-◌, ◌/◌, ◌%◌, ◌^◌, not, flat_map, ◌||◌, codes, nat_tests, ltb-true, eq-eqb, ne_eqb, and_parts, searched, get_or-map, length-map, list_all, option_map_or, is_none, result_ok}
+use Rattle.langtag_scan.proofs.Prelude.{◌≡◌, ◌≢◌, ℕ, zero, suc, ◌<◌, true, ltb, List, [], ◌∷◌, length, get_or, None, Some, refl, sym, ap, ◌∙◌, arith, Bool, rules, Result, nat_cmp, map, ◌+◌, ◌*◌, ◌≤◌, ◌==◌, leb, ◌&&◌, false, cond, ◌++◌, Option, option_map, ◌-◌, ◌/◌, ◌%◌, ◌^◌, not, flat_map, ◌||◌, codes, nat_tests, ltb-true, eq-eqb, ne_eqb, and_parts, searched, get_or-map, length-map, list_all, option_map_or, is_none, result_ok, common_steps}
 use Rattle.langtag_scan.proofs.Grammar.{are_alike, fold_byte, folded_number, are_letters, are_alphanumeric, is_letter, is_digit, is_primary, is_script, is_region}
 use Rattle.langtag_tables.proofs.Elements.{list_all_get}
 use Rattle.std.specs.List.Sorted.{IsBinarySearchResult}
@@ -55,8 +55,7 @@ index_inside count list k all inside = ltb-true (get_or list k 0) count (list_al
 pub name_good :
     (is_good : List ℕ → Bool) (names : List (List ℕ)) (found : List ℕ) (index : ℕ) → list_all (λ name. is_good (name_text name)) names ≡ true →
     index < length names → found ≡ name_at names index → is_good found ≡ true
-name_good is_good names found index all inside is =
-    ap is_good (is ∙ get_or-map name_text names index [] [] inside) ∙ list_all_get (λ name. is_good (name_text name)) names index [] all inside
+name_good is_good names found index all inside is = grind (arith, nat_tests, get_or-map name_text names index [] [] inside, list_all_get)
 
 -- and so is one in a column
 pub column_good :
@@ -135,8 +134,7 @@ append-test b to xs ys all same = grind arith
 
 pub likely_for-append : (xs ys : List Likely) (key : Fields) → likely_for (xs ++ ys) key ≡ or_else (likely_for xs key) (likely_for ys key)
 likely_for-append [] ys key = refl
-likely_for-append (row ∷ xs) ys key =
-    append-test (are_alike_fields row.from key) row.to (likely_for xs key) (likely_for ys key) (likely_for (xs ++ ys) key) (likely_for-append xs ys key)
+likely_for-append (row ∷ xs) ys key = grind (arith, common_steps, append-test, likely_for-append xs ys key)
 
 -- ---- by the lengths of fields
 

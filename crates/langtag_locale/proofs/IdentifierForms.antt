@@ -1,6 +1,5 @@
 -- The form of a language identifier has a language, and maybe a script and a region.
-use Rattle.langtag_keyword.proofs.Common.{each-weaker, ◌≡◌, ℕ, Bool, true, cond, List, [], ◌∷◌, ◌++◌, ◌&&◌, length, fold, Option, Some, None, unwrap_or, refl, sym, ap, ◌∙◌, append_assoc, arith, common_steps, length-map, flat_map, list_all, AllByRecursion, IsTrue, with_joined, of_primary, IsSubtag, of_variant, are_alike, is_region, is_script, is_variant, IsWellFormed, Record, extension_flat, one_flat, private_part_flat, spell, segments, Alias, TypeAlias, alias_for, is_unicode_language, both, found_has, nat_tests, each-append}
-use Rattle.langtag_scan.proofs.Prelude.{IfSome}
+use Rattle.langtag_keyword.proofs.Common.{each-weaker, ◌≡◌, ℕ, Bool, true, List, [], ◌∷◌, ◌++◌, ◌&&◌, length, fold, Option, Some, None, refl, sym, ap, ◌∙◌, append_assoc, arith, common_steps, length-map, flat_map, list_all, AllByRecursion, with_joined, of_primary, IsSubtag, of_variant, are_alike, is_region, is_script, is_variant, IsWellFormed, Record, extension_flat, one_flat, private_part_flat, spell, segments, Alias, TypeAlias, alias_for, is_unicode_language, both, found_has, nat_tests, each-append}
 use Rattle.langtag_scan.proofs.Grammar.{fold_byte, Spells, IsNormal}
 use Rattle.langtag_case.proofs.RecommendedLaws.{recommended_alike}
 use Rattle.langtag_case.specs.RecommendedCase.{recommended_text}
@@ -61,12 +60,10 @@ row_good good rows key to all found = let (row, is, alike, same) = row_found (λ
 first_good :
     (a b : Option Fields) → ((to : Fields) → a ≡ Some to → is_region_field to.region ≡ true) → ((to : Fields) → b ≡ Some to → is_region_field to.region ≡ true) →
     (to : Fields) → or_else a b ≡ Some to → is_region_field to.region ≡ true
-first_good None b one two = two
-first_good (Some f) b one two = one
+first_good a b one two = grind (arith, nat_tests)
 
 either_good : (good : List ℕ → Bool) (text other : List ℕ) → good text ≡ true → good other ≡ true → good (or_other text other) ≡ true
-either_good good [] other one two = two
-either_good good (b ∷ text) other one two = one
+either_good good text other one two = grind (arith, nat_tests)
 
 -- ---- the steps
 
@@ -79,9 +76,7 @@ pub fold_good :
     (good : List ℕ → Bool) (variants : List (List ℕ)) (aliases : List TypeAlias) (language : List ℕ) → list_all {X = TypeAlias} (λ alias. good alias.new) aliases ≡ true → good language ≡ true →
     good (fold (language_after variants) language aliases) ≡ true
 fold_good good variants [] language all is = is
-fold_good good variants (a ∷ aliases) language all is =
-    let parts = both (good a.new) (list_all {X = TypeAlias} (λ alias. good alias.new) aliases) all in
-    fold_good good variants aliases (language_after variants language a) parts.1 (grind (arith, common_steps, parts.0, is))
+fold_good good variants (a ∷ aliases) language all is = grind (arith, common_steps, both, fold_good good variants aliases (language_after variants language a))
 
 variant_subtags : (variants : List (List ℕ)) (f : Fields) → AreSubtags f → AreSubtags (form.variant_language variants f)
 unfolding form.variant_language
@@ -153,15 +148,11 @@ form_subtags variants f are =
 flat-parts : (p : List ℕ) (a b c d e : List (List ℕ)) → (p ∷ (a ++ (b ++ c))) ++ (d ++ e) ≡ p ∷ (a ++ (b ++ (c ++ (d ++ e))))
 flat-parts p a b c d e = simp append_assoc
 
-optional_good : (test good : List ℕ → Bool) → good [] ≡ true → ((s : List ℕ) → test s ≡ true → good s ≡ true) → (o : Option (List ℕ)) → IfSome o (λ s. IsTrue (test s)) → good (unwrap_or o []) ≡ true
-optional_good test good none some None is = none
-optional_good test good none some (Some s) is = some s is
-
 pub locale_language : (r : Record) → is_locale_record r ≡ true → is_unicode_language r.primary ≡ true
 locale_language r locale = grind (arith, common_steps, both)
 
 pub record_subtags : (r : Record) → IsWellFormed r → is_locale_record r ≡ true → AreSubtags (record_fields r)
-record_subtags r fits locale = grind (arith, common_steps, locale_language, optional_good, from_script, from_region)
+record_subtags r fits locale = grind (arith, common_steps, locale_language, from_script, from_region)
 
 -- the form, put subtag by subtag
 pub locale_joined :
@@ -186,12 +177,7 @@ same_length r = sym (length-map (recommended_text (spell (locale_record r))) fol
 -- the form of a tag whose record is known
 pub form_is : (old new : List ℕ) (r : Record) → Spells r old → is_locale_record r ≡ true → new ≡ locale_text r → IsLocaleForm old (Some new)
 unfolding IsNormal
-form_is old new r spells locale is = record {
-  part = λ q also.
-      ap (λ t. Some t) is ∙ sym (ap (λ b. cond b (Some (locale_text r)) None) locale)
-      ∙ ap (λ p. cond (is_locale_record p) (Some (locale_text p)) None) (spelled_once r q spells.0 also.0 (spells.1 ∙ sym also.1));
-  absent = λ other. absurd (other (r, spells));
-}
+form_is old new r spells locale is = grind (arith, nat_tests, spelled_once r, spells.1)
 
 -- ---- the forms of variants are variants
 

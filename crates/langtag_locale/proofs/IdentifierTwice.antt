@@ -1,9 +1,10 @@
 -- The form of a language identifier is its own form, in any case of its letters.
-use Rattle.langtag_keyword.proofs.Common.{rules, arith, ◌≡◌, ℕ, Bool, true, false, not, cond, List, [], ◌∷◌, ◌&&◌, ◌||◌, fold, Option, Some, None, find, refl, sym, ap, ◌∙◌, unwrap_or, common_steps, false_from_ne_true, false≢true, not-true, AllByRecursion, list_all, is_none, is_some, option_map_or, IsTrue, codes, each-append, each_from_test, Alike, are_alike, are_alike-decides, one_flat, segments, Alias, TypeAlias, alias_for, type_alias_for, both, found_has, fold_text-twice, in_alphabet}
+use Rattle.std.proofs.lemmas.Bool.Decides.{nat_tests}
+use Rattle.langtag_keyword.proofs.Common.{rules, arith, ◌≡◌, ℕ, Bool, true, false, not, cond, List, [], ◌∷◌, ◌&&◌, ◌||◌, fold, Option, Some, None, find, refl, sym, ap, ◌∙◌, unwrap_or, common_steps, false_from_ne_true, false≢true, not-true, AllByRecursion, list_all, is_none, is_some, option_map_or, IsTrue, codes, each-append, each_from_test, Alike, are_alike, are_alike-decides, one_flat, segments, Alias, TypeAlias, alias_for, type_alias_for, both, found_has, fold_text-twice}
 use Rattle.std.proofs.lemmas.Bool.{cond_both, or_parts}
 use Rattle.langtag_likely.proofs.AlikeFields.{likely_for-alike}
 use Rattle.langtag.proofs.Alike.{are_alike-left, are_alike-right}
-use Rattle.langtag_likely.proofs.Definitions.{language_aliases, region_replacements, language_alone, likely_for, or_other, language_replaced, region_alone, with_language_from}
+use Rattle.langtag_likely.proofs.Definitions.{language_aliases, region_replacements, language_alone, likely_for, language_replaced, region_alone}
 use Rattle.langtag.specs.Fields.{Fields, subtag_of}
 use Rattle.langtag_locale.specs.LocaleForm.{forms, has_variant, language_after, sign_for, variant_form, identifier_form, new_variants}
 use Rattle.langtag_locale.proofs.LocaleCase.{has_variant-alike, is_gone, region_by, replaced_by, replacement}
@@ -19,15 +20,12 @@ use Rattle.langtag_scan.proofs.BoolFacts.{list_all-weaker}
 -- ---- what is not found
 
 pub not_some : {X : Type 0} (o : Option X) → is_some o ≡ false → o ≡ None
-not_some None is = refl
-not_some (Some x) is = absurd cc
+not_some o is = grind (arith, nat_tests)
 
 -- nothing is found if nothing passes the test
 pub none_found : {X : Type 0} (good test : X → Bool) (xs : List X) → list_all good xs ≡ true → ((x : X) → good x ≡ true → test x ≡ false) → find test xs ≡ None
 none_found good test [] all never = refl
-none_found good test (x ∷ xs) all never =
-    let parts = both (good x) (list_all good xs) all in
-    ap (λ b. cond b (Some x) (find test xs)) (never x parts.0) ∙ none_found good test xs parts.1 never
+none_found good test (x ∷ xs) all never = grind (arith, nat_tests, both (good x) (list_all good xs) all, none_found good test xs)
 
 -- two tests do not pass together
 pub not_both : (a b : Bool) → (a ≡ true → b ≡ true → ⊥) → (a && b) ≡ false
@@ -58,8 +56,7 @@ variant_stays language variants v = grind (arith, common_steps, cond_both, is_go
 
 pub forms-stay : (language : List ℕ) (variants vs : List (List ℕ)) → AllByRecursion (Stays language) (forms language variants vs)
 forms-stay language variants [] = tt
-forms-stay language variants (v ∷ vs) =
-    each-append (Stays language) (one_flat (subtag_of (variant_form language variants v))) (forms language variants vs) (variant_stays language variants v) (forms-stay language variants vs)
+forms-stay language variants (v ∷ vs) = grind (arith, nat_tests, each-append, variant_stays language variants v, forms-stay language variants vs)
 
 -- ---- languages that stay
 
@@ -98,9 +95,7 @@ pub fold_stays :
     (variants : List (List ℕ)) (aliases : List TypeAlias) (l : List ℕ) → list_all is_old_language aliases ≡ true →
     ((a : TypeAlias) → is_old_language a ≡ true → (are_alike a.key l && has_variant variants a.old) ≡ false) → fold (language_after variants) l aliases ≡ l
 fold_stays variants [] l all never = refl
-fold_stays variants (a ∷ aliases) l all never =
-    let parts = both (is_old_language a) (list_all is_old_language aliases) all in
-    ap (λ m. fold (language_after variants) m aliases) (ap (λ b. cond b a.new l) (never a parts.0)) ∙ fold_stays variants aliases l parts.1 never
+fold_stays variants (a ∷ aliases) l all never = grind (arith, common_steps, both, fold_stays variants aliases l)
 
 -- ---- regions and scripts that stay
 
@@ -126,14 +121,6 @@ pub new_script-last : (f : Fields) → is_last_script (form.new_script f) ≡ tr
 new_script-last f = grind (arith, common_steps, found_good is_last_script (λ (alias : Alias). are_alike alias.old f.script) list.script_aliases, scripts_last)
 
 -- ---- the form of the form
-
-or_none : (text : List ℕ) → or_other text [] ≡ text
-or_none [] = refl
-or_none (b ∷ text) = refl
-
-one_there : (v : List ℕ) → are_alike v [] ≡ false → one_flat (subtag_of v) ≡ v ∷ []
-one_there [] some = absurd (false≢true (sym some))
-one_there (b ∷ v) some = refl
 
 module _ (variants : List (List ℕ)) (f : Fields) where
   -- the language before it changes with a variant
@@ -187,10 +174,7 @@ module _ (variants : List (List ℕ)) (f : Fields) where
 
   -- no alias has the language of the form and a variant that stays
   no_alias : (x : List ℕ) → Stays language x → (a : TypeAlias) → is_old_language a ≡ true → are_alike a.key final.language ≡ true → Alike a.old x → ⊥
-  no_alias x stays a old same alike =
-      let parts = both (is_some (type_alias_for list.variant_languages a.key a.old)) _ old in
-      false≢true
-      (sym (ap is_some (type_alias_for-alike list.variant_languages a.key language a.old x ((are_alike-decides a.key language).0 (came a old same)) alike ∙ stays.kept)) ∙ parts.0)
+  no_alias x stays a old same alike = grind (arith, nat_tests, both, false≢true, type_alias_for-alike, are_alike-decides a.key language, came a old same)
 
   none_left : (a : TypeAlias) → is_old_language a ≡ true → (are_alike a.key final.language && has_variant news a.old) ≡ false
   none_left a old =
@@ -211,8 +195,7 @@ module _ (variants : List (List ℕ)) (f : Fields) where
 
   language_again : language_replaced final ≡ final
   unfolding language_replaced
-  language_again =
-      ap (λ o. option_map_or (with_language_from final) o final) (none_is (likely_for language_aliases (language_alone final)) last_language)
+  language_again = grind (arith, nat_tests, none_is (likely_for language_aliases (language_alone final)) last_language)
 
   variant_again : form.variant_language news final ≡ final
   unfolding form.variant_language
@@ -224,7 +207,7 @@ module _ (variants : List (List ℕ)) (f : Fields) where
 
   variant_region_again : form.variant_region news final ≡ final
   unfolding form.variant_region
-  variant_region_again = grind (arith, common_steps, none_found, is_last_variant, regions_dropped, false_from_ne_true, false≢true, not-true, new-stays, or_none)
+  variant_region_again = grind (arith, common_steps, none_found, is_last_variant, regions_dropped, false_from_ne_true, false≢true, not-true, new-stays)
 
   region_again : form.with_new_region final ≡ final
   unfolding form.with_new_region form.new_region
@@ -247,9 +230,8 @@ module _ (variants : List (List ℕ)) (f : Fields) where
 
   forms-again : (vs : List (List ℕ)) → AllByRecursion (Stays language) vs → forms final.language news vs ≡ vs
   forms-again [] all = refl
-  forms-again (v ∷ vs) all = grind (arith, common_steps, forms-again vs all.1, forms, stays_again, one_there)
+  forms-again (v ∷ vs) all = grind (arith, common_steps, forms-again vs all.1, forms, stays_again, false≢true)
 
   -- and its variants are theirs
   pub new_variants-twice : new_variants news final ≡ news
-  new_variants-twice =
-      ap (λ (x : Fields). in_alphabet (forms x.language news news)) language_again ∙ ap in_alphabet (forms-again news news-stay) ∙ in_alphabet-twice (forms language variants variants)
+  new_variants-twice = grind (arith, nat_tests, language_again, forms-again news news-stay, news-stay, in_alphabet-twice)

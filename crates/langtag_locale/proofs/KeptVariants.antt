@@ -1,10 +1,11 @@
 -- A variant keeps its form if its number is not one of those in the table.
-use Rattle.langtag_keyword.proofs.Common.{arith, ◌≡◌, ℕ, Bool, true, false, ◌==◌, ◌&&◌, ◌||◌, List, [], ◌∷◌, map, refl, sym, ap, ◌∙◌, false_from_ne_true, false≢true, list_all, list_any, IsSubtag, are_alike, are_alike-decides, one_flat, Alias, TypeAlias, order_number, both}
+use Rattle.std.proofs.lemmas.Bool.Decides.{nat_tests}
+use Rattle.langtag_keyword.proofs.Common.{arith, ◌≡◌, ℕ, Bool, true, false, ◌==◌, List, [], ◌∷◌, map, refl, sym, ap, ◌∙◌, false_from_ne_true, false≢true, list_all, list_any, IsSubtag, are_alike, are_alike-decides, one_flat, Alias, TypeAlias, order_number, both}
 use Rattle.langtag.specs.Fields.{subtag_of}
 use Rattle.langtag_scan.specs.Case.{fold_byte}
 use Rattle.langtag_keyword.specs.Least.{left_number}
 use Rattle.langtag_locale.specs.LocaleAliases as list
-use Rattle.langtag_locale.specs.LocaleForm.{has_variant, is_pair_of, variant_form}
+use Rattle.langtag_locale.specs.LocaleForm.{variant_form}
 use Rattle.langtag_locale.specs.declared.locale_tables.TheConstants.{CHANGING_VARIANTS}
 use Rattle.langtag_locale.proofs.IdentifierTwice.{none_found, not_both}
 
@@ -42,23 +43,12 @@ module _ (v : List ℕ) (absent : is_listed v ≡ false) where
 
   not_dropped : (olds : List (List ℕ)) → list_all is_listed olds ≡ true → list_any (are_alike v) olds ≡ false
   not_dropped [] all = refl
-  not_dropped (old ∷ olds) all =
-      let parts = both (is_listed old) (list_all is_listed olds) all in
-      ap (λ b. b || list_any (are_alike v) olds) (apart_from old parts.0) ∙ not_dropped olds parts.1
+  not_dropped (old ∷ olds) all = grind (arith, nat_tests, both (is_listed old) (list_all is_listed olds) all, apart_from old, not_dropped olds)
 
   kept_form : (language : List ℕ) (variants : List (List ℕ)) → variant_form language variants v ≡ v
   unfolding variant_form
   kept_form language variants =
-      let languages =
-      none_found {X = TypeAlias} (λ alias. is_listed alias.old) (λ alias. are_alike alias.key language && are_alike alias.old v) list.variant_languages languages_listed
-      (λ alias listed. not_both (are_alike alias.key language) (are_alike alias.old v) (λ key old. false≢true (sym (apart alias.old listed) ∙ old))) in
-      let dropped = not_dropped list.dropped_variants dropped_listed in
-      let pairs =
-      none_found {X = TypeAlias} (λ alias. is_listed alias.key) (is_pair_of variants v) list.variant_pairs pairs_listed
-      (λ alias listed. not_both (are_alike alias.key v) (has_variant variants alias.old) (λ key old. false≢true (sym (apart alias.key listed) ∙ key))) in
-      let aliases =
-      none_found {X = Alias} (λ alias. is_listed alias.old) (λ alias. are_alike alias.old v) list.variant_aliases aliases_listed (λ alias listed. apart alias.old listed) in
-      rw (languages, dropped, pairs, aliases) refl
+      grind (arith, nat_tests, none_found, languages_listed, not_both, false≢true, apart, not_dropped, dropped_listed, pairs_listed, aliases_listed)
 
 -- a variant whose number is not in the table
 pub kept : (v : List ℕ) (n : ℕ) → order_number v ≡ n → list_any (λ m. m == n) CHANGING_VARIANTS ≡ false → (language : List ℕ) (variants : List (List ℕ)) → variant_form language variants v ≡ v
@@ -67,5 +57,4 @@ kept v n is absent = kept_form v (ap (λ k. list_any (λ m. m == k) CHANGING_VAR
 
 -- a variant that keeps its form is offered as it is
 pub kept_number : (v form : List ℕ) (n : ℕ) → IsSubtag v → n ≡ order_number v → form ≡ v → n ∷ [] ≡ map order_number (one_flat (subtag_of form))
-kept_number [] form n is number kept = absurd (omega (arith, is.some))
-kept_number (b ∷ v) form n is number kept = ap (λ k. k ∷ []) number ∙ sym (ap (λ t. map order_number (one_flat (subtag_of t))) kept)
+kept_number v form n is number kept = grind (arith, nat_tests)

@@ -1,8 +1,8 @@
 -- The case of a tag changes nothing in its form as a Unicode locale identifier.
-use Rattle.langtag_keyword.proofs.Common.{keywords_form, common_steps, arith, ◌≡◌, ℕ, Bool, cond, List, [], ◌∷◌, ◌++◌, ◌&&◌, ◌||◌, map, fold, Option, find, option_map, unwrap_or, refl, sym, ap, subst, ◌∙◌, None, Some, map-append, length-map, list_any, flat_map, list_all, is_some, option_map_or, is_none, codes, bytes_eq, Alike, are_alike, fold_text, fold_byte, one_flat, Extension, Record, spell, segments, Alias, TypeAlias, alias_for, type_alias_for, nat_tests, find_extension, fold_text-twice, AlikeRecords, transform_value, before_key, is_field_key, slice_get-map}
+use Rattle.langtag_keyword.proofs.Common.{keywords_form, common_steps, arith, ◌≡◌, ℕ, Bool, cond, List, [], ◌∷◌, ◌++◌, ◌&&◌, ◌||◌, map, fold, Option, find, option_map, unwrap_or, refl, sym, ap, subst, ◌∙◌, map-append, length-map, list_any, flat_map, list_all, is_some, option_map_or, is_none, codes, bytes_eq, Alike, are_alike, fold_text, fold_byte, one_flat, Extension, Record, spell, segments, Alias, TypeAlias, alias_for, type_alias_for, nat_tests, find_extension, fold_text-twice, AlikeRecords, transform_value, before_key, is_field_key, slice_get-map}
 use Rattle.langtag_likely.proofs.AlikeFields.{added-alike, by_options, by_same, known-alike, language-alike, likely_for-alike, or_other-alike}
 use Rattle.langtag.proofs.Alike.{AlikeFields, are_alike-left, are_alike-right}
-use Rattle.langtag_likely.proofs.Definitions.{or_else, or_other, language_replaced}
+use Rattle.langtag_likely.proofs.Definitions.{or_else, or_other}
 use Rattle.langtag.proofs.Definitions.{Fields, subtag_of, singletons}
 use Rattle.langtag_scan.proofs.Grammar.{PrivateUse, fold_extension, fold_private_use, fold_record}
 use Rattle.langtag_locale.specs.LocaleForm.{forms, has_variant, heir, identifier_form, is_pair_of, language_after, new_variants, sign_for, variant_form}
@@ -52,12 +52,9 @@ variant_language-alike : (variants : List (List ℕ)) (f g : Fields) → AlikeFi
 unfolding form.variant_language
 variant_language-alike variants f g h = record { language = fold-alike variants list.variant_languages f.language g.language h.language; script = h.script; region = h.region }
 
-sign_for-alike : (f g : Fields) → AlikeFields f g → sign_for f ≡ sign_for g
-sign_for-alike f g h = grind (arith, common_steps, are_alike-left, alias_for-alike)
-
 sign-alike : (f g : Fields) → AlikeFields f g → AlikeFields (form.sign_language f) (form.sign_language g)
 unfolding form.sign_language
-sign-alike f g h = grind (arith, common_steps, by_same, sign_for-alike)
+sign-alike f g h = grind (arith, common_steps, by_same, are_alike-left, alias_for-alike)
 
 variant_region-alike : (variants : List (List ℕ)) (f g : Fields) → AlikeFields f g → AlikeFields (form.variant_region variants f) (form.variant_region variants g)
 unfolding form.variant_region
@@ -70,10 +67,6 @@ likely_region-alike f g h =
     (added-alike (form.language_and_script f) (form.language_and_script g)
     (record { language = known-alike (codes "und") f.language g.language h.language; script = h.script; region = refl }))
 
-heir-alike : (a b : List ℕ) (regions : List (List ℕ)) → Alike a b → Alike (heir a regions) (heir b regions)
-heir-alike a b [] alike = refl
-heir-alike a b (first ∷ others) alike = grind (arith, common_steps, by_same, has_variant-alike)
-
 -- the heir among the regions that were found
 abbrev pub heirs : Fields → Option (List ℕ) → Option (List ℕ)
 heirs f o = option_map (λ regions. heir (form.likely_region f) (segments regions)) o
@@ -84,7 +77,7 @@ region_by f o p = unwrap_or (or_else (option_map (λ to. to.region) o) (heirs f 
 
 new_region-alike : (f g : Fields) → AlikeFields f g → Alike (form.new_region f) (form.new_region g)
 unfolding form.new_region
-new_region-alike f g h = grind (arith, common_steps, by_same, likely_for-alike, heir-alike, likely_region-alike, alias_for-alike)
+new_region-alike f g h = grind (arith, common_steps, by_same, likely_for-alike, likely_region-alike, alias_for-alike, has_variant-alike)
 
 region-alike : (f g : Fields) → AlikeFields f g → AlikeFields (form.with_new_region f) (form.with_new_region g)
 unfolding form.with_new_region
@@ -171,8 +164,7 @@ module _ (language other : List ℕ) (variants others : List (List ℕ)) (langua
 
 -- identifiers that are equal but for case have the same variants in their forms
 pub new_variants-alike : (v w : List (List ℕ)) (f g : Fields) → AreAlike v w → AlikeFields f g → new_variants v f ≡ new_variants w g
-new_variants-alike v w f g alike h =
-    in_alphabet-alike _ _ (forms-alike (language_replaced f).language (language_replaced g).language v w (language-alike f g h).language alike v w alike)
+new_variants-alike v w f g alike h = grind (arith, common_steps, in_alphabet-alike, forms-alike, language-alike)
 
 -- ---- the case of extensions
 
@@ -221,13 +213,9 @@ find-fold : (n : ℕ) (es : List Extension) → find_extension n (map fold_exten
 find-fold n [] = refl
 find-fold n (e ∷ es) = grind (arith, nat_tests, fold_byte-twice e.singleton, find-fold n es)
 
-at-fold : (es : List Extension) (n : ℕ) → map fold_extension (extension_at (map fold_extension es) n) ≡ map fold_extension (extension_at es n)
-at-fold es n = grind (arith, common_steps, find-fold, extension-alike)
-
 all-fold : (es : List Extension) (ns : List ℕ) → map fold_extension (flat_map (extension_at (map fold_extension es)) ns) ≡ map fold_extension (flat_map (extension_at es) ns)
 all-fold es [] = refl
-all-fold es (n ∷ ns) =
-    rw (map-append fold_extension (extension_at (map fold_extension es) n) (flat_map (extension_at (map fold_extension es)) ns), map-append fold_extension (extension_at es n) (flat_map (extension_at es) ns), at-fold es n, all-fold es ns) refl
+all-fold es (n ∷ ns) = grind (arith, common_steps, map-append, all-fold es ns, find-fold, extension-alike)
 
 -- the forms of extensions in lowercase are those of the extensions, but for case
 pub extensions-alike : (es : List Extension) → map fold_extension (extensions_in_order (map fold_extension es)) ≡ map fold_extension (extensions_in_order es)
@@ -264,25 +252,20 @@ locale-alike r q alike = sym (locale-fold r) ∙ ap is_locale_record alike ∙ l
 
 -- ---- the form
 
-or_lower : (o : Option (List ℕ)) → Alike (unwrap_or (option_map fold_text o) []) (unwrap_or o [])
-or_lower None = refl
-or_lower (Some s) = fold_text-twice s
-
 lower_subtag : (s : List ℕ) → option_map fold_text (subtag_of s) ≡ subtag_of (fold_text s)
-lower_subtag [] = refl
-lower_subtag (b ∷ s) = refl
+lower_subtag s = grind (arith, nat_tests)
 
 subtag-alike : (s t : List ℕ) → Alike s t → option_map fold_text (subtag_of s) ≡ option_map fold_text (subtag_of t)
 subtag-alike s t alike = lower_subtag s ∙ ap subtag_of alike ∙ sym (lower_subtag t)
 
 private_use-twice : (o : Option PrivateUse) → option_map fold_private_use (option_map fold_private_use o) ≡ option_map fold_private_use o
-private_use-twice None = refl
-private_use-twice (Some p) = rw (fold_byte-twice p.mark, lower-twice p.subtags) refl
+private_use-twice o = grind (arith, nat_tests, fold_byte-twice, lower-twice)
 
 -- the record in lowercase has a form that is equal but for case
 form-fold : (r : Record) → AlikeRecords (locale_record (fold_record r)) (locale_record r)
 unfolding locale_record
-form-fold r = grind (arith, common_steps, lower-twice, fold_text-twice, or_lower, identifier_form-alike, subtag-alike, new_variants-alike, extensions-alike, private_use-twice)
+form-fold r =
+    grind (arith, common_steps, lower-twice, fold_text-twice, identifier_form-alike, subtag-alike, new_variants-alike, extensions-alike, private_use-twice)
 
 pub form-alike : (r q : Record) → AlikeRecords r q → AlikeRecords (locale_record r) (locale_record q)
 form-alike r q alike = sym (form-fold r) ∙ ap (λ x. fold_record (locale_record x)) alike ∙ form-fold q

@@ -4,7 +4,7 @@ use Rattle.langtag_scan.proofs.Prelude.{list_all_at, IfSome}
 use Rattle.langtag_scan.proofs.Grammar.{is_singleton, is_extension_subtag, IsNormal, IsTag}
 use Rattle.langtag_extension.proofs.ExtensionLookUp.{first_byte-spelling}
 use Rattle.langtag.proofs.Definitions.{of_singleton, singletons, is_region_field, is_script_field, Fields, subtag_of}
-use Rattle.langtag_locale.specs.Locale.{is_locale_extension, is_unicode_subtag, is_locale_record}
+use Rattle.langtag_locale.specs.Locale.{is_locale_extension, is_locale_record}
 use Rattle.langtag_locale.specs.LocaleForm.{extension_at, locale_extension_form, locale_transform_form, identifier_form, locale_record, locale_text}
 use Rattle.langtag_locale.specs.LocaleForm.{new_variants, record_fields, transform_language_form}
 use Rattle.langtag_case.proofs.RecommendedLaws.{recommended_alike}
@@ -50,8 +50,7 @@ found_one singleton es members text same = by_found (find_extension singleton es
     by_found (Some e) is same = record { one = e; found = is; spells = record { member = extension_found singleton es members e is; joined = cc } }
 
 pub none_found : (o : Option Extension) → None ≡ option_map extension_spelling o → o ≡ None
-none_found None same = refl
-none_found (Some e) same = absurd cc
+none_found o same = grind (arith, nat_tests)
 
 -- the empty text spells no extensions
 pub none_spelled : (es : List Extension) (text : List ℕ) → SpellsExtensions es text → text ≡ [] → es ≡ []
@@ -75,13 +74,11 @@ locale_form_tested a b e one two = ap (λ x. locale_form_by x (is_of 116 e) e) o
 
 -- a `t` that is allowed is well-formed
 pub transform_allowed : (e : Extension) → is_of 117 e ≡ false → is_of 116 e ≡ true → is_locale_extension e ≡ true → is_transform e.subtags ≡ true
-transform_allowed e one two allowed =
-    sym (ap (λ x. cond x (list_all is_unicode_subtag e.subtags) (cond (is_of 116 e) (is_transform e.subtags) true)) one ∙ ap (λ x. cond x (is_transform e.subtags) true) two) ∙ allowed
+transform_allowed e one two allowed = grind (arith, nat_tests)
 
 -- the form of the extension with a singleton, as subtags
 pub at_found : (es : List Extension) (singleton : ℕ) (e : Extension) → find_extension singleton es ≡ Some e → flat_map extension_flat (extension_at es singleton) ≡ extension_flat (locale_extension_form e)
-at_found es singleton e found =
-    ap (λ o. flat_map extension_flat (option_map_or (λ e. locale_extension_form e ∷ []) o [])) found ∙ append-nil (extension_flat (locale_extension_form e))
+at_found es singleton e found = grind (arith, nat_tests, append-nil (extension_flat (locale_extension_form e)))
 
 pub at_nothing : (es : List Extension) (singleton : ℕ) → find_extension singleton es ≡ None → flat_map extension_flat (extension_at es singleton) ≡ []
 at_nothing es singleton none = ap (λ o. flat_map extension_flat (option_map_or (λ e. locale_extension_form e ∷ []) o [])) none
@@ -95,9 +92,7 @@ flat_of_each es (b ∷ bytes) = flat_map-append extension_flat (extension_at es 
 -- each of the bytes is a singleton
 pub each_singleton : (k : ℕ) → k < length singletons → is_singleton (get_or singletons k 0) ≡ true
 unfolding class.is_singleton class.is_letter class.is_digit class.is_mark
-each_singleton k inside =
-    let all : list_all is_singleton singletons ≡ true = refl in
-    grind (arith, common_steps, all, list_all_at is_singleton singletons k 0 inside, false≢true)
+each_singleton k inside = grind (arith, nat_tests, list_all_at is_singleton singletons k 0 inside, false≢true)
 
 -- ---- the variants
 
@@ -153,12 +148,10 @@ extensions_good es fits allowed (n ∷ ns) = each-append _ (extension_at es n) (
 -- ---- the tag
 
 script_part : (s : List ℕ) → is_script_field s ≡ true → IfSome (subtag_of s) (λ t. IsTrue (is_script t))
-script_part [] is = tt
-script_part (b ∷ s) is = is
+script_part s is = grind (arith, nat_tests)
 
 region_part : (s : List ℕ) → is_region_field s ≡ true → IfSome (subtag_of s) (λ t. IsTrue (is_region t))
-region_part [] is = tt
-region_part (b ∷ s) is = is
+region_part s is = grind (arith, nat_tests)
 
 -- ---- which texts are Unicode locale identifiers
 

@@ -1,5 +1,5 @@
 -- The tables of language identifiers have what the lists say, and what replaces a field has its class: by computation.
-use Rattle.langtag_keyword.proofs.Common.{common_steps, arith, ◌≡◌, ℕ, Bool, true, cond, List, [], ◌∷◌, fold, map, option_map, Some, refl, ap, ◌∙◌, ◌+◌, ◌*◌, ◌==◌, not, ◌&&◌, ◌++◌, codes, list_all, are_alike, fold_text, segments, Alias, TypeAlias, alias_for, type_alias_for, both, found_has, nat_tests, is_none, is_some, are_alike-decides, find, ◌||◌}
+use Rattle.langtag_keyword.proofs.Common.{common_steps, arith, ◌≡◌, ℕ, Bool, true, List, [], ◌∷◌, fold, map, option_map, Some, refl, ◌+◌, ◌*◌, ◌==◌, not, ◌&&◌, ◌++◌, codes, list_all, are_alike, fold_text, segments, Alias, TypeAlias, alias_for, type_alias_for, both, found_has, nat_tests, is_none, is_some, are_alike-decides, find, ◌||◌}
 use Rattle.langtag_scan.proofs.Prelude.{and-false, eq-eqb}
 use Rattle.langtag_scan.proofs.Grammar.{fold_byte, is_digit, is_letter, is_primary, is_region, is_script}
 use Rattle.langtag.proofs.Definitions.{is_language_field, is_region_field, is_script_field, Fields}
@@ -65,8 +65,7 @@ scripts_good = refl
 -- no language changes if there are no variants
 pub no_variants : (language : List ℕ) (aliases : List TypeAlias) → fold (language_after []) language aliases ≡ language
 no_variants language [] = refl
-no_variants language (alias ∷ aliases) =
-    ap (λ l. fold (language_after []) l aliases) (ap (λ b. cond b alias.new language) (and-false (are_alike alias.key language))) ∙ no_variants language aliases
+no_variants language (alias ∷ aliases) = grind (arith, common_steps, and-false, no_variants language aliases)
 
 -- the replacement that is found has what all replacements have
 pub found_good :
@@ -78,8 +77,7 @@ found_good good test aliases new all is = grind (arith, common_steps, found_has)
 pub heir_good :
     (good : List ℕ → Bool) (likely : List ℕ) (regions : List (List ℕ)) → (has_variant regions likely ≡ true → good likely ≡ true) → good [] ≡ true → list_all good regions ≡ true →
     good (heir likely regions) ≡ true
-heir_good good likely [] one none all = none
-heir_good good likely (first ∷ others) one none all = grind (arith, common_steps, both)
+heir_good good likely regions one none all = grind (arith, nat_tests, both)
 
 -- ---- what replaces a row has no row: fields are compared as numbers, which takes less time
 

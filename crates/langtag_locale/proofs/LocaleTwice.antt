@@ -1,4 +1,5 @@
 -- The form of a Unicode locale identifier is its own form, and alike identifiers have the same form.
+use Rattle.std.proofs.lemmas.Bool.Decides.{nat_tests}
 use Rattle.langtag_keyword.proofs.Common.{each-weaker, common_steps, arith, ◌≡◌, ℕ, true, false, not, ◌||◌, ◌==◌, List, [], ◌∷◌, map, Some, refl, ap, ◌∙◌, eqb-true, Bool, cond, ◌&&◌, sym, Option, None, option_map, unwrap_or, not-true, IsTrue, AllByRecursion, flat_map, list_all, list_any, each-append, each_from_test, are_alike, fold_text, Extension, IsWellFormed, IsWellFormedExtension, Record, spell, is_unicode_key, unicode_form, are_different_variants, are_fields, is_language_or_none, is_of, is_transform, is_unicode_language, is_key, value_of, before_key, both, found_has, is_none, option_map_or, extension_found, is_field_key, find_extension, find}
 use Rattle.langtag.specs.Repeat.{are_alike_bytes, repeat}
 use Rattle.langtag.proofs.Definitions.{Fields, subtag_of, singletons}
@@ -48,9 +49,7 @@ module _ (es : List Extension) where
   -- what stands at other singletons is not alike
   others-apart : (s n : ℕ) → fold_byte s ≡ fold_byte n → (ms : List ℕ) → list_all (λ m. not (fold_byte m == fold_byte n)) ms ≡ true → AllByRecursion (λ y. are_alike_bytes y s ≡ false) (bytes ms)
   others-apart s n same [] all = tt
-  others-apart s n same (m ∷ ms) all =
-      let parts = both (not (fold_byte m == fold_byte n)) (list_all (λ m. not (fold_byte m == fold_byte n)) ms) all in
-      grind (arith, common_steps, others-apart s n same ms parts.1, not-true, parts.0, form_singleton, eqb-true, found_is)
+  others-apart s n same (m ∷ ms) all = grind (arith, common_steps, both, not-true, form_singleton, eqb-true, found_is, others-apart s n same ms)
 
   bytes-apart : (ns : List ℕ) → are_apart ns ≡ true → Apart are_alike_bytes (bytes ns)
   bytes-apart [] all = tt
@@ -92,8 +91,7 @@ unicode_form-may ss good may = grind (arith, common_steps, each-append, each-alp
 -- ---- the form is allowed
 
 both_true : (x y : Bool) → x ≡ true → y ≡ true → (x && y) ≡ true
-both_true true y one two = two
-both_true false y one two = one
+both_true x y one two = grind (arith, nat_tests)
 
 -- ---- the extension `t`
 
@@ -192,15 +190,12 @@ module _ (es : List Extension) (fits : AllByRecursion IsWellFormedExtension es) 
       (ns : List ℕ) → list_all (λ n. list_any (λ m. fold_byte m == fold_byte n) singletons) ns ≡ true →
       flat_map (extension_at (extensions_in_order es)) ns ≡ flat_map (extension_at es) ns
   each-own [] among = refl
-  each-own (n ∷ ns) among =
-      let parts = both (list_any (λ m. fold_byte m == fold_byte n) singletons) (list_all (λ k. list_any (λ m. fold_byte m == fold_byte k) singletons) ns) among in
-      rw (at-own n parts.0, each-own ns parts.1) refl
+  each-own (n ∷ ns) among = grind (arith, nat_tests, both, at-own n, each-own ns)
 
 -- ---- the record
 
 or_subtag : (s : List ℕ) → unwrap_or (subtag_of s) [] ≡ s
-or_subtag [] = refl
-or_subtag (b ∷ s) = refl
+or_subtag s = grind (arith, nat_tests)
 
 record-own : (r : Record) → IsWellFormed r → is_locale_record r ≡ true → locale_record (locale_record r) ≡ locale_record r
 unfolding locale_record

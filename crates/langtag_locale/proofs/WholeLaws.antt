@@ -1,5 +1,5 @@
 -- The form of any tag is that of a Unicode locale identifier, and its own form; alike tags have the same form.
-use Rattle.langtag_keyword.proofs.Common.{◌≡◌, ℕ, ◌+◌, Bool, true, false, List, [], ◌∷◌, ◌++◌, drop, length, Option, Some, None, inl, inr, refl, sym, ap, ◌∙◌, arith, append_assoc, cond, map, false≢true, length-append, IsCharBoundary-after_ascii, IsUtf8, flat_map, nat_tests, is_extended, EachRecord, IsWellFormed, Record, extension_flat, one_flat, private_part_flat, join, common_steps, fold_text-twice, AlikeRecords, Alike, fold_text}
+use Rattle.langtag_keyword.proofs.Common.{◌≡◌, ℕ, ◌+◌, Bool, true, false, List, [], ◌∷◌, ◌++◌, drop, length, Option, Some, None, inl, inr, refl, sym, ap, ◌∙◌, arith, append_assoc, map, false≢true, length-append, IsCharBoundary-after_ascii, IsUtf8, flat_map, nat_tests, is_extended, EachRecord, IsWellFormed, Record, extension_flat, one_flat, private_part_flat, join, fold_text-twice, AlikeRecords, Alike, fold_text}
 use Rattle.langtag_scan.proofs.Prelude.{◌⊎◌, get_or-append_seam, drop_at, length_push, none-some, IsCharBoundary}
 use Rattle.langtag_scan.proofs.Grammar.{Spells, IsNormal, fold_record}
 use Rattle.std.proofs.lemmas.Option.{same_Some}
@@ -120,10 +120,7 @@ locale_or_not tag = by_normal (normal_or_not tag)
   where
     by_test : (r : Record) → Spells r tag → (b : Bool) → is_locale_record r ≡ b → IsLocale tag ⊎ (IsLocale tag → ⊥)
     by_test r spells true locale = inl (r, spells, locale)
-    by_test r spells false other = inr unlike
-      where
-        unlike : IsLocale tag → ⊥
-        unlike (q, also, locale) = false≢true (sym other ∙ ap is_locale_record (spelled_once r q spells.0 also.0 (spells.1 ∙ sym also.1)) ∙ locale)
+    by_test r spells false other = grind (arith, nat_tests, false≢true, spelled_once r, spells.1)
 
     by_normal : IsNormal tag ⊎ (IsNormal tag → ⊥) → IsLocale tag ⊎ (IsLocale tag → ⊥)
     by_normal (inl (r, spells)) = by_test r spells (is_locale_record r) refl
@@ -165,13 +162,10 @@ whole-own tag form of =
 -- ---- case
 
 locale_alike : (a b : List ℕ) → Alike a b → IsLocale a → IsLocale b
-locale_alike a b alike (r, spells, locale) =
-    let (q, spells_b, same, ends) = alike_parts a b alike r spells in
-    (q, spells_b, sym (locale-alike r q same) ∙ locale)
+locale_alike a b alike (r, spells, locale) = grind (arith, nat_tests, alike_parts a b alike r spells, locale-alike r)
 
 record_form-alike : (r q : Record) → AlikeRecords r q → record_form r ≡ record_form q
-record_form-alike r q alike =
-    ap (λ b. cond b (Some (locale_text r)) None) (locale-alike r q alike) ∙ ap (λ t. cond (is_locale_record q) (Some t) None) (text-alike r q alike)
+record_form-alike r q alike = grind (arith, nat_tests, locale-alike r q alike, text-alike r q alike)
 
 part-alike :
     (f : Record → Option (List ℕ)) → ((r q : Record) → AlikeRecords r q → f r ≡ f q) → (a b : List ℕ) (x y : Option (List ℕ)) → Alike a b → PartOf a f None x → PartOf b f None y → x ≡ y
@@ -184,9 +178,7 @@ part-alike f same a b x y alike p q = elim (normal_or_not a) [
 ]
 
 replaced-fold : (es : List (List ℕ)) (r : Record) → fold_record (replace_language es r) ≡ replace_language (map fold_text es) (fold_record r)
-replaced-fold [] r = refl
-replaced-fold (e ∷ f ∷ es) r = refl
-replaced-fold (e ∷ []) r = grind (arith, common_steps, registered_extlang-alike, fold_text-twice)
+replaced-fold es r = grind (arith, nat_tests, registered_extlang-alike, fold_text-twice)
 
 replaced-alike : (r q : Record) → AlikeRecords r q → AlikeRecords (extlang_replaced r) (extlang_replaced q)
 replaced-alike r q alike = replaced-fold r.extended r ∙ ap (λ x. replace_language x.extended x) alike ∙ sym (replaced-fold q.extended q)

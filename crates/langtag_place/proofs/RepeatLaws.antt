@@ -1,5 +1,5 @@
 -- What is known of the first repeat when the first so many members were looked at, one by one or a block at a time.
-use Rattle.langtag_scan.proofs.Prelude.{◌≡◌, ℕ, ◌+◌, ◌<◌, Bool, true, false, cond, List, [], ◌∷◌, ◌++◌, length, get_or, take, drop, slice_get, None, Some, refl, ap, sym, subst, ◌∙◌, arith, append-nil, append_assoc, zero, suc, ◌-◌, ◌≤◌, ◌&&◌, ◌==◌, set, map, IsTrue, inl, inr, add-one, list_any, list_all, false_from_ne_true, and_parts, cases_lt, common_steps, get_or-set_at, at_drop_more, take_more, length-take, length-drop, get_or-set_other, get_or-map, get_or-take, get_or-drop, take-append-drop, drop_all, length-map, list_any_at, Any-from_list_any, list_any_none, list_any-append, list_all-append, IsNonDecreasing, or-true, or-false, eqb_tells, list_any-IsPermutation}
+use Rattle.langtag_scan.proofs.Prelude.{◌≡◌, ℕ, ◌+◌, ◌<◌, Bool, true, false, cond, List, [], ◌∷◌, ◌++◌, length, get_or, take, drop, slice_get, None, Some, refl, ap, sym, subst, ◌∙◌, arith, append-nil, append_assoc, zero, suc, ◌-◌, ◌≤◌, ◌&&◌, ◌==◌, set, map, IsTrue, inl, inr, add-one, list_any, list_all, false_from_ne_true, and_parts, cases_lt, common_steps, get_or-set_at, at_drop_more, take_more, length-take, length-drop, get_or-set_other, get_or-map, get_or-take, get_or-drop, take-append-drop, drop_all, length-map, list_any_at, Any-from_list_any, list_any_none, list_any-append, list_all-append, IsNonDecreasing, or-true, or-false, eqb_tells, list_any-IsPermutation, nat_tests}
 use Rattle.std.specs.List.{AllPairs}
 use Rattle.std.proofs.lemmas.List.{get_or_default, map_push}
 use Rattle.std.proofs.lemmas.List.Quantifiers.{all_pairs_push}
@@ -38,8 +38,7 @@ module _ {A : Type 0} (alike : A → A → Bool) where
   pub repeat-found :
       (xs : List A) (n : ℕ) (x : A) (rest : List A) → repeat_index alike xs ≡ repeat_index_after alike (take n xs) (drop n xs) →
       drop n xs ≡ x ∷ rest → list_any (alike x) (take n xs) ≡ true → repeat_index alike xs ≡ Some n
-  repeat-found xs n x rest so_far left seen =
-      grind (arith, common_steps, IsAt-drop xs n x rest left, turn-by xs n x rest true so_far left seen, length-take n xs)
+  repeat-found xs n x rest so_far left seen = grind (arith, common_steps, turn-by xs n x rest, length-take n xs)
 
   -- it is not, and the walk goes on
   pub repeat-later :
@@ -94,18 +93,7 @@ pub record IsAbsent (block : List ℕ) (number : ℕ) : Type 0 where
 pub IsAbsent-place :
     (block : List ℕ) (number place : ℕ) → IsNonDecreasing block → IsPlaceOf block number place →
     (place < length block → get_or block place 0 ≡ number → ⊥) → IsAbsent block number
-IsAbsent-place block number place rises at apart =
-    record {
-      differs = λ k d inside same.
-          let here = get_or_default block k 0 d inside in
-          elim (cases_lt k place) [
-            | inl before ↦ let less = at.below k before in omega (arith, less, here, same)
-            | inr after ↦
-                let first : get_or block place 0 ≤ get_or block k 0 = rises place k 0 after inside in
-                let least = at.above place (omega arith) (omega (arith, after, inside)) in
-                apart (omega (arith, after, inside)) (omega (arith, first, least, here, same))
-          ];
-    }
+IsAbsent-place block number place rises at apart = grind (arith, nat_tests, get_or_default block, cases_lt)
 
 -- ---- one more number is met
 

@@ -2,7 +2,7 @@
 use Rattle.langtag_scan.proofs.Prelude.{◌≡◌, ℕ, ◌+◌, Bool, List, [], ◌∷◌, map, reverse, refl, arith, ◌<◌, eqb, ap, true, cond, Option, None, Some, option_map, sym, ◌∙◌, list_any, slice_split, before_first, after_first, position_or_len, list_all, take-map, drop-map, map-append, reverse-append, length-map, common_steps, nat_tests, eqb_tells, and_parts}
 use Rattle.langtag_scan.proofs.Grammar.{fold_byte, fold_text, is_letter, is_private_subtag, are_digits, is_digit, subtags, Classes}
 use Rattle.langtag_scan.proofs.CaseLaw.{all-fold, is_letter-fold, length-fold, classes-fold, is_digit-fold, subtags-fold}
-use Rattle.langtag_range.proofs.Definitions.{from_first, trimmed, Element, is_comma, is_semicolon, range_of, items, is_star, is_first_subtag, is_basic_range, hyphened, wanted_text, is_point, number_weight, value_weight, is_equals, is_q_name, is_q_parameter, wanted_weight, parameters, wanted, digits_behind, wanted_items, wanted_elements, folded, ElementsIgnoreCase, ends_locale, front_of, is_hash, place_before, locale_place, without_mark}
+use Rattle.langtag_range.proofs.Definitions.{from_first, trimmed, Element, is_comma, is_semicolon, items, is_star, is_first_subtag, is_basic_range, hyphened, wanted_text, number_weight, value_weight, is_equals, is_q_name, is_q_parameter, wanted_weight, parameters, wanted, digits_behind, wanted_items, wanted_elements, folded, ElementsIgnoreCase, ends_locale, front_of, is_hash, place_before, locale_place, without_mark}
 use Rattle.std.proofs.Math.ListN.{get_or-map}
 
 module _ (p : ℕ → Bool) (same : (b : ℕ) → p (fold_byte b) ≡ p b) where
@@ -26,8 +26,7 @@ module _ (p : ℕ → Bool) (same : (b : ℕ) → p (fold_byte b) ≡ p b) where
 
 pub reverse-fold : (text : List ℕ) → reverse (fold_text text) ≡ fold_text (reverse text)
 reverse-fold [] = refl
-reverse-fold (b ∷ text) =
-    grind (arith, common_steps, reverse-append (fold_byte b ∷ []) (fold_text text), reverse-fold text, map-append fold_byte (reverse text) (b ∷ []), reverse-append (b ∷ []) text)
+reverse-fold (b ∷ text) = grind (arith, common_steps, reverse-append, map-append, reverse-fold text)
 
 -- ---- bytes
 
@@ -81,20 +80,17 @@ unfolding fold_byte
 without_mark-fold text = grind (arith, common_steps, length-map, get_or-map, underscore-fold, take-map)
 
 place_before-fold : (front : List ℕ) → place_before (fold_text front) ≡ fold_text (place_before front)
-place_before-fold front =
-    grind (arith, common_steps, list_any-fold is_hash (mark-fold 35 (omega arith)) front, before_first-fold is_hash (mark-fold 35 (omega arith)) front, without_mark-fold)
+place_before-fold front = grind (arith, nat_tests, list_any-fold is_hash, mark-fold 35, before_first-fold is_hash, without_mark-fold)
 
 locale_place-fold : (name : List ℕ) → locale_place (fold_text name) ≡ fold_text (locale_place name)
 locale_place-fold name = rw (before_first-fold ends_locale ends_locale-fold name) (place_before-fold (front_of name))
 
 -- what is to be the range of an item
 wanted_range-fold : (item : List ℕ) → hyphened (wanted_text (fold_text item)) ≡ fold_text (hyphened (wanted_text item))
-wanted_range-fold item =
-    rw (before_first-fold is_semicolon (mark-fold 59 (omega arith)) item, trimmed-fold (before_first is_semicolon item), locale_place-fold (range_of item)) (hyphened-fold (wanted_text item))
+wanted_range-fold item = grind (arith, common_steps, before_first-fold, mark-fold, trimmed-fold, locale_place-fold, hyphened-fold)
 
 parameters-fold : (item : List ℕ) → parameters (fold_text item) ≡ map fold_text (parameters item)
-parameters-fold item =
-    rw (after_first-fold is_semicolon (mark-fold 59 (omega arith)) item) (slice_split-fold is_semicolon (mark-fold 59 (omega arith)) (after_first is_semicolon item))
+parameters-fold item = grind (arith, nat_tests, after_first-fold is_semicolon, mark-fold 59, slice_split-fold is_semicolon)
 
 -- ---- the weight that a value says: a number has no letters
 
@@ -107,8 +103,7 @@ number_weight-fold : (whole fraction : List ℕ) → number_weight (fold_text wh
 number_weight-fold whole fraction = grind (arith, common_steps, digits_stay whole, digits_stay fraction, all-fold is_digit is_digit-fold whole, all-fold is_digit is_digit-fold fraction)
 
 value_weight-fold : (value behind : List ℕ) → value_weight (fold_text value) (fold_text behind) ≡ value_weight value behind
-value_weight-fold value behind =
-    grind (arith, common_steps, list_any-fold is_point (mark-fold 46 (omega arith)) value, before_first-fold is_point (mark-fold 46 (omega arith)) value, after_first-fold is_point (mark-fold 46 (omega arith)) value, number_weight-fold)
+value_weight-fold value behind = grind (arith, common_steps, list_any-fold, mark-fold, before_first-fold, after_first-fold, number_weight-fold)
 
 -- ---- parameters
 
@@ -117,19 +112,12 @@ unfolding fold_byte
 is_q_name-fold name = grind (arith, common_steps, nat_tests)
 
 is_q_parameter-fold : (parameter : List ℕ) → is_q_parameter (fold_text parameter) ≡ is_q_parameter parameter
-is_q_parameter-fold parameter =
-    grind (arith, common_steps, list_any-fold is_equals (mark-fold 61 (omega arith)) parameter, before_first-fold is_equals (mark-fold 61 (omega arith)) parameter, trimmed-fold, is_q_name-fold)
+is_q_parameter-fold parameter = grind (arith, nat_tests, list_any-fold is_equals, mark-fold 61, before_first-fold is_equals, trimmed-fold, is_q_name-fold)
 
 wanted_weight-fold : (parameters : List (List ℕ)) (behind : List ℕ) → wanted_weight (map fold_text parameters) (fold_text behind) ≡ wanted_weight parameters behind
 wanted_weight-fold [] behind = refl
 wanted_weight-fold (parameter ∷ parameters) behind =
-    rw (
-      is_q_parameter-fold parameter,
-      after_first-fold is_equals (mark-fold 61 (omega arith)) parameter,
-      trimmed-fold (after_first is_equals parameter),
-      value_weight-fold (trimmed (after_first is_equals parameter)) behind,
-      wanted_weight-fold parameters behind,
-    ) refl
+    grind (arith, common_steps, is_q_parameter-fold, after_first-fold, mark-fold, trimmed-fold, value_weight-fold, wanted_weight-fold parameters behind)
 
 -- ---- elements
 

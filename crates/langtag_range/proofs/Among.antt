@@ -1,7 +1,7 @@
 -- A range beside a tag: what each subtag of the tag says of the subtags of the range, and what stands before each hyphen.
-use Rattle.langtag_scan.proofs.Prelude.{◌≡◌, ◌↔◌, ℕ, Bool, true, false, not, subst, IsTrue, List, [], ◌∷◌, ◌++◌, refl, ap, append_assoc, arith, ◌+◌, ◌-◌, ◌<◌, ◌≤◌, cond, map, take, drop, length, get_or, ◌∙◌, eqb, ◌&&◌, sym, rules, and_parts, both_ways, not-true, or_cases, or_right, cases_lt, eq-eqb, length-map, get_or-drop, at_drop_more, take-append-drop, take_all, take_at, list_all-append, common_steps, All-tail, length-filter, count_by-le-length, length-slice_split, length-drop, eqb-true, length-append}
+use Rattle.langtag_scan.proofs.Prelude.{◌≡◌, ◌↔◌, ℕ, Bool, true, false, not, subst, IsTrue, List, [], ◌∷◌, ◌++◌, refl, ap, append_assoc, arith, ◌+◌, ◌-◌, ◌<◌, ◌≤◌, take, drop, length, get_or, ◌∙◌, eqb, ◌&&◌, sym, rules, and_parts, both_ways, not-true, or_cases, or_right, cases_lt, eq-eqb, length-map, get_or-drop, at_drop_more, take-append-drop, take_all, take_at, list_all-append, common_steps, All-tail, length-filter, count_by-le-length, length-slice_split, length-drop, eqb-true, length-append}
 use Rattle.std.proofs.lemmas.List.{get_or-append_right}
-use Rattle.langtag_scan.proofs.Grammar.{fold_byte, are_alike, Alike, subtags, is_hyphen, IsHyphenFree, NoHyphenWithin, segments, is_single}
+use Rattle.langtag_scan.proofs.Grammar.{fold_byte, are_alike, Alike, subtags, is_hyphen, IsHyphenFree, NoHyphenWithin, is_single}
 use Rattle.langtag_range.proofs.Definitions.{have_no_single, StandAmong, without_stars, MatchesExtended, stand_among, test_extended, is_star, is_range_subtag, are_extended_range, is_language_range, before_hyphens, fallbacks, begins_with_wildcard, basic_form, BeginsWithRange, MatchesBasic, ends_subtag, test_basic}
 use Rattle.langtag_scan.proofs.SubtagLists.{slice_split-push}
 use Rattle.std.specs.Char.{to_ascii_lowercase}
@@ -28,8 +28,7 @@ among_found w t more ts alike = (λ h. ([], t, ts, refl, refl, alike, h), among_
 
 among_left-from : (w t : List ℕ) (more ts : List (List ℕ)) → are_alike w t ≡ false → StandAmong (w ∷ more) (t ∷ ts) → StandAmong (w ∷ more) ts × (is_single t ≡ false)
 among_left-from w t more ts other ([], found, rest, cut, free, same, h) = grind (arith, common_steps, both_ways (are_alike w t) other)
-among_left-from w t more ts other (s ∷ left_out, found, rest, cut, free, same, h) =
-    grind (arith, common_steps, and_parts (not (is_single s)) (have_no_single left_out) free, not-true (is_single s))
+among_left-from w t more ts other (s ∷ left_out, found, rest, cut, free, same, h) = grind (arith, common_steps, and_parts, not-true)
 
 -- any other subtag is left out
 pub among_left : (w t : List ℕ) (more ts : List (List ℕ)) → are_alike w t ≡ false → is_single t ≡ false → StandAmong (w ∷ more) ts ↔ StandAmong (w ∷ more) (t ∷ ts)
@@ -95,9 +94,6 @@ before_hyphens-last : (front last : List ℕ) → IsHyphenFree last → before_h
 before_hyphens-last [] last free = rw (before_hyphens-none last free) refl
 before_hyphens-last (b ∷ front) last free = rw (before_hyphens-last front last free) refl
 
-from_segments : (text : List ℕ) → are_extended_range (segments text) ≡ true → is_language_range text ≡ true
-from_segments text is = grind (arith, common_steps)
-
 -- the subtags of a range but for the last one
 are_extended_range-front : (front : List (List ℕ)) (last : List ℕ) → 0 < length front → are_extended_range (front ++ last ∷ []) ≡ true → are_extended_range front ≡ true
 are_extended_range-front front last some is = grind (arith, common_steps, and_parts, list_all-append is_range_subtag)
@@ -120,14 +116,13 @@ module _ (text bytes : List ℕ) (start : ℕ) (same : bytes ≡ text) (within :
   -- and it is a range where the whole is
   pub is_language_range-cut : 0 < start → get_or bytes (start - 1) 0 ≡ 45 → is_language_range text ≡ true → is_language_range (take (start - 1) text) ≡ true
   is_language_range-cut some hyphen is =
-      grind (arith, common_steps, last_cut, slice_split-push, last_free, from_segments, are_extended_range-front, length-slice_split)
+      grind (arith, common_steps, last_cut, slice_split-push, last_free, are_extended_range-front, length-slice_split)
 
 -- ---- no more than bytes
 
 length-before_hyphens : (text : List ℕ) → length (before_hyphens text) ≤ length text
 length-before_hyphens [] = omega arith
-length-before_hyphens (b ∷ text) =
-    grind (arith, common_steps, length-before_hyphens text, length-append (map (λ before. b ∷ before) (before_hyphens text)) (cond (is_hyphen b) ([] ∷ []) []), length-map (before_hyphens text) (λ before. b ∷ before))
+length-before_hyphens (b ∷ text) = grind (arith, common_steps, length-append, length-map, length-before_hyphens text)
 
 pub few_fallbacks : (text : List ℕ) → length (fallbacks text) ≤ length text + 1
 few_fallbacks text = grind (arith, common_steps, length-filter, count_by-le-length, length-before_hyphens text)

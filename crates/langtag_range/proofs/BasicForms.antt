@@ -1,7 +1,7 @@
 -- The texts of language ranges: they are ASCII, each basic range is a range, and what stays of a range without its "*".
-use Rattle.langtag_scan.proofs.Prelude.{◌≡◌, Bool, true, ℕ, List, [], ◌∷◌, refl, arith, ◌∙◌, ◌<◌, false, eqb, ◌||◌, cond, ap, ◌≤◌, not, ◌++◌, length, inl, inr, list_all, before_first, list_any, AllByRecursion, and_parts, or_cases, or_right, bytes_eq-Decides, common_steps, nat_tests, IsUtf8-from_ascii, All-from_recursion, filter, IsAscii, IsUtf8}
+use Rattle.langtag_scan.proofs.Prelude.{◌≡◌, Bool, true, ℕ, List, [], ◌∷◌, refl, arith, ◌∙◌, ◌<◌, false, eqb, ◌||◌, ◌≤◌, not, ◌++◌, length, inl, inr, list_all, before_first, list_any, AllByRecursion, and_parts, or_cases, or_right, bytes_eq-Decides, common_steps, nat_tests, IsUtf8-from_ascii, All-from_recursion, filter, IsAscii, IsUtf8}
 use Rattle.langtag_scan.proofs.Grammar.{subtags, segments, IsHyphenFree, join, is_letter, is_digit, is_alphanumeric, is_private_subtag, has_length, are_alphanumeric, Alike, fold_text}
-use Rattle.langtag_range.proofs.Definitions.{is_star, is_language_range, are_basic_range, is_basic_range, is_range_subtag, are_extended_range, is_first_subtag, are_basic_subtags, are_range_subtags, ends_locale, is_hash, locale_place, place_before, without_mark, hyphened, hyphened_byte, basic_text, basic_form, begins_with_wildcard}
+use Rattle.langtag_range.proofs.Definitions.{is_star, is_language_range, are_basic_range, is_basic_range, is_range_subtag, are_extended_range, is_first_subtag, are_basic_subtags, are_range_subtags, ends_locale, is_hash, locale_place, hyphened, hyphened_byte, basic_text, basic_form, begins_with_wildcard}
 use Rattle.langtag_scan.proofs.Laws.{IsAscii-each, hyphenated, join-hyphenated, length-join, no_hyphen_each, of_private_subtag, join-subtags, segments-join, subtags-segments}
 use Rattle.langtag_range.proofs.WantedTexts.{extended_parts, first_in_range}
 use Rattle.langtag_range.proofs.AlikeTexts.{hyphened-fold, mark-fold}
@@ -9,8 +9,7 @@ use Rattle.langtag_range.proofs.Among.{basic_form-byte}
 use Rattle.langtag_scan.proofs.BoolFacts.{list_all-weaker}
 
 pub is_language_range-from_basic : (text : List ℕ) → is_basic_range text ≡ true → is_language_range text ≡ true
-is_language_range-from_basic text is =
-    grind (arith, common_steps, or_cases (is_star text) (are_basic_range (subtags text)) is, bytes_eq-Decides text (42 ∷ []), and_parts, list_all-weaker, or_right)
+is_language_range-from_basic text is = grind (arith, common_steps, or_cases, bytes_eq-Decides, and_parts, list_all-weaker, or_right)
 
 pub ruleset basic_ranges = (is_language_range-from_basic)
 
@@ -31,13 +30,9 @@ segment_bytes : (text : List ℕ) → list_all (list_all is_range_byte) (segment
 segment_bytes [] all = refl
 segment_bytes (b ∷ text) all = grind (arith, common_steps, and_parts, segment_bytes text)
 
-each_bytes : (ss : List (List ℕ)) → are_extended_range ss ≡ true → list_all (list_all is_range_byte) ss ≡ true
-each_bytes [] is = refl
-each_bytes (first ∷ others) is = grind (arith, common_steps, extended_parts first others, and_parts, list_all-weaker is_range_subtag (list_all is_range_byte) subtag_bytes (first ∷ others))
-
 range_bytes : (text : List ℕ) → is_language_range text ≡ true → list_all is_range_byte text ≡ true
-range_bytes [] is = refl
-range_bytes (b ∷ text) is = segment_bytes (b ∷ text) (each_bytes (segments (b ∷ text)) is)
+range_bytes text is =
+    grind (arith, nat_tests, segment_bytes, extended_parts, and_parts, list_all-weaker is_range_subtag (list_all is_range_byte) subtag_bytes, subtag_bytes)
 
 below_128 : (b : ℕ) → is_range_byte b ≡ true → b < 128
 unfolding is_letter is_digit
@@ -83,19 +78,14 @@ no_hash b is = grind (arith, nat_tests)
 none_in :
     (p : ℕ → Bool) → ((b : ℕ) → is_range_byte (hyphened_byte b) ≡ true → p b ≡ false) → (text : List ℕ) → list_all is_range_byte (hyphened text) ≡ true → list_any p text ≡ false
 none_in p none [] all = refl
-none_in p none (b ∷ text) all =
-    let parts = and_parts (is_range_byte (hyphened_byte b)) (list_all is_range_byte (hyphened text)) all in
-    ap (λ here. here || list_any p text) (none b parts.0) ∙ none_in p none text parts.1
+none_in p none (b ∷ text) all = grind (arith, common_steps, and_parts, none_in p none text)
 
 whole_before : (p : ℕ → Bool) (text : List ℕ) → list_any p text ≡ false → before_first p text ≡ text
 whole_before p [] none = refl
 whole_before p (b ∷ text) none = grind (arith, common_steps, whole_before p text)
 
 pub range_place : (text : List ℕ) → is_basic_range (hyphened text) ≡ true → locale_place text ≡ text
-range_place text is =
-    let all = range_bytes (hyphened text) (is_language_range-from_basic (hyphened text) is) in
-    ap place_before (whole_before ends_locale text (none_in ends_locale no_end text all))
-    ∙ ap (λ test. cond test (without_mark (without_mark (before_first is_hash text))) text) (none_in is_hash no_hash text all)
+range_place text is = grind (arith, common_steps, range_bytes, is_language_range-from_basic, whole_before, none_in, no_end, no_hash)
 
 -- ---- the case of letters
 
@@ -138,8 +128,7 @@ range_free s is = grind (arith, common_steps, or_cases (is_star s) (is_private_s
 
 each_free : (ss : List (List ℕ)) → are_range_subtags ss ≡ true → AllByRecursion IsHyphenFree ss
 each_free [] each = tt
-each_free (s ∷ ss) each =
-    grind (arith, common_steps, and_parts (is_range_subtag s) (are_range_subtags ss) each, All-from_recursion, range_free s, each_free ss)
+each_free (s ∷ ss) each = grind (arith, common_steps, and_parts (is_range_subtag s) (are_range_subtags ss) each, range_free s, each_free ss)
 
 module _ (first : List ℕ) (others : List (List ℕ)) (is : are_extended_range (first ∷ others) ≡ true) where
   each_in_range : (is_range_subtag first ≡ true) × (are_range_subtags others ≡ true)

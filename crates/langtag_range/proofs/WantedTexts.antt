@@ -2,7 +2,7 @@
 use Rattle.langtag_scan.proofs.Prelude.{◌≡◌, ℕ, ◌+◌, ◌-◌, ◌<◌, ◌≤◌, true, false, IsTrue, List, [], ◌∷◌, length, take, drop, reverse, get_or, refl, ap, sym, ◌∙◌, arith, ◌*◌, ◌⊎◌, not, cond, Bool, ◌&&◌, ◌||◌, Some, None, rules, take_more, drop_more, drop_all, reverse-append, length-take-le, take_all, list_all-append, common_steps, and_parts, or_cases, leb-true, cases_lt, or_right, list_any, slice_split, before_first, after_first, position, position_or_len, cons_option, nat_tests, eqb_tells, length-slice_split, slice_split_first, slice_split_none, count_by-le-length, prefix_len-le-length, fails_before_first, length-drop}
 use Rattle.std.proofs.lemmas.List.{reverse-reverse}
 use Rattle.langtag_range.proofs.Definitions.{from_first, is_ows, is_space, items, is_comma, is_semicolon, trimmed, is_hash, is_star, is_first_subtag, is_range_subtag, are_basic_range, are_basic_subtags, are_extended_range, are_range_subtags, is_basic_range, is_language_range, hyphened, is_separator, is_q_name, is_q_parameter, is_equals, is_point, number_weight, value_weight, wanted_weight, wanted, digits_behind, wanted_items, wanted_elements}
-use Rattle.langtag_range.specs.Weight.{is_fraction, is_qvalue, thousandths}
+use Rattle.langtag_range.specs.Weight.{is_qvalue, thousandths}
 use Rattle.langtag_scan.proofs.Grammar.{has_length, are_digits, are_letters, is_private_subtag, segments, subtags}
 use Rattle.langtag_scan.proofs.SubtagFacts.{letters_alphanumeric}
 use Rattle.langtag_scan.proofs.Places.{any_at_first, none_at_length}
@@ -42,13 +42,10 @@ in_places :
     1000 * (whole - 48) + 100 * (get_or fraction 1 48 - 48) + 10 * (get_or fraction 2 48 - 48) + (get_or fraction 3 48 - 48) ≡ thousandths (whole ∷ fraction)
 in_places whole fraction few = grind (arith, common_steps)
 
-fraction_short : (greatest : ℕ) (fraction : List ℕ) → is_fraction greatest fraction ≡ true → length fraction ≤ 4
-fraction_short greatest fraction is = grind (arith, common_steps, and_parts, leb-true)
-
 pub thousandths_of :
     (qvalue : List ℕ) → is_qvalue qvalue ≡ true →
     1000 * (get_or qvalue 0 48 - 48) + 100 * (get_or qvalue 2 48 - 48) + 10 * (get_or qvalue 3 48 - 48) + (get_or qvalue 4 48 - 48) ≡ thousandths qvalue
-thousandths_of qvalue is = grind (arith, common_steps, or_cases, in_places, fraction_short, and_parts)
+thousandths_of qvalue is = grind (arith, common_steps, or_cases, in_places, and_parts, leb-true)
 
 -- ---- the subtags of a text in which a byte is read as a hyphen
 
@@ -77,8 +74,7 @@ first_private text is = grind (arith, common_steps, and_parts (has_length 1 8 te
 
 -- each first subtag of a range may stand elsewhere
 pub first_in_range : (text : List ℕ) → (is_star text || is_first_subtag text) ≡ true → is_range_subtag text ≡ true
-first_in_range text is =
-    grind (arith, common_steps, or_cases (is_star text) (is_first_subtag text) is, or_right (is_star text) (is_private_subtag text), first_private text)
+first_in_range text is = grind (arith, common_steps, or_cases, or_right, first_private)
 
 basic_parts : (first : List ℕ) (others : List (List ℕ)) → are_basic_range (first ∷ others) ≡ (is_first_subtag first && are_basic_subtags (first ∷ others))
 basic_parts first others = grind (arith, common_steps, first_private first)

@@ -1,6 +1,6 @@
 -- The case of letters changes nothing in a canonical form: those of alike texts are alike.
-use Rattle.langtag_scan.proofs.Prelude.{◌≡◌, ℕ, List, [], ◌∷◌, map, Option, option_map, ◌⊎◌, refl, sym, ap, ◌∙◌, arith, rules, common_steps}
-use Rattle.langtag_scan.proofs.Grammar.{fold_extension, fold_private_use, fold_record, AlikeRecords, fold_text, Alike, fold_byte, Extension, PrivateUse, Record, spell, IsWellFormed, IsNormal}
+use Rattle.langtag_scan.proofs.Prelude.{◌≡◌, ℕ, List, [], ◌∷◌, map, Option, option_map, ◌⊎◌, refl, sym, ap, ◌∙◌, arith, common_steps}
+use Rattle.langtag_scan.proofs.Grammar.{fold_extension, fold_record, AlikeRecords, fold_text, Alike, fold_byte, Extension, Record, spell, IsWellFormed, IsNormal}
 use Rattle.langtag_scan.proofs.CaseLaw.{alike_normal, alike_parts, fold_byte-twice, fold_text-twice, map-twice, spelled_alike, fold_extension-twice}
 use Rattle.langtag.specs.Registered.{IsGrandfathered}
 use Rattle.langtag_registry.specs.Canonical.{in_order, canonical_primary, canonical_extended, canonical_region, canonical_variants, canonical_record, IsCanonicalForm}
@@ -12,11 +12,6 @@ use Rattle.langtag_registry.proofs.ExtensionOrder.{key, sorted_by-map, keys_of, 
 use Rattle.langtag_registry.proofs.CanonicalParts.{record_stays, parts_stay, own_record, kept_form, preferred_goes}
 use Rattle.langtag_fields.proofs.Values.{registered_extlang-alike, preferred_tag-alike}
 use Rattle.langtag.proofs.RegisteredLaws.{grandfathered_alike}
-
--- ---- what is folded once is folded
-
-fold_private_use-twice : (p : PrivateUse) → fold_private_use (fold_private_use p) ≡ fold_private_use p
-fold_private_use-twice p = grind (arith, common_steps, fold_byte-twice, map-twice, fold_text-twice)
 
 -- ---- the canonical record of a folded record
 
@@ -39,7 +34,8 @@ in_order-fold es = grind (arith, common_steps, key, sorted_by-map, fold_byte-twi
 
 canonical_record-fold : (r : Record) → AlikeRecords (canonical_record (fold_record r)) (canonical_record r)
 unfolding canonical_record
-canonical_record-fold r = search (rules, fold_text-twice, fold_private_use-twice, primary-fold, extended-fold, region-fold, variants-fold, in_order-fold)
+canonical_record-fold r =
+    grind (arith, common_steps, fold_text-twice, primary-fold, extended-fold, region-fold, variants-fold, in_order-fold, fold_byte-twice, map-twice)
 
 -- alike records have alike canonical records
 canonical_record-alike : (r q : Record) → AlikeRecords r q → AlikeRecords (canonical_record r) (canonical_record q)

@@ -70,8 +70,7 @@ module _ {A : Type 0} (key : A → ℕ) where
 
   pub sorted_from-next : (k : ℕ) (xs : List A) → sorted_from k xs ≡ filter (has k) xs ++ sorted_from (k + 1) xs
   sorted_from-next k [] = refl
-  sorted_from-next k (x ∷ xs) =
-      grind (arith, common_steps, nat_tests, sorted_from-next k xs, sorted_from-rises k xs, put_by-first x (sorted_from k xs), put_by-past k x xs)
+  sorted_from-next k (x ∷ xs) = grind (arith, nat_tests, sorted_from-rises k xs, put_by-first x (sorted_from k xs), put_by-past k x xs, sorted_from-next k xs)
 
 -- ---- lists whose elements have the same keys
 
@@ -208,8 +207,7 @@ times-append b xs ys = grind (arith, common_steps, filter-append, length-append)
 
 times-none : (b x : ℕ) (seen : List ℕ) → fold_byte b ≡ fold_byte x → list_any (are_alike_bytes x) seen ≡ false → times b seen ≡ 0
 times-none b x [] same none = refl
-times-none b x (s ∷ seen) same none =
-    grind (arith, common_steps, or_parts (are_alike_bytes x s) (list_any (are_alike_bytes x) seen) none, times-none b x seen same)
+times-none b x (s ∷ seen) same none = grind (arith, common_steps, or_parts, times-none b x seen same)
 
 times-some : (x : ℕ) (seen : List ℕ) → list_any (are_alike_bytes x) seen ≡ true → 1 ≤ times x seen
 times-some x [] some = absurd cc

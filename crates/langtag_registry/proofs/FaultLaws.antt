@@ -1,5 +1,5 @@
 -- The first fault of a record, part by part, and that a tag is valid where it has no fault.
-use Rattle.langtag_scan.proofs.Prelude.{append_assoc, ◌≡◌, ℕ, ◌+◌, ◌≤◌, Bool, true, false, not, cond, List, [], ◌∷◌, ◌++◌, length, map, take, drop, Option, None, Some, IsTrue, slice_get, refl, sym, ap, ◌∙◌, arith, inl, inr, list_any, position, AllByRecursion, option_or, option_and_then, common_steps, at_drop_more, take_more, not-true, option_map}
+use Rattle.langtag_scan.proofs.Prelude.{append_assoc, ◌≡◌, ℕ, ◌+◌, ◌≤◌, Bool, true, false, not, cond, List, [], ◌∷◌, ◌++◌, length, map, take, drop, Option, None, Some, IsTrue, slice_get, refl, sym, ap, ◌∙◌, arith, inl, inr, list_any, position, AllByRecursion, option_or, option_and_then, common_steps, at_drop_more, take_more, not-true, option_map, nat_tests}
 use Rattle.std.specs.List.{position_from}
 use Rattle.std.proofs.lemmas.Iterator.Adapters.{position_from-zero}
 use Rattle.langtag_scan.proofs.Grammar.{are_alike, Record, Spells, IsTag, IsNormal}
@@ -40,8 +40,7 @@ module _ {A : Type 0} (alike : A → A → Bool) where
 
   repeat_after-index : (seen xs : List A) → option_and_then (slice_get (seen ++ xs)) (repeat_index_after alike seen xs) ≡ repeat_after seen xs
   repeat_after-index seen [] = refl
-  repeat_after-index seen (x ∷ xs) =
-      grind (arith, common_steps, append_assoc seen (x ∷ []) xs, repeat_after-index (seen ++ x ∷ []) xs, slice_get-seam seen xs x)
+  repeat_after-index seen (x ∷ xs) = grind (arith, nat_tests, append_assoc seen (x ∷ []) xs, slice_get-seam seen xs x, repeat_after-index (seen ++ x ∷ []) xs)
 
   pub repeat-after : (xs : List A) → repeat alike xs ≡ repeat_after [] xs
   repeat-after xs = repeat_after-index [] xs
@@ -108,9 +107,6 @@ variants_none :
 variants_none seen [] all none = refl
 variants_none seen (v ∷ vs) all none = grind (arith, common_steps, variants_none (seen ++ v ∷ []) vs)
 
-pub no_fault_of_valid : (r : Record) → IsValidRecord r → first (faults r) ≡ None
-no_fault_of_valid r valid = grind (arith, common_steps, first_fault, variants_none, repeat-after, first_singleton)
-
 -- ---- which of the variants it is
 
 abbrev is_unregistered : List ℕ → Bool
@@ -140,4 +136,4 @@ valid_grandfathered text tag old = (tag, inl old)
 
 pub invalid : (text : List ℕ) (x : Told) → IsNormal text → ((r : Record) → Spells r text → Some x ≡ first (faults r)) → (IsGrandfathered text → ⊥) → IsValid text → ⊥
 unfolding IsValid IsNormal
-invalid text x normal is other valid = grind (arith, common_steps, no_fault_of_valid normal.0)
+invalid text x normal is other valid = grind (arith, common_steps, first_fault, variants_none, repeat-after, first_singleton)

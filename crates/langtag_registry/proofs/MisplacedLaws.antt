@@ -3,7 +3,7 @@ use Rattle.langtag_scan.proofs.Prelude.{◌≡◌, ℕ, ◌+◌, ◌≤◌, true
 use Rattle.langtag_scan.proofs.Grammar.{ends_of, Record, Spells, spell, one_flat, extension_flat, private_part_flat, join, segments, subtags, IsNormal, are_alike, folded_number, are_alphanumeric}
 use Rattle.langtag_scan.proofs.Laws.{join-append, take-join, length-join-append, slice_split-append, folded_number-tells}
 use Rattle.langtag_registry.specs.Prefix.{fits_after, up_to, misplaced, misplaced_after, some_matches}
-use Rattle.langtag_range.specs.Extended.{match_subtags, stand_among, test_extended, without_stars}
+use Rattle.langtag_range.specs.Extended.{match_subtags, stand_among, test_extended}
 use Rattle.langtag_fields.specs.Entry.{Entry, values_for}
 use Rattle.langtag_fields.specs.Subtags.{variant_prefixes}
 use Rattle.langtag_fields.proofs.Values.{no_entry}
@@ -78,9 +78,7 @@ stand_among-more (w ∷ ws) [] more stands = absurd cc
 stand_among-more (w ∷ ws) (s ∷ ss) more stands = grind (arith, common_steps, stand_among-more ws ss more, stand_among-more (w ∷ ws) ss more)
 
 match_subtags-more : (range subtags more : List (List ℕ)) → match_subtags range subtags ≡ true → match_subtags range (subtags ++ more) ≡ true
-match_subtags-more [] subtags more matches = absurd cc
-match_subtags-more (first ∷ others) [] more matches = absurd cc
-match_subtags-more (first ∷ others) (s ∷ ss) more matches = grind (arith, common_steps, stand_among-more (without_stars others) ss more, and_parts)
+match_subtags-more range subtags more matches = grind (arith, common_steps, stand_among-more, others, and_parts)
 
 pub test_extended-more : (prefix text rest : List ℕ) → test_extended prefix text ≡ true → test_extended prefix (text ++ 45 ∷ rest) ≡ true
 test_extended-more prefix [] rest matches = match_subtags-more (subtags prefix) [] (subtags (45 ∷ rest)) matches

@@ -1,6 +1,6 @@
 -- What a subtag, a language or a whole tag becomes in a canonical form: one of its class, which is replaced by nothing more.
-use Rattle.langtag_scan.proofs.Prelude.{common_steps, ◌≡◌, ◌↔◌, ℕ, true, false, Bool, List, [], ◌∷◌, None, Some, refl, sym, ap, arith, ◌≤◌, not, leb, length, map, find, Option, is_some, IfSome, option_map, unwrap_or, ◌⊎◌, ◌<◌, list_all, list_any, AllByRecursion, bytes_eq, bytes_decides, and_parts, leb-true, ◌&&◌}
-use Rattle.langtag_scan.proofs.Grammar.{fold_byte, fold_text, are_alike, Alike, are_alike-decides, is_primary, is_letter, is_extended, join, subtags}
+use Rattle.langtag_scan.proofs.Prelude.{common_steps, ◌≡◌, ◌↔◌, ℕ, true, false, Bool, List, [], ◌∷◌, None, Some, refl, sym, ap, arith, ◌≤◌, not, leb, length, map, find, Option, is_some, IfSome, option_map, unwrap_or, ◌⊎◌, list_all, list_any, AllByRecursion, bytes_eq, bytes_decides, and_parts, leb-true, nat_tests}
+use Rattle.langtag_scan.proofs.Grammar.{fold_byte, fold_text, are_alike, Alike, are_alike-decides, is_primary, is_letter, is_extended, join}
 use Rattle.langtag_scan.proofs.Laws.{of_primary}
 use Rattle.langtag_fields.specs.Fields.{preferred_language, preferred_region, preferred_variant}
 use Rattle.langtag_fields.specs.Registered.{is_registered_extlang}
@@ -18,8 +18,7 @@ found_small :
     (list : List (List ℕ)) (text : List ℕ) → list_all (λ t. bytes_eq (fold_text t) t) list ≡ true →
     list_any (are_alike text) list ≡ true → find (are_alike text) list ≡ Some (fold_text text)
 found_small [] text small known = absurd cc
-found_small (t ∷ list) text small known =
-    grind (arith, common_steps, and_parts, are_alike-decides text t, bytes_decides (fold_text t) t, found_small list text)
+found_small (t ∷ list) text small known = grind (arith, nat_tests, and_parts, are_alike-decides text t, bytes_decides (fold_text t) t, found_small list text)
 
 pub extlang_small : (text : List ℕ) → is_registered_extlang text ≡ true → preferred_extlang text ≡ Some (fold_text text)
 unfolding is_registered_extlang preferred_extlang extlang_subtags fold_byte

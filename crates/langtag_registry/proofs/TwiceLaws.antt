@@ -1,5 +1,5 @@
 -- A text has one canonical form, which is well-formed and its own canonical form.
-use Rattle.langtag_scan.proofs.Prelude.{◌≡◌, ℕ, ◌≤◌, ◌⊎◌, List, [], length, IsTrue, arith, true, Bool, not, ◌&&◌, ◌∷◌, Option, None, Some, is_some, unwrap_or, refl, sym, ap, subst, ◌∙◌, rules, AllByRecursion, list_all, common_steps, option_map_or, and_parts}
+use Rattle.langtag_scan.proofs.Prelude.{◌≡◌, ℕ, ◌≤◌, ◌⊎◌, List, [], length, IsTrue, arith, true, Bool, not, ◌&&◌, ◌∷◌, Option, None, Some, is_some, unwrap_or, refl, sym, ap, subst, ◌∙◌, rules, AllByRecursion, list_all, common_steps, option_map_or, and_parts, nat_tests}
 use Rattle.langtag_scan.proofs.Grammar.{is_primary, is_extended, Record, IsWellFormed, IsWellFormedExtension, Spells, spell, EachRecord, fold_byte, IsNormal}
 use Rattle.langtag_registry.proofs.OneForm.{Way, as_whole, as_it_is, by_parts, way_of}
 use Rattle.langtag_registry.specs.Canonical.{canonical_primary, canonical_extended, canonical_record, canonical_variants, IsCanonicalForm}
@@ -23,8 +23,7 @@ pub record IsLanguageOf (primary : List ℕ) (extended : List (List ℕ)) : Type
 
 pub canonical_language_well_formed :
     (p : List ℕ) (es : List (List ℕ)) → IsLanguageOf p es → IsLanguageOf (canonical_primary p es) (canonical_extended es)
-canonical_language_well_formed p es is =
-    grind (arith, common_steps, preferred_good, extlang_cases, extended_primary, new_extlang_extended, replaced-holds, new_language_short)
+canonical_language_well_formed p es is = grind (arith, nat_tests, preferred_good, extlang_cases, extended_primary, new_extlang_extended, new_language_short)
 
 pub canonical_record_well_formed : (r : Record) → IsWellFormed r → IsWellFormed (canonical_record r)
 unfolding canonical_record
@@ -39,8 +38,7 @@ variants_twice (v ∷ vs) = grind (arith, common_steps, replaced-twice preferred
 
 pub canonical_record-twice : (r : Record) → canonical_record (canonical_record r) ≡ canonical_record r
 unfolding canonical_record
-canonical_record-twice r =
-    grind (arith, common_steps, variants_twice r.variants, in_order-twice r.extensions, replaced-twice, language_settled, extlang_cases, region_settled)
+canonical_record-twice r = grind (arith, common_steps, variants_twice, in_order-twice, replaced-twice, language_settled, extlang_cases, region_settled)
 
 -- ---- the Preferred-Value of a whole tag stays: by computation
 
@@ -73,8 +71,7 @@ whole_settled text new is = none_from_test (preferred_tag new) (and_parts _ _ (s
 -- nor do its subtags
 pub preferred_record_stays : (text new : List ℕ) → preferred_tag text ≡ Some new → canonical_record (record_of new) ≡ record_of new
 unfolding canonical_record
-preferred_record_stays text new is =
-    grind (arith, common_steps, simple_record new, and_parts, stays_of text new is, none_from_test, variants_stay, in_order-risen)
+preferred_record_stays text new is = grind (arith, nat_tests, simple_record new, and_parts, stays_of text new is, none_from_test, variants_stay, in_order-risen)
 
 pub preferred_itself : (text new : List ℕ) → preferred_tag text ≡ Some new → IsCanonicalForm new new
 preferred_itself text new is = search (rules, itself, whole_settled, preferred_spelled, preferred_record_stays)

@@ -1,7 +1,7 @@
 -- The canonical form of a valid tag is valid where no two variants become the same, and only there; it has no extended language but for `zh-min`.
 use Rattle.langtag_fields.proofs.Values.{member_passes, preferred_tag-alike}
 use Rattle.langtag_scan.proofs.Grammar.{are_alike-decides, fold_text, Alike, are_alike, fold_byte, is_letter, is_digit, is_variant, is_extended, grandfathered_tags, Grandfathered, Record, EachRecord, flat, IsWellFormed, Spells, segments, IsTag, IsNormal}
-use Rattle.langtag_scan.proofs.Prelude.{◌≡◌, ℕ, ◌≤◌, true, Bool, leb, List, [], ◌∷◌, length, map, None, Some, IsTrue, refl, sym, ap, arith, length-append, ◌-◌, ◌/◌, ◌%◌, ◌==◌, ◌&&◌, inl, inr, subst, ◌∙◌, rules, false, not, ◌||◌, codes, is_some, list_all, AllByRecursion, and_parts, leb-true, or_cases, both_ways, not-true, length-map, filter-append, common_steps, ◌^◌, filter}
+use Rattle.langtag_scan.proofs.Prelude.{◌≡◌, ℕ, ◌≤◌, true, Bool, leb, List, [], ◌∷◌, length, map, None, Some, IsTrue, refl, sym, ap, arith, length-append, inl, inr, subst, ◌∙◌, rules, false, not, ◌||◌, codes, is_some, list_all, AllByRecursion, and_parts, leb-true, or_cases, both_ways, not-true, length-map, filter-append, common_steps, filter, nat_tests}
 use Rattle.langtag_scan.proofs.Laws.{alike_parts, spelled_segments, spelled_once, each_from_test}
 use Rattle.langtag.specs.Registered.{IsGrandfathered, IsGrandfatheredAt}
 use Rattle.langtag.specs.Repeat.{repeat}
@@ -171,8 +171,7 @@ none_extended r text spells other = by_extended r.extended refl
   where
     by_extended : (es : List (List ℕ)) → r.extended ≡ es → r.extended ≡ []
     by_extended [] is = is
-    by_extended (e ∷ es) is =
-        grind (arith, common_steps, spelled_segments r spells.0, both_ways (second_is_extended (segments text)) other)
+    by_extended (e ∷ es) is = grind (arith, nat_tests, spelled_segments, both_ways)
 
 grandfathered_none : (old : List ℕ) → preferred_tag old ≡ None → (Alike (codes "zh-min") old → ⊥) → IsGrandfathered old → EachRecord old HasNone
 unfolding IsGrandfathered IsGrandfatheredAt

@@ -1,5 +1,5 @@
 -- The canonical form of a tag (RFC 5646 section 4.5).
-use Rattle.std.specs.Prelude.{◌≡◌, ℕ, ◌==◌, ltb, ◌⊎◌, Bool, List, [], ◌∷◌, length, map, find, codes, Option, None, Some, if◌then◌else◌, unwrap_or}
+use Rattle.std.specs.Prelude.{◌≡◌, ℕ, ◌==◌, ltb, ◌⊎◌, Bool, List, [], ◌∷◌, length, map, find, Option, None, Some, if◌then◌else◌, unwrap_or}
 use Rattle.std.specs.Option.{option_map, option_map_or}
 use Rattle.langtag_scan.specs.Case.{are_alike, fold_byte}
 use Rattle.langtag_scan.specs.Record.{Extension, Record, EachRecord, spell}

@@ -260,5 +260,4 @@ module _ (test : List (List ℕ) → Bool) (same : (ss : List (List ℕ)) → te
   subtags_test-fold t = ap test (subtags-fold t) ∙ same (subtags t)
 
   pub alike_subtags_test : (t u : List ℕ) → IsTrue (are_alike t u) → IsTrue (test (subtags t)) → IsTrue (test (subtags u))
-  alike_subtags_test t u alike pass =
-      sym (subtags_test-fold u) ∙ ap (λ v. test (subtags v)) (sym ((are_alike-decides t u).0 alike)) ∙ subtags_test-fold t ∙ pass
+  alike_subtags_test t u alike pass = grind (arith, nat_tests, subtags_test-fold u, are_alike-decides t u, subtags_test-fold t)

@@ -114,9 +114,6 @@ by_part AfterSingleton b = [] ∷ [] ∷ [] ∷ [] ∷ (b.after ++ flat_map exte
 by_part InExtension b = [] ∷ [] ∷ [] ∷ [] ∷ (b.after ++ flat_map extension_flat b.parts.extensions) ∷ drop 5 (blocks [] b.parts)
 by_part _ b = [] ∷ [] ∷ [] ∷ [] ∷ [] ∷ b.after ∷ []
 
-pub flatten-add : (after : Stage) (s : List ℕ) (b : Read) → flatten (add (place after) s (by_part after b)) ≡ s ∷ flatten (by_part after b)
-flatten-add after s b = grind (arith, nat_tests)
-
 -- a subtag is put before those of its part
 pub by_part-put :
     (stage after : Stage) (s : List ℕ) (b : Read) → may_follow stage after ≡ true → leads_to after (classes_of s) ≡ true →
@@ -163,7 +160,7 @@ decode_sound = over_run (λ stage ss. IsSound stage ss (decode stage ss)) none m
         (stage after : Stage) (s : List ℕ) (ss : List (List ℕ)) → next_stage stage s ≡ Some after → IsSound after ss (decode after ss) →
         IsSound stage (s ∷ ss) (decode stage (s ∷ ss))
     more stage after s ss next sound =
-        grind (arith, common_steps, next_step stage after s next, decode-cons stage after s ss next, by_part-put stage after s, flatten-add after s)
+        grind (arith, common_steps, next_step stage after s next, decode-cons stage after s ss next, by_part-put stage after s)
 
 -- ---- the subtags of a well-formed record are decoded, and give that record
 

@@ -31,8 +31,7 @@ module _ (number : List ℕ → ℕ) (is_good : List ℕ → Bool) (tells : (a b
       (text : List ℕ) (list : List (List ℕ)) → is_good text ≡ true → list_all is_good list ≡ true →
       list_any (are_alike text) list ≡ list_any (λ n. n == number text) (map number list)
   among-numbers text [] good all = refl
-  among-numbers text (first ∷ list) good all =
-      grind (arith, common_steps, and_parts (is_good first) (list_all is_good list) all, among-numbers text list good)
+  among-numbers text (first ∷ list) good all = grind (arith, nat_tests, and_parts, among-numbers text list good)
 
 pub among-folded :
     (text : List ℕ) (list : List (List ℕ)) → are_alphanumeric text ≡ true → list_all are_alphanumeric list ≡ true →

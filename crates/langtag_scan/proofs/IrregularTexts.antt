@@ -80,8 +80,7 @@ possible_viable p k within h =
 
 -- and each prefix of an irregular text keeps it possible
 pub possible_prefix : (p u : List ℕ) (k : ℕ) → IsIrregularAt k (p ++ u) → (k < 17) × (is_possible p k ≡ true)
-possible_prefix p u k irregular =
-    grind (arith, common_steps, irregular_fold (p ++ u) k irregular, map-append fold_byte p u, is_prefix-append (fold_text p) (fold_text u))
+possible_prefix p u k irregular = grind (arith, common_steps, irregular_fold, map-append, is_prefix-append)
 
 -- ---- no text is of two of the three cases of a tag
 

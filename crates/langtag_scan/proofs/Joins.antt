@@ -1,6 +1,6 @@
 -- A join is its first subtag and the others, each after a hyphen. So lists of subtags that follow one another do so in
 -- the text, too, and it can be cut between them.
-use Rattle.langtag_scan.proofs.Prelude.{◌≡◌, ℕ, ◌+◌, ◌-◌, List, [], ◌∷◌, ◌++◌, length, take, drop, Option, None, Some, unwrap_or, refl, sym, ap, ◌∙◌, arith, append_assoc, append-nil, option_map, flat_map, replace_range, take_at, drop_at, length_push, common_steps, flat_map-append, eq-eqb, ne_eqb, length-append}
+use Rattle.langtag_scan.proofs.Prelude.{◌≡◌, ℕ, ◌+◌, ◌-◌, List, [], ◌∷◌, ◌++◌, length, take, drop, Option, None, Some, unwrap_or, refl, sym, ap, ◌∙◌, arith, append_assoc, append-nil, option_map, flat_map, replace_range, take_at, drop_at, length_push, common_steps, flat_map-append, eq-eqb, ne_eqb, length-append, nat_tests}
 use Rattle.langtag_scan.proofs.Grammar.{PrivateUse, one_flat, private_use_flat, private_part_flat, join, text_between}
 use Rattle.langtag_scan.specs.Parts.{present}
 
@@ -55,9 +55,7 @@ drop-join x xs ys = drop_cut (join (x ∷ (xs ++ ys))) (join (x ∷ xs)) (hyphen
 pub join-replaced :
     (x : List ℕ) (xs ys zs us : List (List ℕ)) →
     replace_range (join (x ∷ (xs ++ (ys ++ zs)))) (length (join (x ∷ xs))) (length (join (x ∷ (xs ++ ys)))) (hyphenated us) ≡ join (x ∷ (xs ++ (us ++ zs)))
-join-replaced x xs ys zs us =
-    let rest : drop (length (join (x ∷ (xs ++ ys)))) (join (x ∷ (xs ++ (ys ++ zs)))) ≡ hyphenated zs = simp append_assoc at (drop-join x (xs ++ ys) zs) in
-    rw (take-join x xs (ys ++ zs), rest) (sym (join-around x xs us zs))
+join-replaced x xs ys zs us = grind (arith, nat_tests, append_assoc, drop-join x (xs ++ ys) zs, take-join x xs (ys ++ zs), join-around x xs us zs)
 
 -- ---- what stands between two ends
 

@@ -1,5 +1,5 @@
 -- What a position says is so: which tags may follow the bytes that led to it, where their parts have ended, and what they are as a whole text.
-use Rattle.langtag_scan.proofs.Prelude.{◌≡◌, ℕ, ◌+◌, ◌<◌, ◌≤◌, Bool, true, false, cond, eqb, eqb-true, List, [], ◌∷◌, ◌++◌, length, get_or, set, Option, Some, None, refl, arith, append_assoc, append-nil, sym, ap, ◌∙◌, MatchOption, replicate, ◌&&◌, take, subst, option_map_or, is_none, and-true, cases_lt, and_parts, lt-ltb, ltb-true, both_ways, common_steps, length_push, length-set, map-append, take_more, take_all, length-take, get_or-replicate, position-Some, fold-append, fails_before_first, bytes_eq-Decides, ne_eqb, position, bytes_eq, option_map}
+use Rattle.langtag_scan.proofs.Prelude.{◌≡◌, ℕ, ◌+◌, ◌<◌, ◌≤◌, Bool, true, false, cond, eqb, eqb-true, List, [], ◌∷◌, ◌++◌, length, get_or, set, Option, Some, None, refl, arith, append_assoc, append-nil, sym, ap, ◌∙◌, MatchOption, replicate, ◌&&◌, take, subst, option_map_or, is_none, and-true, cases_lt, and_parts, lt-ltb, ltb-true, both_ways, common_steps, length_push, length-set, map-append, take_more, take_all, length-take, get_or-replicate, position-Some, fold-append, fails_before_first, bytes_eq-Decides, ne_eqb, position, bytes_eq, option_map, nat_tests}
 use Rattle.std.specs.Prelude.{max}
 use Rattle.std.proofs.Math.Nat.{max-le}
 use Rattle.std.proofs.lemmas.Bool.{and_left}
@@ -62,14 +62,11 @@ module _ (places : List ℕ) (n whole : ℕ) (six : length places ≡ 6) (below 
 
   -- the language ends at the index
   language_ends : all_at n ≡ ends_at (set places 0 n) n
-  language_ends =
-      rw (at 0 0 (omega arith), at 0 1 (omega arith), at 0 2 (omega arith), at 0 3 (omega arith), at 0 4 (omega arith))
-      (rw (under n _ (below 1), under n _ (below 2), under n _ (below 3), under n _ (below 4)) refl)
+  language_ends = grind (arith, nat_tests, at 0 0, at 0 1, at 0 2, at 0 3, at 0 4, under, below 1, below 2, below 3, below 4)
 
   -- the extensions end at the index
   extensions_end : end_at InExtension n (ends_at places whole) ≡ ends_at (set places 4 n) n
-  extensions_end =
-      rw (at 4 0 (omega arith), at 4 1 (omega arith), at 4 2 (omega arith), at 4 3 (omega arith), at 4 4 (omega arith)) (rw (top n _ past_three) refl)
+  extensions_end = grind (arith, nat_tests, at 4 0, at 4 1, at 4 2, at 4 3, at 4 4, top, past_three)
 
   -- no part before the private use part ends at the index
   others_end : end_at InPrivate n (ends_at places whole) ≡ ends_at (set places 5 n) n
@@ -80,15 +77,9 @@ module _ (places : List ℕ) (n whole : ℕ) (six : length places ≡ 6) (below 
   stage_ends Start past = absurd (past refl)
   stage_ends (Language taken) past = language_ends
   stage_ends (Extended taken) past = language_ends
-  stage_ends AfterScript past =
-      rw (at 1 0 (omega arith), at 1 1 (omega arith), at 1 2 (omega arith), at 1 3 (omega arith), at 1 4 (omega arith))
-      (rw (top n _ (below 0), under n _ (below 2), under n _ (below 3), under n _ (below 4)) refl)
-  stage_ends AfterRegion past =
-      rw (at 2 0 (omega arith), at 2 1 (omega arith), at 2 2 (omega arith), at 2 3 (omega arith), at 2 4 (omega arith))
-      (rw (top n _ past_one, under n _ (below 3), under n _ (below 4)) refl)
-  stage_ends AfterVariant past =
-      rw (at 3 0 (omega arith), at 3 1 (omega arith), at 3 2 (omega arith), at 3 3 (omega arith), at 3 4 (omega arith))
-      (rw (top n _ past_two, under n _ (below 4)) refl)
+  stage_ends AfterScript past = grind (arith, nat_tests, at 1 0, at 1 1, at 1 2, at 1 3, at 1 4, top, below 0, under, below 2, below 3, below 4)
+  stage_ends AfterRegion past = grind (arith, nat_tests, at 2 0, at 2 1, at 2 2, at 2 3, at 2 4, top, past_one, under, below 3, below 4)
+  stage_ends AfterVariant past = grind (arith, nat_tests, at 3 0, at 3 1, at 3 2, at 3 3, at 3 4, top, past_two, under, below 4)
   stage_ends AfterSingleton past = extensions_end
   stage_ends InExtension past = extensions_end
   stage_ends AfterMark past = others_end
@@ -228,9 +219,7 @@ pub dead_not_viable : (q places : List ℕ) → Tracks q places (position_of q).
 dead_not_viable q places tracks dead = by_dead q places _ _ tracks (follows_irregular q) dead
 
 by_alive : (q places : List ℕ) (b : Option Begun) (o : Option (List ℕ)) → Tracks q places b → FollowsIrregular q o → (is_none b && is_none o) ≡ false → IsViable q
-by_alive q places None None stopped gone alive = absurd cc
-by_alive q places None (Some p) stopped (is, k, at, within, possible) alive = viable_possible q k within possible
-by_alive q places (Some s) o known follows alive = reads_viable known.part
+by_alive q places b o stopped gone alive = grind (arith, nat_tests, viable_possible q, reads_viable)
 
 pub alive_viable : (q places : List ℕ) → Tracks q places (position_of q).begun → is_dead (position_of q) ≡ false → IsViable q
 alive_viable q places tracks alive = by_alive q places _ _ tracks (follows_irregular q) alive
@@ -272,8 +261,7 @@ module _ (t places : List ℕ) (s : Begun) (known : IsTracked t places s) (o : O
   by_end :
       (stage : Stage) → (stage ≡ Start → ⊥) → (v : Bool) → Decides t (cond v (Some (found_by stage (end_at stage (length t) known.ends))) None) →
       IsEnded t places (cond v (ending_after stage) (option_map_or irregular_ending o NoTag))
-  by_end stage past true is = found stage past is
-  by_end stage past false refused = refused_ended t places refused o follows
+  by_end stage past v is = grind (arith, common_steps, found, refused_ended)
 
   by_stage :
       (next : Option Stage) → stage_after s ≡ next →

@@ -1,5 +1,5 @@
 -- What is known of a text while another of its subtags is read, and once it has ended; so a prefix is viable exactly where it fills to a tag or begins an irregular text.
-use Rattle.langtag_scan.proofs.Prelude.{◌≡◌, ℕ, false, eqb, List, [], ◌∷◌, ◌++◌, length, Some, None, refl, sym, ap, ◌∙◌, arith, append_assoc, append-nil, Option, ◌↔◌, ◌-◌, eqb-true, ◌⊎◌, subst, Bool, true, take, drop, inl, inr, length_push, map-append, take-append-drop, length-map, take-map, drop-append-le, drop_all, reverse-append, common_steps, take-append_seam, length-append}
+use Rattle.langtag_scan.proofs.Prelude.{◌≡◌, ℕ, false, eqb, List, [], ◌∷◌, ◌++◌, length, Some, None, refl, sym, ap, ◌∙◌, arith, append_assoc, append-nil, Option, ◌↔◌, ◌-◌, eqb-true, ◌⊎◌, subst, Bool, true, take, drop, length_push, map-append, take-append-drop, length-map, take-map, drop-append-le, drop_all, reverse-append, common_steps, take-append_seam, length-append, nat_tests}
 use Rattle.langtag_scan.proofs.Grammar.{IsBegun, all_at, end_at, index_after, outcome, outcome_of, HasStopped, IsRefused, Stage, Start, after_stage, segments, is_hyphen, IsTag, IsIrregular, IsIrregularAt, IsViable, filling, IsIrregularPrefix, fold_byte, fold_text}
 use Rattle.langtag_scan.specs.Machine.{Reads}
 use Rattle.langtag_scan.specs.Viable.{fill}
@@ -105,8 +105,7 @@ at_hyphen q u f (p, stage, e, k) is = by_next (after_stage stage (begun q)) refl
 
 at_other :
     (q u : List ℕ) (b : ℕ) (f : Finding) → eqb b 45 ≡ false → IsBegunPrefix q → outcome_of ((q ++ b ∷ []) ++ u) ≡ Some f → IsBegunPrefix (q ++ b ∷ [])
-at_other q u b f other (p, stage, e, k) is =
-    grind (arith, common_steps, append_assoc p (begun q) (b ∷ []), found_begun k b u f other is, begun-push q b other)
+at_other q u b f other (p, stage, e, k) is = grind (arith, nat_tests, append_assoc p (begun q) (b ∷ []), found_begun k b u f other is, begun-push q b other)
 
 -- byte by byte
 begins : (q p u : List ℕ) (f : Finding) → IsBegunPrefix q → outcome_of ((q ++ p) ++ u) ≡ Some f → IsBegunPrefix (q ++ p)
@@ -151,9 +150,7 @@ irregular_from_prefix p (k, name, at, same) =
 
 fill_from_viable : (p : List ℕ) → IsViable p → IsTag (fill p) ⊎ IsIrregularPrefix p
 unfolding IsViable IsTag IsIrregular
-fill_from_viable p (u, inl normal) = inl (filled_tag p u (λ refused. refused.not_normal normal))
-fill_from_viable p (u, inr (inl private)) = inl (filled_tag p u (λ refused. refused.not_private private))
-fill_from_viable p (u, inr (inr (k, irregular))) = inr (prefix_from_irregular p u k irregular)
+fill_from_viable p is = grind (arith, nat_tests, filled_tag p, prefix_from_irregular p)
 
 pub viable_fill : (p : List ℕ) → IsViable p ↔ (IsTag (fill p) ⊎ IsIrregularPrefix p)
 viable_fill p = grind (arith, common_steps, fill_from_viable, viable_from_tag, irregular_from_prefix)

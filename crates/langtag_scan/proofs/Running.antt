@@ -47,8 +47,7 @@ empty_begun stage = record { short = omega arith; alphanumeric = refl; letters =
 pub begun_push :
     (stage : Stage) (s : List ℕ) (b : ℕ) → is_alphanumeric b ≡ true → (stage ≡ Start → is_letter b ≡ true) → length s < 8 → IsBegun stage s →
     IsBegun stage (s ++ b ∷ [])
-begun_push stage s b held first less h =
-    grind (arith, common_steps, length_push s b, list_all-append is_alphanumeric s (b ∷ []), list_all-append is_letter s (b ∷ []))
+begun_push stage s b held first less h = grind (arith, common_steps, length_push, list_all-append)
 
 pub begun_parts : (stage : Stage) (s v : List ℕ) → IsBegun stage (s ++ v) → IsBegun stage s × IsBegun stage v
 begun_parts stage s v h = grind (arith, common_steps, length-append, and_parts, list_all-append)

@@ -1,5 +1,5 @@
 -- What the tables say of the state of a position is what the grammar says of the position: by computation.
-use Rattle.langtag_scan.proofs.Prelude.{◌≡◌, ℕ, ◌+◌, ◌-◌, ◌<◌, ◌≤◌, Bool, true, false, cond, eqb, eqb-true, ltb, leb, not, ◌&&◌, ◌||◌, List, [], ◌∷◌, ◌++◌, length, take, get_or, Option, Some, None, refl, ap, ◌∙◌, arith, zero, suc, drop, inl, inr, sym, subst, codes, fold, MatchOption, list_all, option_map_or, take-append_seam, agree_below, agree_below_at, and_parts, or_cases, not-true, ltb-true, leb-true, lt-ltb, cases_lt, both_ways, get_or_past, position-Some, common_steps, eq-eqb, ne_eqb, option_map, length-append}
+use Rattle.langtag_scan.proofs.Prelude.{◌≡◌, ℕ, ◌+◌, ◌-◌, ◌<◌, ◌≤◌, Bool, true, false, cond, eqb, eqb-true, ltb, leb, not, ◌&&◌, ◌||◌, List, [], ◌∷◌, ◌++◌, length, take, get_or, Option, Some, None, refl, ap, ◌∙◌, arith, zero, suc, drop, inl, inr, sym, subst, codes, fold, MatchOption, list_all, option_map_or, take-append_seam, agree_below, agree_below_at, and_parts, or_cases, not-true, ltb-true, leb-true, lt-ltb, cases_lt, both_ways, get_or_past, position-Some, common_steps, eq-eqb, ne_eqb, option_map, length-append, nat_tests}
 use Rattle.std.specs.Cmp.{booleans_Decides}
 use Rattle.std.proofs.Math.Bool.{beq}
 use Rattle.std.proofs.lemmas.Bool.{le-ltb}
@@ -51,10 +51,7 @@ pub irregular_by : (n : ℕ) → 8 ≤ n → Irregular (n - 8) ≡ ending_by n
 irregular_by n past = rw (le-ltb n 6 (omega arith), ne_eqb n 6 (λ e. omega (arith, e)), ne_eqb n 7 (λ e. omega (arith, e))) refl
 
 ending_from : (n : ℕ) (ending : Ending) → says n ending ≡ true → ending_by n ≡ ending
-ending_from n (Normal place) is = grind (arith, common_steps, and_parts, eqb-true)
-ending_from n NoTag is = ap ending_by (eqb-true n 6 is)
-ending_from n PrivateUse is = ap ending_by (eqb-true n 7 is)
-ending_from n (Irregular k) is = grind (arith, common_steps, eqb-true, irregular_by)
+ending_from n ending is = grind (arith, common_steps, and_parts, eqb-true, irregular_by)
 
 -- one byte of a class leads from a position with this number to that of the next one, which is that of no state where no tag begins so
 abbrev leads : Position → ℕ → ℕ → Bool
@@ -198,8 +195,7 @@ position_after-class p b within =
     position_after-same p c b (same_from_beq _ _ hyphens.0) (same_from_beq _ _ letters.0) (same_from_beq _ _ digits.0) (same_from_beq _ _ marks.0) marks.1
 
 position_from-fold : (q : List ℕ) (p : Position) → fold position_after p (fold_text q) ≡ fold position_after p q
-position_from-fold [] p = refl
-position_from-fold (b ∷ q) p = grind (arith, common_steps, position_after-same, hyphen-fold, is_letter-fold, is_digit-fold, is_mark-fold, eq-eqb, fold_byte-twice)
+position_from-fold q p = grind (arith, common_steps, position_after-same, hyphen-fold, is_letter-fold, is_digit-fold, is_mark-fold, eq-eqb, fold_byte-twice)
 
 -- ---- what the tables say of a state
 
@@ -230,9 +226,7 @@ prefix_described q k within possible =
 by_parts :
     (q : List ℕ) (b : Option Begun) (o : Option (List ℕ)) → position_of q ≡ record { begun = b; irregular = o } → FollowsIrregular q o → is_reached (record { begun = b; irregular = o }) ≡ true →
     state_of (record { begun = b; irregular = o }) < table.NONE → is_described (record { begun = b; irregular = o }) ≡ true
-by_parts q None None at gone reached live = absurd (omega (arith, live))
-by_parts q (Some s) None at gone reached live = begun_described s reached
-by_parts q b (Some p) at (is, k, index, within, possible) reached live = ap is_described (sym at) ∙ prefix_described q k within possible
+by_parts q b o at gone reached live = grind (arith, nat_tests, begun_described, prefix_described q)
 
 module _ (q : List ℕ) (number : ℕ) (live : number < table.NONE) (stands : Stands q number) where
   described : is_described_by (position_of q) number ≡ true

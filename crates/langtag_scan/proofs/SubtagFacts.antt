@@ -4,7 +4,7 @@ use Rattle.std.proofs.Math.Bool.{and_assoc}
 use Rattle.langtag_scan.proofs.Grammar.{is_letter, is_digit, is_alphanumeric, has_length, are_letters, are_digits, are_alphanumeric, is_primary, is_extended, is_script, is_region, is_variant, is_extension_subtag, is_private_subtag, is_mark, is_singleton, is_one, classes_of, Kind, Empty, kind_after, kind_of, has_letters, classes_by}
 use Rattle.langtag_scan.proofs.BoolFacts.{between_true}
 use Rattle.langtag_scan.proofs.Disjoint.{extended_three, script_four, region_two_three, variant_long, letter_no_digit}
-use Rattle.langtag_scan.specs.Kind.{has_digits, begins_with_digit, is_kind_of_mark}
+use Rattle.langtag_scan.specs.Kind.{has_digits, begins_with_digit}
 
 -- one to eight letters and digits
 pub record IsSubtag (s : List ℕ) : Type 0 where
@@ -85,9 +85,6 @@ digit-letter b h = grind (arith, common_steps, false_from_ne_true (is_digit b), 
 has_letters-after : (kind : Kind) (b : ℕ) → has_letters (kind_after kind b) ≡ (has_letters kind && is_letter b)
 has_letters-after kind b = grind (arith, nat_tests)
 
-has_digits-after : (kind : Kind) (b : ℕ) → has_digits (kind_after kind b) ≡ (has_digits kind && not (is_letter b))
-has_digits-after kind b = grind (arith, nat_tests)
-
 -- after the first byte, what the subtag begins with stays
 abbrev is_some_kind : Kind → Bool
 is_some_kind Empty = false
@@ -107,7 +104,7 @@ letters-kind (b ∷ s) kind = cc (letters-kind s (kind_after kind b), has_letter
 
 digits-kind : (s : List ℕ) (kind : Kind) → are_alphanumeric s ≡ true → has_digits (fold kind_after kind s) ≡ (has_digits kind && are_digits s)
 digits-kind [] kind h = sym (and-true (has_digits kind))
-digits-kind (b ∷ s) kind h = grind (arith, common_steps, and_parts, digits-kind s (kind_after kind b), has_digits-after, digit-letter, and_assoc)
+digits-kind (b ∷ s) kind h = grind (arith, common_steps, and_parts, digits-kind s (kind_after kind b), digit-letter, and_assoc)
 
 begins-kind : (s : List ℕ) (kind : Kind) → is_some_kind kind ≡ true → begins_with_digit (fold kind_after kind s) ≡ begins_with_digit kind
 begins-kind [] kind some = refl
@@ -116,12 +113,10 @@ begins-kind (b ∷ s) kind some = begins-kind s (kind_after kind b) (some_after 
 not_one : (n : ℕ) (v : Bool) → (eqb (suc (suc n)) 1 && v) ≡ false
 not_one n v = rw (ne_eqb (suc (suc n)) 1 (λ e. omega arith)) refl
 
-one_mark : (b : ℕ) → is_mark b ≡ is_kind_of_mark (kind_after Empty b)
-one_mark b = grind (arith, common_steps, both_ways, mark_letters (b ∷ []))
-
 pub classes_of-kind : (s : List ℕ) → length s ≤ 8 → are_alphanumeric s ≡ true → classes_of s ≡ classes_by (kind_of s) (length s)
 unfolding is_primary is_extended is_script is_region is_variant is_extension_subtag is_private_subtag is_singleton
-classes_of-kind s short h = grind (arith, common_steps, letters-kind, digits-kind, and_parts, digit-letter, begins-kind, some_after, le-leb, and-true, one_mark, not_one)
+classes_of-kind s short h =
+    grind (arith, common_steps, letters-kind, digits-kind, and_parts, digit-letter, begins-kind, some_after, le-leb, and-true, not_one, both_ways, mark_letters)
 
 -- letters alone
 pub letters-kind_of : (s : List ℕ) → are_letters s ≡ has_letters (kind_of s)

@@ -1,6 +1,6 @@
 -- Texts and the lists of subtags that stand between their hyphens: joining and splitting undo one another, and a list of
 -- members of a class is found again in its join.
-use Rattle.langtag_scan.proofs.Prelude.{◌≡◌, ℕ, ◌<◌, ◌≤◌, ◌+◌, List, length, drop, arith, Bool, true, false, [], ◌∷◌, ◌++◌, refl, ap, ◌∙◌, Option, Bor, MatchOption, All, IsTrue, get_or, and_parts, take-append-drop, drop_more, onto_first, AllByRecursion, list_all, slice_split-cons_yes, slice_split-cons_no, slice_split_none, slice_split_at, length-slice_split, join_with_byte-slice_split, All-nil, All-cons, All-head, All-tail, All-from_recursion, count_by-le-length, common_steps, IsCharBoundary-after_ascii, length-drop, slice_range}
+use Rattle.langtag_scan.proofs.Prelude.{◌≡◌, ℕ, ◌<◌, ◌≤◌, ◌+◌, List, length, drop, arith, Bool, true, false, [], ◌∷◌, ◌++◌, refl, ap, ◌∙◌, Option, Bor, MatchOption, All, IsTrue, get_or, and_parts, take-append-drop, drop_more, onto_first, AllByRecursion, list_all, slice_split-cons_yes, slice_split-cons_no, slice_split_none, slice_split_at, length-slice_split, join_with_byte-slice_split, All-nil, All-cons, All-head, All-tail, All-from_recursion, count_by-le-length, common_steps, IsCharBoundary-after_ascii, length-drop, slice_range, nat_tests}
 use Rattle.langtag_scan.proofs.Grammar.{is_hyphen, IsHyphenFree, join, segments, subtags, segments_left}
 use Rattle.std.proofs.lemmas.List.Elements.{All-weaker}
 use Rattle.langtag_scan.proofs.Joins.{length-join}
@@ -39,8 +39,7 @@ onto_first-hyphen_free b (text ∷ texts) kept free =
 
 pub segments-hyphen_free : (text : List ℕ) → All IsHyphenFree (segments text)
 segments-hyphen_free [] = All-cons IsHyphenFree [] [] (All-nil (λ c. is_hyphen c ≡ false)) (All-nil IsHyphenFree)
-segments-hyphen_free (b ∷ text) =
-    grind (arith, common_steps, segments-hyphen_free text, slice_split-cons_yes, slice_split-cons_no, onto_first-hyphen_free)
+segments-hyphen_free (b ∷ text) = grind (arith, nat_tests, slice_split-cons_yes, slice_split-cons_no, onto_first-hyphen_free, segments-hyphen_free text)
 
 -- ---- joining and splitting
 

@@ -1,5 +1,5 @@
 -- The first extension of a text that extensions spell, and what is left of it.
-use Rattle.langtag_keyword.proofs.Common.{◌≡◌, ℕ, ◌<◌, ◌≤◌, ◌+◌, ◌-◌, true, List, [], ◌∷◌, ◌++◌, length, take, drop, Option, None, Some, inl, inr, refl, ap, sym, subst, ◌∙◌, arith, map, false, nat_lt, Bool, flat_map, list_all, position_or_len, AllByRecursion, eqb_tells, nat_tests, at_drop_more, drop-drop, drop-take, take-take, length-take, length-drop, drop_all, take_all, Extension, extension_flat, join, segments, segments_left, NoHyphenWithin, subtags, extension_texts, extension_spelling, SpellsExtensions, common_steps, IsSubtag, length_with_hyphens, before_key, is_new_key, keywords_after}
+use Rattle.langtag_keyword.proofs.Common.{◌≡◌, ℕ, ◌<◌, ◌≤◌, ◌+◌, ◌-◌, true, List, [], ◌∷◌, ◌++◌, length, take, drop, Option, None, Some, inl, inr, refl, ap, sym, subst, ◌∙◌, arith, map, false, Bool, flat_map, list_all, position_or_len, AllByRecursion, eqb_tells, nat_tests, at_drop_more, drop-drop, drop-take, take-take, length-take, length-drop, drop_all, take_all, Extension, extension_flat, join, segments, segments_left, NoHyphenWithin, subtags, extension_texts, extension_spelling, SpellsExtensions, common_steps, IsSubtag, length_with_hyphens, before_key, is_new_key, keywords_after}
 use Rattle.langtag_scan.proofs.Prelude.{Bor, MatchOption, slice_index, cases_lt, take-append-drop, join_with_byte-slice_split, slice_split_first, slice_split_none, take-length, fails_before_first}
 use Rattle.langtag_extension.specs.ExtensionTexts.{IsFirstExtension, goes_on, opens, texts_left}
 use Rattle.langtag_extension.proofs.ExtensionLookUp.{join-group_texts, join-spellings, group_texts-split}
@@ -137,8 +137,7 @@ module _
   pub item_taken :
       (item : Span) → is_ows (take len list) ≡ false → item ≡ record { start = before.start; len = len } →
       filled_items (span_text header before) ≡ span_text header item ∷ filled_items (span_text header after)
-  item_taken item other item_is =
-      grind (arith, nat_tests, first_text header list before len has is within, cases_lt len (length list), item-cut list len first within, drop_all (len + 1) list, item-last list len first within, rest_text)
+  item_taken item other item_is = grind (arith, nat_tests, first_text, cases_lt, item-cut, drop_all, item-last, rest_text)
 
 -- ---- the first of some subtags
 
@@ -186,13 +185,7 @@ pub keywords-step :
     (opens : List ℕ → Bool) (all : List (List ℕ)) (n passed old : ℕ) (s : List ℕ) (rest : List (List ℕ)) → drop n all ≡ s ∷ rest → passed ≡ old →
     (passed ≤ n → is_new_key opens (take n all) s ≡ false) → (passed ≤ n → keywords_after opens (take n all) (s ∷ rest) ≡ keywords_from opens all old) →
     passed ≤ n + 1 → keywords_after opens (take (n + 1) all) rest ≡ keywords_from opens all old
-keywords-step opens all n passed old s rest left kept closed same more = by_test (nat_lt n passed) refl
-  where
-    by_test : (b : Bool) → nat_lt n passed ≡ b → keywords_after opens (take (n + 1) all) rest ≡ keywords_from opens all old
-    by_test true over =
-        let is : n + 1 ≡ old = grind (arith, nat_tests) in
-        ap (keywords_after opens (take (n + 1) all)) (drop-next all n s rest left) ∙ ap (keywords_from opens all) is
-    by_test false under = let few : passed ≤ n = grind (arith, nat_tests) in sym (keywords-other opens all n s rest left (closed few)) ∙ same few
+keywords-step opens all n passed old s rest left kept closed same more = grind (arith, common_steps, drop-next, few, keywords-other)
 
 -- ---- those before a key
 

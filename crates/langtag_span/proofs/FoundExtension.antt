@@ -1,6 +1,6 @@
 -- The first extension of a singleton, by where it stands in a tag.
 use Rattle.langtag_keyword.proofs.Common.{◌≡◌, ◌+◌, ◌-◌, ◌≤◌, ℕ, Bool, List, [], length, unwrap_or, arith, ◌<◌, ◌∷◌, take, drop, map, find, Option, None, Some, refl, ap, sym, subst, ◌∙◌, position_or_len, eqb_tells, nat_tests, length-drop, take_all, drop-drop, drop-take, option_map_or, fold_byte, length-slice_split, is_extension_subtag, ends_of, EachRecord, Extension, Record, IsWellFormed, is_hyphen, subtags, of_extension_subtag, each_subtag, extension_texts, IsExtension, SpellsExtensions, extension_spelling, find_extension, extension_found, option_map}
-use Rattle.langtag_scan.proofs.Prelude.{eqb, slice_index, slice_index_or, Bor, after_first, cases_lt}
+use Rattle.langtag_scan.proofs.Prelude.{eqb, slice_index_or, Bor, after_first}
 use Rattle.langtag_scan.proofs.Grammar.{text_between, extensions_part, HasEnds, IsNormal}
 use Rattle.std.proofs.lemmas.List.{drop_min}
 use Rattle.langtag_span.specs.Spans.{span_text, span_between, HasBytes, IsWithin, end_of}
@@ -50,9 +50,6 @@ extensions-span text ends span normal each is ending =
 pub nothing-in : (text : List ℕ) (span : Span) → span.len ≡ 0 → span_text text span ≡ []
 nothing-in text span none = grind (arith, nat_tests)
 
-pub no-bytes : (text : List ℕ) (span : Span) → IsWithin text span → (HasBytes text span → ⊥) → span.len ≡ 0
-no-bytes text span within none = grind (arith, nat_tests, cases_lt 0 span.len)
-
 -- an extension has a singleton and a hyphen, and then subtags
 pub after-singleton : (text : List ℕ) → IsExtension text → AreSubtags (subtags (drop 2 text)) × (2 ≤ length text)
 after-singleton text (e, spelled) = (
@@ -93,12 +90,8 @@ extension-step text before after taken part len (e ∷ es, spells) has is first 
 pub without-singleton : (text : List ℕ) (taken : Span) → 2 ≤ taken.len → span_text text (record { start = taken.start + 2; len = taken.len - 2 }) ≡ drop 2 (span_text text taken)
 without-singleton text taken some = grind (arith, nat_tests, drop-drop 2 taken.start text, drop-take 2 (taken.len - 2) (drop taken.start text))
 
--- whether it opens with the byte
-first-byte : (part : List ℕ) (len : ℕ) → 0 < len → slice_index (take len part) 0 ≡ slice_index_or part 0 0
-first-byte part len some = grind (arith, nat_tests)
-
 pub opens-text : (b : ℕ) (text part : List ℕ) (len : ℕ) → text ≡ take len part → 0 < len → opens_alike b text ≡ eqb (fold_byte (slice_index_or part 0 0)) (fold_byte b)
-opens-text b text part len is some = grind (arith, nat_tests, first-byte part len some)
+opens-text b text part len is some = grind (arith, nat_tests)
 
 -- the subtags of the first that opens with the byte
 pub subtags-first :

@@ -5,7 +5,7 @@ use Rattle.langtag_span.proofs.FoundExtension.{nothing-in}
 use Rattle.langtag_span.specs.Negotiation.{filled_items}
 use Rattle.langtag_range.proofs.Definitions.{element, from_first, is_ows, is_space, Element, is_comma, items, fallbacks, digits_behind, wanted, wanted_elements, wanted_items}
 use Rattle.langtag_match.specs.AcceptLanguage.{are_good, elements, IsByWeight, StandsAt, acceptable, bad_part, is_good, weight_in}
-use Rattle.langtag_scan.proofs.Prelude.{position, slice_range, cons_option, onto_first, eqb, length-append, IfSome, drop-append_seam, take-append_seam, list_all-append, list_all_at, position-Some, sum_by-append, get_or_from_slice_get, slice_get_read, slice_get_within, slice_split-cons_no, slice_split-cons_yes}
+use Rattle.langtag_scan.proofs.Prelude.{position, slice_range, cons_option, eqb, length-append, IfSome, drop-append_seam, take-append_seam, list_all-append, list_all_at, position-Some, sum_by-append, get_or_from_slice_get, slice_get_read, slice_get_within, slice_split-cons_no, slice_split-cons_yes}
 use Rattle.std.specs.List.{filter_map, prefix_len}
 use Rattle.std.proofs.Common.{if◌then◌else◌}
 use Rattle.std.proofs.lemmas.List.Sums.{sum_by_more_le}
@@ -194,12 +194,9 @@ not_good header span part bad =
 abbrev IsAlone : List ℕ → Type 0
 IsAlone item = items item ≡ item ∷ []
 
-alone_onto : (b : ℕ) (parts : List (List ℕ)) → is_comma b ≡ false → 0 < length parts → AllByRecursion IsAlone parts → AllByRecursion IsAlone (onto_first b parts)
-alone_onto b parts other some all = grind (arith, nat_tests, slice_split-cons_no is_comma b)
-
 all_alone : (text : List ℕ) → AllByRecursion IsAlone (items text)
 all_alone [] = (refl, tt)
-all_alone (b ∷ text) = grind (arith, common_steps, all_alone text, slice_split-cons_yes, length-slice_split, slice_split-cons_no, alone_onto)
+all_alone (b ∷ text) = grind (arith, common_steps, all_alone text, slice_split-cons_yes, length-slice_split, slice_split-cons_no)
 
 alone_at : (all : List (List ℕ)) (k : ℕ) (item : List ℕ) → AllByRecursion IsAlone all → slice_get all k ≡ Some item → IsAlone item
 alone_at [] k item alone is = absurd cc
@@ -258,9 +255,7 @@ length_wanted (item ∷ all) = by_option (wanted item (digits_behind all)) refl 
         (o : Option Element) → wanted item (digits_behind all) ≡ o → is_some (wanted item (digits_behind all)) ≡ has_range item → length (wanted_items all) ≡ range_count all →
         length (cons_option (wanted item (digits_behind all)) (wanted_items all)) ≡ range_count (item ∷ all)
     by_option None none same others = grind (arith, nat_tests)
-    by_option (Some e) some same others =
-        let has : has_range item ≡ true = sym same ∙ ap is_some some in
-        rw some (omega (arith, others, more ∙ ap (λ b. cond b 1 0 + range_count all) has))
+    by_option (Some e) some same others = grind (arith, nat_tests, more)
 
 pub placed : (header : List ℕ) (place : ℕ) (o : Option Span) (end : Span) → place < range_count (items header) → (o ≡ None → range_count (items header) ≤ place) → IfSome o (IsRangeAt header place) → IsRangeAt header place (unwrap_or o end)
 placed header place o end within none some = grind (arith, nat_tests)

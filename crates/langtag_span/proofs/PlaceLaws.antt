@@ -65,8 +65,7 @@ variants_end r = grind (arith, nat_tests, length-flat_map, length-variants r r.v
 -- the singletons follow the end of the variants, up to that of the extensions
 hyphenated-spellings : (es : List Extension) → hyphenated (flat_map extension_flat es) ≡ hyphenated (map extension_spelling es)
 hyphenated-spellings [] = refl
-hyphenated-spellings (e ∷ es) =
-    hyphenated-append (extension_flat e) (flat_map extension_flat es) ∙ rw (join-hyphenated (e.singleton ∷ []) e.subtags, hyphenated-spellings es) refl
+hyphenated-spellings (e ∷ es) = grind (arith, common_steps, hyphenated-append, join-hyphenated, hyphenated-spellings es)
 
 pub length-extensions :
     (r : Record) (es : List Extension) →

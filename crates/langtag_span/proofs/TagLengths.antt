@@ -1,7 +1,7 @@
 -- No tag is empty, so a part that is set is one by its text. The texts of parts are UTF-8.
-use Rattle.langtag_keyword.proofs.Common.{◌≡◌, ℕ, ◌≤◌, true, false, List, [], ◌∷◌, drop, length, inl, inr, arith, Option, None, Some, unwrap_or, refl, nat_tests, extension_flat, length-join, of_primary, IsSubtag, of_variant, AllByRecursion, flat_map, IsUtf8, common_steps, is_extended, is_variant, join, each_subtag, option_map}
+use Rattle.langtag_keyword.proofs.Common.{◌≡◌, ℕ, ◌≤◌, List, [], ◌∷◌, length, arith, Option, None, Some, unwrap_or, refl, nat_tests, extension_flat, length-join, of_primary, IsSubtag, of_variant, AllByRecursion, flat_map, IsUtf8, common_steps, is_extended, is_variant, join, each_subtag, option_map}
 use Rattle.langtag_scan.proofs.Prelude.{MatchOption, IsUtf8-from_ascii}
-use Rattle.langtag_scan.proofs.Grammar.{grandfathered_tags, irregular_texts, flat, IsNormal, IsTag}
+use Rattle.langtag_scan.proofs.Grammar.{grandfathered_tags, irregular_texts, IsNormal, IsTag}
 use Rattle.langtag_scan.proofs.Laws.{of_extended, of_region, of_script, IsAscii-private, IsAscii-spelled, tag_private}
 use Rattle.langtag_private.proofs.Rules.{is_private_use-from_rule, IsPrivate-from_test}
 use Rattle.langtag.proofs.RegisteredLaws.{alike_some}
@@ -15,10 +15,7 @@ use Rattle.langtag.specs.Edit as typed
 
 pub some_tag : (t : List ℕ) → IsTag t → 1 ≤ length t
 unfolding IsTag IsNormal grandfathered_tags irregular_texts
-some_tag (b ∷ t) tag = omega arith
-some_tag [] (inl (r, spells)) = grind (arith, nat_tests, length-join r.primary (drop 1 (flat r)), of_primary r.primary spells.0.primary)
-some_tag [] (inr (inl private)) = let is : false ≡ true = is_private_use-from_rule [] private in absurd cc
-some_tag [] (inr (inr irregular)) = let is : false ≡ true = (alike_some []).1 irregular in absurd cc
+some_tag t tag = grind (arith, common_steps, length-join, of_primary, is_private_use-from_rule [], alike_some [])
 
 -- ---- what a part does
 

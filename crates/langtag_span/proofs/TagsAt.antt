@@ -68,15 +68,12 @@ bytes_from_test text span test = grind (arith, common_steps, and_parts, ltb-true
 pub test_from_bytes : (text : List ℕ) (span : Span) → HasBytes text span → has_bytes text span ≡ true
 test_from_bytes text span h = grind (arith, nat_tests, and_from (ltb 0 span.len) (ltb (end_of span) (length text + 1)))
 
-has_tag : (text : List ℕ) (span : Span) → (has_bytes text span && is_tag (span_text text span)) ≡ true → HasTag text span
-has_tag text span test = grind (arith, common_steps, and_parts, bytes_from_test, tag_from_test)
-
 tag_test : (text : List ℕ) (span : Span) → HasTag text span → (has_bytes text span && is_tag (span_text text span)) ≡ true
 tag_test text span h = grind (arith, nat_tests, and_from, test_from_bytes, test_from_tag)
 
 pub is_tag_at : (text : List ℕ) (span : Span) → IsTagAt text span (tag_at text span)
 unfolding tag_at
-is_tag_at text span = grind (arith, nat_tests, has_tag text span, both_ways, tag_test text span)
+is_tag_at text span = grind (arith, common_steps, both_ways, tag_test text span, and_parts, bytes_from_test, tag_from_test)
 
 -- and nothing else
 pub one_tag_at : (text : List ℕ) (span : Span) (tag : Option (List ℕ)) → IsTagAt text span tag → tag ≡ tag_at text span

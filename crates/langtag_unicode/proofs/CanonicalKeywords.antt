@@ -1,5 +1,5 @@
 -- The extension `u` in canonical form stays in that form when a canonical keyword is set, or a key is removed.
-use Rattle.langtag_keyword.proofs.Common.{rules, ◌≡◌, ℕ, ◌==◌, ◌&&◌, Bool, true, false, cond, List, [], ◌∷◌, ◌++◌, map, find, Option, None, Some, option_map, unwrap_or, refl, sym, ap, subst, ◌∙◌, arith, ◌≤◌, ◌||◌, not, length, append-nil, append_assoc, common_steps, flat_map-append, and_parts, false≢true, nat_tests, AllByRecursion, filter, is_some, option_map_or, fold_text-twice, length-fold, of_extension_subtag, each_subtag, subtags-joined, are_alike, fold_text, are_alphanumeric, join, subtags, is_this_key, is_type, is_unicode_key, keyword_error, with_keyword, without_keyword, without_within, changed_from, extension_of, in_alphabet, put_among, unicode_form, unicode_value, extension_form, forms_after, is_of, is_transform, before_key, is_key, value_of, find_extension, Extension, IsWellFormed, IsWellFormedExtension, Record, IsTrue}
+use Rattle.langtag_keyword.proofs.Common.{rules, ◌≡◌, ℕ, ◌==◌, ◌&&◌, Bool, true, false, cond, List, [], ◌∷◌, ◌++◌, map, find, Option, None, Some, option_map, unwrap_or, refl, sym, ap, subst, ◌∙◌, arith, ◌≤◌, ◌||◌, not, length, append-nil, append_assoc, common_steps, flat_map-append, and_parts, false≢true, nat_tests, AllByRecursion, filter, is_some, option_map_or, fold_text-twice, length-fold, of_extension_subtag, each_subtag, subtags-joined, are_alike, fold_text, are_alphanumeric, join, subtags, is_this_key, is_type, is_unicode_key, keyword_error, with_keyword, without_keyword, without_within, changed_from, extension_of, in_alphabet, put_among, unicode_form, unicode_value, extension_form, forms_after, is_of, is_transform, before_key, is_key, value_of, Extension, IsWellFormed, IsWellFormedExtension, Record, IsTrue}
 use Rattle.langtag.proofs.Alike.{alike_length}
 use Rattle.langtag_scan.proofs.CaseLaw.{is_digit-fold, is_letter-fold}
 use Rattle.langtag_scan.proofs.Grammar.{fold_byte, has_length, is_extension_subtag}
@@ -173,8 +173,7 @@ unicode_key-fold key = grind (arith, nat_tests, is_letter-fold, is_digit-fold)
 
 pub canonical_removal : (key : List ℕ) (ss : List (List ℕ)) → keyword_error key [] ≡ None → Good ss → unicode_form ss ≡ ss → unicode_form (without_keyword key ss) ≡ without_keyword key ss
 canonical_removal key ss none good own =
-    let same : without_keyword (fold_text key) ss ≡ without_keyword key ss = without-fold key false ss in
-    subst (λ ts. unicode_form ts ≡ ts) same (removed_lower (fold_text key) ss (fold_text-twice key) good own)
+    grind (arith, nat_tests, without-fold key, removed_lower (fold_text key) ss (fold_text-twice key) good own, fold_text-twice key)
 
 -- ---- a tag in canonical form
 
@@ -199,13 +198,10 @@ record Absent (e : Extension) (es : List Extension) : Type 0 where
   first : is_of 117 e ≡ false
   others : find (is_of 117) es ≡ None
 
-absent-next : (e : Extension) (es : List Extension) → find (is_of 117) (e ∷ es) ≡ None → Absent e es
-absent-next e es none = grind (arith, common_steps)
-
 -- without a `u`, it makes no difference whether a `u` came before
 forms-absent : (t : Bool) (es : List Extension) → find (is_of 117) es ≡ None → forms_after true t es ≡ forms_after false t es
 forms-absent t [] none = refl
-forms-absent t (e ∷ es) none = grind (arith, common_steps, absent-next e es none, form-other true t e, form-other false t e, forms-absent (t || is_of 116 e) es)
+forms-absent t (e ∷ es) none = grind (arith, common_steps, form-other true t e, form-other false t e, forms-absent (t || is_of 116 e) es)
 
 own-none : unicode_form [] ≡ []
 own-none = refl
@@ -221,27 +217,17 @@ module _
     changed-u :
         (t : Bool) (e : Extension) (es : List Extension) → is_of 117 e ≡ true → IsWellFormedExtension e → forms_after false t (e ∷ es) ≡ e ∷ es →
         forms_after false t (extension_of e.singleton (change e.subtags) ++ es) ≡ extension_of e.singleton (change e.subtags) ++ es
-    changed-u t e es is fits own =
-        let head : extension_form false t e ≡ e = cc in
-        let tail : forms_after (is_of 117 e) (t || is_of 116 e) es ≡ es = cc in
-        grind (arith, common_steps, head, tail, form-u t e is, form-u t (extension e.singleton (change e.subtags)) is, extension-some e.singleton (change e.subtags) (some e.subtags), keeps e.subtags fits.subtags)
+    changed-u t e es is fits own = grind (arith, nat_tests, form-u t e is, extension e.singleton, extension-some e.singleton)
 
     forms-changed :
         (t stands : Bool) (es : List Extension) → AllByRecursion IsWellFormedExtension es → (stands ≡ false → find (is_of 117) es ≡ None) → forms_after false t es ≡ es →
         forms_after false t (changed_from change stands es) ≡ changed_from change stands es
-    forms-changed t stands [] fits absent own =
-        ap (forms_after false t) (sym (append-nil (extension_of 117 (change [])))) ∙ new-u t [] refl ∙ append-nil (extension_of 117 (change []))
+    forms-changed t stands [] fits absent own = grind (arith, nat_tests, append-nil, new-u t [])
     forms-changed t stands (e ∷ es) fits absent own =
-        let head : extension_form false t e ≡ e = cc in
-        let tail : forms_after (is_of 117 e) (t || is_of 116 e) es ≡ es = cc in
-        grind (arith, common_steps, head, tail, changed-u t e es, append_assoc (extension_of 117 (change [])) (e ∷ []) es, new-u t (e ∷ es), forms-absent t (e ∷ es), forms-changed (t || is_of 116 e) stands es fits.1, absent-next e es, false≢true)
+        grind (arith, common_steps, changed-u, append_assoc, new-u, forms-absent, false≢true, forms-changed (t || is_of 116 e) stands es fits.1)
 
 pub canonical_tag :
     (key : List ℕ) (v : List (List ℕ)) (r : Record) → keyword_error key v ≡ None → IsCanonicalKeyword key v → IsWellFormed r → extensions_record r ≡ r →
     extensions_record (edited_record key (Some v) r) ≡ edited_record key (Some v) r
 unfolding extensions_record edited_record
-canonical_tag key v r none canonical well own =
-    ap (λ es. record r { extensions = es })
-    (forms-changed (with_keyword key v) (λ ss. some-put key (unwrap_or (find (is_this_key key) ss) key) (is_some (find (is_this_key key) ss)) v ss)
-    (λ ss good form. canonical_set key v ss none canonical.0 canonical.1 good form) false (is_some (find_extension 117 r.extensions)) r.extensions well.extensions
-    (λ is. grind (arith, common_steps, find_u, false≢true)) (ap (λ q. q.extensions) own))
+canonical_tag key v r none canonical well own = grind (arith, common_steps, forms-changed, some-put, canonical_set, find_u, false≢true)

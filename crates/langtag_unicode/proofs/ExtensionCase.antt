@@ -1,5 +1,5 @@
 -- The case of letters changes nothing in the forms of extensions but case.
-use Rattle.langtag_keyword.proofs.Common.{common_steps, ◌≡◌, ℕ, Bool, false, ◌||◌, ◌==◌, List, [], ◌∷◌, ◌++◌, map, Option, None, Some, option_map, unwrap_or, refl, ap, ◌∙◌, arith, list_any, nat_tests, classes-fold, fold_text-twice, length-fold, AlikeRecords, Alike, are_alike, fold_text, is_region, is_script, is_variant, Extension, Record, Classes, join, subtags, type_alias_for, after_one, are_different_variants, are_fields, extension_form, forms_after, in_alphabet, language_form, is_language_or_none, is_of, is_transform, one_of, transform_form, unicode_form, unicode_value, before_key, is_key, value_of, is_field_key}
+use Rattle.langtag_keyword.proofs.Common.{common_steps, ◌≡◌, ℕ, Bool, false, ◌||◌, ◌==◌, List, [], ◌∷◌, map, Option, None, Some, option_map, unwrap_or, refl, ap, ◌∙◌, arith, list_any, nat_tests, classes-fold, fold_text-twice, length-fold, AlikeRecords, Alike, are_alike, fold_text, is_region, is_script, is_variant, Extension, Record, Classes, join, subtags, type_alias_for, after_one, are_different_variants, are_fields, extension_form, forms_after, language_form, is_language_or_none, is_of, is_transform, one_of, transform_form, unicode_form, unicode_value, before_key, value_of, is_field_key}
 use Rattle.langtag.proofs.Alike.{AlikeFields, same_fields}
 use Rattle.langtag.proofs.FormLaws.{alike_forms}
 use Rattle.langtag.specs.Form.{IsAlikeForm}
@@ -49,8 +49,7 @@ module _ (opens : List ℕ → Bool) (opens-fold : (s : List ℕ) → opens (fol
 -- ---- values
 
 or_fold : (o : Option (List ℕ)) (text : List ℕ) → Alike (unwrap_or o (fold_text text)) (unwrap_or o text)
-or_fold None text = fold_text-twice text
-or_fold (Some new) text = refl
+or_fold o text = grind (arith, nat_tests, fold_text-twice text)
 
 replaced-fold : (key text : List ℕ) → Alike (replaced key (fold_text text)) (replaced key text)
 unfolding subdivision unicode_type
@@ -69,10 +68,7 @@ transform_value-fold key text = ap (λ o. fold_text (unwrap_or o (fold_text text
 -- ---- the extension `u`
 
 pub unicode-fold : (ss : List (List ℕ)) → unicode_form (map fold_text ss) ≡ unicode_form ss
-unicode-fold ss =
-    ap (λ t. in_alphabet t ++ form.keywords_form is_key unicode_value (map fold_text ss)) (before-fold is_key key-fold ss)
-    ∙ ap (λ t. t ++ form.keywords_form is_key unicode_value (map fold_text ss)) (in_alphabet-alike (map fold_text (before_key is_key ss)) (before_key is_key ss) (lower-twice (before_key is_key ss)))
-    ∙ ap (λ t. in_alphabet (before_key is_key ss) ++ t) (keywords-fold is_key key-fold unicode_value unicode_value-fold ss)
+unicode-fold ss = grind (arith, common_steps, before-fold, key-fold, in_alphabet-alike, lower-twice, keywords-fold, unicode_value-fold)
 
 -- ---- the language of `t`
 
@@ -109,8 +105,7 @@ different-fold [] = refl
 different-fold (v ∷ vs) = rw (variant-fold v, any-fold v vs, different-fold vs) refl
 
 language_or_none-fold : (ss : List (List ℕ)) → is_language_or_none (map fold_text ss) ≡ is_language_or_none ss
-language_or_none-fold [] = refl
-language_or_none-fold (s ∷ ss) = rw (unicode_language-fold s, variants-fold ss, different-fold (identifier_variants ss)) refl
+language_or_none-fold ss = grind (arith, common_steps, unicode_language-fold, variants-fold, different-fold)
 
 follow-fold : (inside after : Bool) (s : List ℕ) → may_follow inside after (fold_text s) ≡ may_follow inside after s
 follow-fold inside after s = rw (field_key-fold s, length-fold s) refl
@@ -128,10 +123,7 @@ language_form-fold : (ss : List (List ℕ)) → language_form (map fold_text ss)
 language_form-fold ss = grind (arith, nat_tests, fields-fold, language-parts, same_fields, lower_fields, in_alphabet-alike, variants-fold, lower-twice)
 
 transform_form-fold : (ss : List (List ℕ)) → transform_form (map fold_text ss) ≡ transform_form ss
-transform_form-fold ss =
-    ap (λ t. language_form t ++ form.keywords_form is_field_key transform_value (map fold_text ss)) (before-fold is_field_key field_key-fold ss)
-    ∙ ap (λ t. t ++ form.keywords_form is_field_key transform_value (map fold_text ss)) (language_form-fold (before_key is_field_key ss))
-    ∙ ap (λ t. language_form (before_key is_field_key ss) ++ t) (keywords-fold is_field_key field_key-fold transform_value transform_value-fold ss)
+transform_form-fold ss = grind (arith, common_steps, before-fold, field_key-fold, language_form-fold, keywords-fold, transform_value-fold)
 
 -- ---- extensions
 

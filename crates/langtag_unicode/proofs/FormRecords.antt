@@ -1,5 +1,5 @@
 -- The form of a tag is a tag: its extensions are well-formed.
-use Rattle.langtag_keyword.proofs.Common.{common_steps, ◌≡◌, ℕ, ◌≤◌, ◌&&◌, ◌||◌, not, Bool, true, false, List, [], ◌∷◌, ◌++◌, length, map, Some, unwrap_or, refl, sym, ap, subst, ◌∙◌, arith, find, Option, None, and_parts, false≢true, nat_tests, AllByRecursion, filter, flat_map, list_all, is_some, classes-fold, of_extension_subtag, each_from_test, each_subtag, subtags-joined, each-append, fold_text, is_alphanumeric, Extension, IsWellFormed, IsWellFormedExtension, Record, join, subtags, Alias, TypeAlias, alias_for, type_alias_for, is_type, at_place, changed_from, edited, extension_of, is_this_key, is_unicode_key, keyword_error, put_keyword, without_within, extension_form, forms_after, in_alphabet, is_of, is_transform, transform_form, unicode_form, unicode_value, before_key, is_key, value_of, is_field_key, Classes, IsTrue}
+use Rattle.langtag_keyword.proofs.Common.{common_steps, ◌≡◌, ℕ, ◌≤◌, ◌&&◌, ◌||◌, not, Bool, true, false, List, [], ◌∷◌, ◌++◌, length, map, Some, unwrap_or, refl, sym, ap, subst, ◌∙◌, arith, find, Option, None, and_parts, false≢true, nat_tests, AllByRecursion, filter, flat_map, list_all, is_some, classes-fold, of_extension_subtag, each_from_test, each_subtag, subtags-joined, each-append, fold_text, is_alphanumeric, Extension, IsWellFormed, IsWellFormedExtension, Record, join, subtags, Alias, TypeAlias, alias_for, type_alias_for, is_type, at_place, changed_from, edited, extension_of, is_this_key, keyword_error, put_keyword, without_within, extension_form, forms_after, in_alphabet, is_of, is_transform, transform_form, unicode_form, unicode_value, before_key, is_key, value_of, is_field_key, Classes, IsTrue}
 use Rattle.std.proofs.Common.{length-append}
 use Rattle.langtag_scan.specs.Class.{is_digit, is_extension_subtag, is_letter, is_mark, is_singleton}
 use Rattle.langtag_keyword.specs.Aliases.{subdivision_aliases, transform_type_aliases, unicode_type_aliases}
@@ -133,19 +133,16 @@ good-one test ss good = grind (arith, nat_tests)
 good-after : (test : List ℕ → Bool) (ss : List (List ℕ)) → Good ss → Good (form.after_one test ss)
 good-after test ss good = grind (arith, nat_tests)
 
-good-language : (ss : List (List ℕ)) → Good ss → Good (form.language_form ss)
-good-language ss good = grind (arith, nat_tests, good-after, good-fold, each-append, good-lower, good-one, good-alphabet)
-
 good-transform_form : (ss : List (List ℕ)) → Good ss → Good (transform_form ss)
-good-transform_form ss good = grind (arith, common_steps, each-append, good-language, good-before, good-keywords, good-transform)
+good-transform_form ss good =
+    grind (arith, common_steps, each-append, good-before, good-keywords, good-transform, good-after, good-fold, good-lower, good-one, good-alphabet)
 
 -- the form of `t` with some form of its language has a subtag
 module _ (language : List (List ℕ) → List (List ℕ)) (has : (s : List ℕ) (ss : List (List ℕ)) → 1 ≤ length (language (s ∷ ss))) where
   pub some-transform :
       (ss : List (List ℕ)) → Good ss → 1 ≤ length ss → 1 ≤ length (language (before_key is_field_key ss) ++ form.keywords_form is_field_key transform_value ss)
   some-transform [] good some = absurd (omega (arith, some))
-  some-transform (s ∷ ss) good some =
-      grind (arith, nat_tests, some-key is_field_key transform_value s ss, has s (before_key is_field_key ss), length-append (language (before_key is_field_key (s ∷ ss))) (form.keywords_form is_field_key transform_value (s ∷ ss)))
+  some-transform (s ∷ ss) good some = grind (arith, nat_tests, some-key is_field_key transform_value s ss, length-append)
 
 -- ---- extensions
 
@@ -180,21 +177,15 @@ good-standing : (key : List ℕ) (ss : List (List ℕ)) → is_extension_subtag 
 good-standing key [] fits good = fits
 good-standing key (s ∷ ss) fits good = grind (arith, common_steps, good-standing key ss fits good.1)
 
-good-unicode_key : (key : List ℕ) → is_unicode_key key ≡ true → is_extension_subtag key ≡ true
-good-unicode_key [] is = absurd (false≢true is)
-good-unicode_key (a ∷ []) is = absurd (false≢true is)
-good-unicode_key (a ∷ b ∷ c ∷ key) is = absurd (false≢true is)
-good-unicode_key (a ∷ b ∷ []) is = grind (arith, common_steps, false≢true, and_parts, good-key)
-
 good-edited : (key : List ℕ) (value : Option (List (List ℕ))) → keyword_error key (unwrap_or value []) ≡ None → (ss : List (List ℕ)) → Good ss → Good (edited key value ss)
 good-edited key None none ss good = good-without key false ss good
-good-edited key (Some value) none ss good = grind (arith, common_steps, good-without, allowed_from, types-each, and_parts, good-put, good-standing, good-unicode_key)
+good-edited key (Some value) none ss good =
+    grind (arith, common_steps, good-without, allowed_from, types-each, and_parts, good-put, good-standing, false≢true, good-key)
 
 -- ---- extensions
 
 good-extension_of : (singleton : ℕ) (ss : List (List ℕ)) → is_singleton singleton ≡ true → Good ss → AllByRecursion IsWellFormedExtension (extension_of singleton ss)
-good-extension_of singleton [] is good = tt
-good-extension_of singleton (s ∷ ss) is good = (record { singleton = is; some = omega arith; subtags = good }, tt)
+good-extension_of singleton ss is good = grind (arith, nat_tests)
 
 u_singleton : is_singleton 117 ≡ true
 unfolding is_singleton is_letter is_digit is_mark
@@ -202,8 +193,7 @@ u_singleton = refl
 
 module _ (change : List (List ℕ) → List (List ℕ)) (keeps : (ss : List (List ℕ)) → Good ss → Good (change ss)) where
   good-place : (stands : Bool) (e : Extension) → IsWellFormedExtension e → AllByRecursion IsWellFormedExtension (at_place change stands e)
-  good-place true e fits = good-extension_of e.singleton (change e.subtags) fits.singleton (keeps e.subtags fits.subtags)
-  good-place false e fits = each-append _ (extension_of 117 (change [])) (e ∷ []) (good-extension_of 117 (change []) u_singleton (keeps [] tt)) (fits, tt)
+  good-place stands e fits = grind (arith, nat_tests, good-extension_of e.singleton, each-append, good-extension_of 117, u_singleton)
 
   good-changed : (stands : Bool) (es : List Extension) → AllByRecursion IsWellFormedExtension es → AllByRecursion IsWellFormedExtension (changed_from change stands es)
   good-changed stands [] fits = good-extension_of 117 (change []) u_singleton (keeps [] tt)

@@ -1,4 +1,5 @@
 -- The form of the extension `u`, and of `t`, is its own form.
+use Rattle.std.proofs.lemmas.Bool.Decides.{nat_tests}
 use Rattle.langtag_keyword.proofs.Common.{common_steps, arith, ◌≡◌, ℕ, Bool, true, false, not, ◌&&◌, ◌==◌, List, [], ◌∷◌, ◌++◌, length, map, refl, sym, ap, subst, ◌∙◌, ◌||◌, classes-fold, fold_text-twice, length-fold, fold_text, is_primary, is_variant, one_flat, Extension, IsWellFormed, IsWellFormedExtension, Record, Classes, subtags, are_different_variants, are_fields, in_alphabet, is_language_or_none, is_transform, is_unicode_language, language_form, one_of, transform_form, transform_value, unicode_form, unicode_value, extension_form, forms_after, is_of, before_key, is_key, is_field_key, both, AllByRecursion}
 use Rattle.langtag.proofs.Definitions.{is_region_field, is_script_field, Fields, subtag_of}
 use Rattle.langtag_scan.proofs.Grammar.{fold_byte, is_region, is_script}
@@ -156,9 +157,7 @@ unfolding fold_byte
 extension-again u t e fits = subst (λ x. extension_form u t x ≡ x) (sym (form_tested u t _ _ e refl refl)) (by_tests (is_of 117 e && not u) (is_of 116 e && not t && is_transform e.subtags) refl refl)
   where
     by_tests : (a b : Bool) → (is_of 117 e && not u) ≡ a → (is_of 116 e && not t && is_transform e.subtags) ≡ b → extension_form u t (form_by a b e) ≡ form_by a b e
-    by_tests true b one two =
-        let first = (both (is_of 117 e) (not u) one).1 in
-        form_tested u t true _ (form_by true b e) first refl ∙ ap (λ ss. record { singleton = 117; subtags = ss }) (unicode-twice e.subtags fits.subtags)
+    by_tests true b one two = grind (arith, nat_tests, both, form_tested, unicode-twice)
     by_tests false true one two =
         let (this, allowed) = both (is_of 116 e && not t) (is_transform e.subtags) two in
         let first = (both (is_of 116 e) (not t) this).1 in

@@ -1,5 +1,5 @@
 -- The parts of a language identifier are subtags of their classes.
-use Rattle.langtag_keyword.proofs.Common.{common_steps, arith, ◌≡◌, ℕ, Bool, true, false, ◌||◌, List, [], ◌∷◌, ◌++◌, None, refl, ap, ◌∙◌, ◌&&◌, ◌==◌, not, length, list_any-append, IsTrue, AllByRecursion, list_any, is_none, are_alike, fold_text, in_alphabet, is_unicode_language, are_different_variants, one_of, is_primary, is_variant, both, nat_tests, slice_get}
+use Rattle.langtag_keyword.proofs.Common.{common_steps, arith, ◌≡◌, ℕ, Bool, true, false, List, [], ◌∷◌, ◌++◌, None, refl, ap, ◌&&◌, ◌==◌, not, length, list_any-append, IsTrue, AllByRecursion, list_any, is_none, are_alike, fold_text, in_alphabet, is_unicode_language, are_different_variants, one_of, is_primary, is_variant, both, nat_tests, slice_get}
 use Rattle.std.specs.Option.{option_and_then}
 use Rattle.langtag.specs.Repeat.{repeat, repeat_index_after}
 use Rattle.langtag_keyword.proofs.AlphabetLaws.{Rise, rise-in_alphabet, lower-in_alphabet, after-apart, under-each}
@@ -18,8 +18,7 @@ module _ {A : Type 0} (alike : A → A → Bool) where
       (x : A) (seen ys : List A) → AllByRecursion (λ y. list_any (alike y) seen ≡ false) ys → AllByRecursion (λ y. alike y x ≡ false) ys →
       AllByRecursion (λ y. list_any (alike y) (seen ++ x ∷ []) ≡ false) ys
   apart-push x seen [] new other = tt
-  apart-push x seen (y ∷ ys) new other =
-      (list_any-append (alike y) seen (x ∷ []) ∙ ap (λ b. b || (alike y x || false)) new.0 ∙ ap (λ b. b || false) other.0, apart-push x seen ys new.1 other.1)
+  apart-push x seen (y ∷ ys) new other = grind (arith, nat_tests, list_any-append, new.0, other.0, apart-push x seen ys new.1 other.1)
 
   none_after : (seen xs : List A) → AllByRecursion (λ y. list_any (alike y) seen ≡ false) xs → Apart xs → repeat_index_after alike seen xs ≡ None
   none_after seen [] new apart = refl

@@ -36,8 +36,7 @@ module _ (test : List ℕ → Bool) (respects : RespectsCase test) (key : List �
   by_old :
       (old : Bool) (word : Keyword) (others : List Keyword) (value : Option (List ℕ)) → are_alike word.key key ≡ false → value_among key others ≡ value →
       value_among key (cond (not old) (word ∷ others) others) ≡ value
-  by_old true word others value apart later = later
-  by_old false word others value apart later = rw apart later
+  by_old old word others value apart later = grind (arith, nat_tests)
 
   by_key :
       (before ss : List (List ℕ)) (s : List ℕ) (others : List Keyword) (opened same : Bool) → test s ≡ opened → are_alike s key ≡ same → list_any (are_alike key) before ≡ false →
@@ -48,8 +47,7 @@ module _ (test : List ℕ → Bool) (respects : RespectsCase test) (key : List �
 
   listed-after : (before ss : List (List ℕ)) → list_any (are_alike key) before ≡ false → value_among key (keywords_after test before ss) ≡ option_map join (value_of test key ss)
   listed-after before [] none = refl
-  listed-after before (s ∷ ss) none =
-      by_key before ss s (keywords_after test (before ++ s ∷ []) ss) (test s) (are_alike s key) refl refl none (λ apart. listed-after (before ++ s ∷ []) ss (still-none key s before none apart))
+  listed-after before (s ∷ ss) none = grind (arith, nat_tests, by_key before ss s, still-none, listed-after (before ++ s ∷ []) ss)
 
   -- the value of a key is that of the keyword that the walk gives
   value_of-listed : (ss : List (List ℕ)) → value_among key (keywords_of test ss) ≡ option_map join (value_of test key ss)

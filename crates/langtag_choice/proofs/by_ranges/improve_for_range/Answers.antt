@@ -1,13 +1,9 @@
-use Rattle.langtag_scan.proofs.Prelude.{arith, nat_lt, ◌+◌, ◌==◌, nat_tests}
-use Rattle.langtag_range.specs.Listed.{listed_element}
-use Rattle.langtag_choice.proofs.FoundLaws.{one_more_entry, tries_same}
+use Rattle.langtag_scan.proofs.Prelude.{arith, nat_tests, common_steps}
+use Rattle.langtag_choice.proofs.FoundLaws.{tries_same}
 use Rattle.langtag_choice.proofs.by_ranges.improve_for_range.Goals as goal
 
 pub loop-index-preserved : goal.loop-index-preserved
-loop-index-preserved g c =
-    let index = c.loop-index.index in
-    one_more_entry (g.T.TagList.texts c.args.tags.now) c.in-Some.wish (listed_element c.args.wanted) c.args.place (λ i. nat_lt i index) (λ i. i == index) (λ i. nat_lt i (index + 1)) _ _ _ c.in-Some.ensures.0 c.in-Some.ensures.1 c.loop-index.invariant
-    c.improve_entry.ensures (λ i. grind (arith, nat_tests))
+loop-index-preserved g c = grind (arith, common_steps, c.loop-index.index, c.in-Some.wish, c.args.place, c.in-Some.ensures.0)
 
 pub returns : goal.returns
 returns g c = λ elements wanted. tries_same elements (g.T.TagList.texts c.args.tags.now) _ _ _ _ (c.loop-index.invariant elements wanted) (λ p i among inside. grind (arith, nat_tests))

@@ -1,7 +1,7 @@
-use Rattle.langtag_scan.proofs.Prelude.{◌+◌, ◌&&◌, ◌||◌, ◌==◌, arith, nat_lt, sym, subst, ap, ◌∙◌, nat_tests}
+use Rattle.langtag_scan.proofs.Prelude.{◌+◌, ◌&&◌, ◌||◌, ◌==◌, arith, nat_lt, sym, subst, ap, ◌∙◌, nat_tests, get_or_past}
 use Rattle.langtag_range.specs.Listed.{listed_element}
 use Rattle.langtag_choice.specs.Found.{TriesRange, is_flagged}
-use Rattle.langtag_choice.proofs.FoundLaws.{all_flags, flag_next, one_more_entry, tries_same}
+use Rattle.langtag_choice.proofs.FoundLaws.{flag_next, one_more_entry, tries_same}
 use Rattle.langtag_choice.proofs.by_tags.improve_for_range.Goals.{then-unrefused-offset, else-unrefused-offset}
 use Rattle.langtag_choice.proofs.by_tags.improve_for_range.Goals as goal
 
@@ -21,6 +21,4 @@ loop-offset-preserved g c =
     ]
 
 pub returns : goal.returns
-returns g c = λ elements wanted.
-    tries_same elements (g.T.TagList.texts c.args.tags.now) _ _ _ _ (c.loop-offset.invariant elements wanted)
-    (λ p i among inside. grind (arith, nat_tests, all_flags c.args.start c.args.unrefused.now i))
+returns g c = grind (arith, nat_tests, c.loop-offset.invariant, get_or_past)

@@ -1,4 +1,4 @@
-use Rattle.langtag_scan.proofs.Prelude.{◌≡◌, ◌<◌, length, take, drop, sym, subst, arith, rules, length-take, take_more_set}
+use Rattle.langtag_scan.proofs.Prelude.{◌≡◌, ◌<◌, length, take, sym, subst, arith, rules, length-take, take_more_set, nat_tests}
 use Rattle.langtag_choice.proofs.SuitableTags.{GoesOn, all_room, goes_on_from_none, one_more, none_more, rest_after}
 use Rattle.langtag_choice.proofs.suitable.choose_in_turn.Goals as goal
 
@@ -37,6 +37,4 @@ returns-clause-suitable g c =
 
 pub returns-clause-rest : goal.returns-clause-rest
 returns-clause-rest g c =
-    let found = c.loop-count.found in
-    let full : c.loop-count.count ≡ length found = omega (arith, c.loop-count-test.false, c.loop-count.auto.found, c.loop-count.auto.count-end) in
-    subst (λ n. drop n found ≡ drop n c.args.found.now) full c.loop-count.invariant.rest
+    grind (arith, nat_tests, c.loop-count.found, c.loop-count.count, c.loop-count-test.false, c.loop-count.auto.found, c.loop-count.auto.count-end)

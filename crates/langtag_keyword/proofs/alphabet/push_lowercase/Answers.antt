@@ -1,4 +1,5 @@
-use Rattle.langtag_keyword.proofs.Common.{[], ap, sym, subst, arith, append-nil, length, HasText, with_subtag}
+use Rattle.std.proofs.lemmas.Bool.Decides.{nat_tests}
+use Rattle.langtag_keyword.proofs.Common.{[], sym, subst, arith, append-nil, HasText, with_subtag}
 use Rattle.langtag_keyword.proofs.AlphabetLaws.{byte-put, bytes-put}
 use Rattle.langtag_keyword.proofs.alphabet.push_lowercase.Goals as goal
 
@@ -12,7 +13,4 @@ loop-byte-preserved c = λ first text has.
     (c.push.ensures first _ (c.loop-byte.invariant first text has))
 
 pub returns : goal.returns
-returns c = λ first text has.
-    subst (HasText first c.loop-byte.out)
-    (bytes-put text c.args.subtag.now c.loop-byte.byte-index (omega (arith, c.loop-byte-test.false, ap length c.as_bytes-byte-items.ensures.value)))
-    (c.loop-byte.invariant first text has)
+returns c = grind (arith, nat_tests, bytes-put, c.loop-byte-test.false, c.loop-byte.invariant)

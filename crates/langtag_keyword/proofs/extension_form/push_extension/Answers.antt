@@ -1,12 +1,10 @@
-use Rattle.langtag_keyword.proofs.Common.{◌∷◌, [], true, false, refl, sym, ap, ◌∙◌, arith, pushes_joined, pushes_same, extension_flat, subtags, extension_form, transform_form, unicode_form}
+use Rattle.std.proofs.lemmas.Grind.{common_steps}
+use Rattle.langtag_keyword.proofs.Common.{◌∷◌, [], true, false, sym, ap, ◌∙◌, arith, pushes_joined, pushes_same, extension_flat, subtags, extension_form, transform_form}
 use Rattle.langtag_keyword.proofs.KeywordLaws.{form_tested}
 use Rattle.langtag_keyword.proofs.extension_form.push_extension.Goals as goal
 
 pub returns-then-is_first : goal.returns-then-is_first
-returns-then-is_first c = λ e spells.
-    let is = form_tested c.args.after_u c.args.after_t true _ e (sym (c.is_first.ensures e spells) ∙ c.if-is_first.true) refl in
-    pushes_same ((117 ∷ []) ∷ unicode_form (subtags c.subtags_of.result.now)) (extension_flat (extension_form c.args.after_u c.args.after_t e)) _ _
-    (ap (λ ss. (117 ∷ []) ∷ unicode_form ss) (c.subtags_of.ensures.subtags e spells) ∙ sym (ap extension_flat is)) c.push_unicode.ensures
+returns-then-is_first c = grind (arith, common_steps, form_tested, c.is_first.ensures, c.if-is_first.true, c.subtags_of.ensures.subtags, c.push_unicode.ensures)
 
 pub returns-then-is_first_transform : goal.returns-then-is_first_transform
 returns-then-is_first_transform c = λ e spells.

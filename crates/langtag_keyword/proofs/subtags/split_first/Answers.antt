@@ -1,11 +1,10 @@
+use Rattle.std.proofs.lemmas.Grind.{common_steps}
 use Rattle.langtag_keyword.proofs.Common.{◌≡◌, ◌-◌, ◌<◌, length, take, get_or, sym, subst, ap, ◌∙◌, arith, IsCharBoundary-after_ascii, NoHyphenWithin}
 use Rattle.langtag_keyword.proofs.SubtagTexts.{segments-cut, segments-whole}
 use Rattle.langtag_keyword.proofs.subtags.split_first.Goals as goal
 
 pub returns-then-end-text : goal.returns-then-end-text
-returns-then-end-text c =
-    segments-whole c.args.text.now c.segment_end-end.result (grind arith)
-    (subst (λ t. NoHyphenWithin t 0 c.segment_end-end.result) c.as_bytes.ensures.value c.segment_end-end.ensures.first)
+returns-then-end-text c = grind (arith, common_steps, segments-whole, c.segment_end-end.result, c.as_bytes.ensures.value)
 
 pub range_from-requires : goal.range_from-requires
 range_from-requires c _ =

@@ -1,3 +1,4 @@
+use Rattle.std.proofs.lemmas.Bool.Decides.{nat_tests}
 use Rattle.std.proofs.Common.{Some, arith, subst, sym, ◌∙◌}
 use Rattle.langtag.specs.Text.{lang_tag_text}
 use Rattle.langtag_likely.specs.ToPosix.{IsPosixName}
@@ -7,9 +8,7 @@ use Rattle.langtag_likely.proofs.locale_name.to_posix.Goals as goal
 
 pub unreachable-requires : goal.unreachable-requires
 unreachable-requires c =
-    let few = c.in-Some.ensures.few in
-    c.in-Err.ensures.cases.0 (utf8_name (lang_tag_text c.args.tag) _
-    (written_cut (λ name. IsPosixName (lang_tag_text c.args.tag) (Some name)) _ _ _ c.in-Some.ensures.written (omega (arith, few))))
+    grind (arith, nat_tests, c.in-Some.ensures.few, c.in-Err.ensures.cases.0, utf8_name (lang_tag_text c.args.tag), written_cut, c.in-Some.ensures.written)
 
 pub returns-clause-read_back : goal.returns-clause-read_back
 returns-clause-read_back c =

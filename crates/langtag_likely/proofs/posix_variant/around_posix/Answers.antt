@@ -1,4 +1,4 @@
-use Rattle.langtag_scan.proofs.Prelude.{◌≡◌, ◌≤◌, ◌∙◌, ◌-◌, sym, ap, subst, arith, codes, drop, length, take, true, take-length, length-drop, length-take-le}
+use Rattle.langtag_scan.proofs.Prelude.{◌≡◌, ◌≤◌, ◌∙◌, ◌-◌, sym, ap, subst, arith, codes, drop, length, take, true, take-length, length-drop, length-take-le, nat_tests}
 use Rattle.langtag_scan.proofs.Grammar.{are_alike, ends_of, Spells, IsNormal}
 use Rattle.langtag.specs.Text.{normal_lang_tag_text}
 use Rattle.langtag_likely.specs.Posix.{IsAroundPosix, is_posix_alone}
@@ -6,13 +6,10 @@ use Rattle.langtag_likely.proofs.PosixLaws.{alone, extensions_stay, others_stay,
 use Rattle.langtag_likely.proofs.posix_variant.around_posix.Goals as goal
 
 pub returns-then-ends : goal.returns-then-ends
-returns-then-ends c = λ r spells.
-    let ends = c.ends-ends.ensures r spells in
-    extensions_stay r (λ same. absurd (c.if-ends.true (ap (λ e. e.variants) ends ∙ same ∙ ap (λ e. e.extensions) (sym ends))))
+returns-then-ends c = grind (arith, nat_tests, c.ends-ends.ensures, extensions_stay, c.if-ends.true)
 
 pub returns-then-not-eq_str : goal.returns-then-not-eq_str
-returns-then-not-eq_str c = λ r spells.
-    others_stay r (sym (alone r.variants spells.0.variants) ∙ ap (λ t. are_alike t (codes "POSIX")) (sym (c.variants.ensures r spells)) ∙ sym c.eq_str.ensures.test ∙ c.if-not-eq_str.true)
+returns-then-not-eq_str c = grind (arith, nat_tests, others_stay, alone, c.variants.ensures, c.eq_str.ensures.test, c.if-not-eq_str.true)
 
 pub slice_bounds-result-count : goal.slice_bounds-result-count
 unfolding IsNormal

@@ -1,15 +1,13 @@
-use Rattle.std.proofs.Common.{None, Some, refl, sym, subst, ◌∙◌}
+use Rattle.std.proofs.lemmas.Bool.Decides.{nat_tests}
+use Rattle.std.proofs.Common.{None, Some, refl, ◌∙◌, arith}
 use Rattle.langtag.specs.Text.{lang_tag_buf_text, lang_tag_text}
-use Rattle.langtag_scan.specs.Tag.{IsTag}
 use Rattle.langtag_locale.proofs.IdentifierForms.{form_is}
 use Rattle.langtag_locale.proofs.LocaleRecords.{locale_tag}
 use Rattle.langtag_locale.proofs.WholeLaws.{whole-alike, whole-own}
 use Rattle.langtag_locale.proofs.canonical_locale.locale_form.Goals as goal
 
 pub tag_of-requires : goal.tag_of-requires
-tag_of-requires c =
-    let (r, spells, locale) = c.in-Some.ensures.is_locale in
-    subst IsTag (sym (c.in_ok-form_bytes.ensures r spells)) (locale_tag r spells.0 locale)
+tag_of-requires c = grind (arith, nat_tests, c.in-Some.ensures.is_locale, c.in_ok-form_bytes.ensures, locale_tag)
 
 pub returns : goal.returns
 returns c =

@@ -1,18 +1,17 @@
-use Rattle.langtag_keyword.proofs.Common.{◌++◌, [], sym, ap, subst, ◌∙◌, rules, flat_map, HasText, pushes_both, pushes_same, extension_flat, private_part_flat, each_from_test, is_variant, subtags}
-use Rattle.langtag.proofs.Definitions.{normal_lang_tag_text, variants_text}
+use Rattle.std.proofs.lemmas.Grind.{common_steps}
+use Rattle.std.proofs.Common.{arith}
+use Rattle.langtag_keyword.proofs.Common.{◌++◌, [], sym, ap, subst, ◌∙◌, rules, flat_map, HasText, pushes_both, pushes_same, extension_flat, private_part_flat, each_from_test}
+use Rattle.langtag.proofs.Definitions.{normal_lang_tag_text}
 use Rattle.langtag_likely.specs.Texts.{field_texts}
 use Rattle.langtag.proofs.PartRules.{variants_listed}
 use Rattle.langtag_locale.specs.LocaleForm.{extensions_in_order, identifier_form, new_variants, record_fields}
 use Rattle.langtag_unicode.specs.Identifier.{identifier_flat}
 use Rattle.langtag_locale.proofs.IdentifierForms.{locale_joined}
 use Rattle.langtag_locale.proofs.WholeLaws.{spelled_locale}
-use Rattle.langtag_unicode.proofs.IdentifierParts.{AreVariants}
 use Rattle.langtag_locale.proofs.canonical_locale.put_parts.Goals as goal
 
 pub push_identifier-requires : goal.push_identifier-requires
-push_identifier-requires c =
-    subst AreVariants (sym (c.nonempty.ensures.segments ∙ ap subtags c.as_str.ensures.same_text))
-    (each_from_test is_variant (subtags (variants_text c.variants.result)) c.variants.result.in_class)
+push_identifier-requires c = grind (arith, common_steps, c.nonempty.ensures.segments, each_from_test, c.variants.result.in_class)
 
 pub returns : goal.returns
 returns c = λ r spells.

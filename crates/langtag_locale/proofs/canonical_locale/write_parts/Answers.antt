@@ -1,3 +1,4 @@
+use Rattle.std.proofs.lemmas.Bool.Decides.{nat_tests}
 use Rattle.langtag_keyword.proofs.Common.{◌≡◌, ◌≤◌, ◌++◌, drop, length, take, refl, ap, ◌∙◌, arith, spell}
 use Rattle.std.proofs.Math.Seq.{take-append_seam}
 use Rattle.std.proofs.lemmas.Slice.{drop-append-drop}
@@ -30,11 +31,4 @@ returns c = λ r spells.
     }
 
 pub returns-then-len-buffer : goal.returns-then-len-buffer
-returns-then-len-buffer c = λ r spells.
-    let counted = (c.put_parts-len.ensures r spells).counted in
-    record {
-      text = locale_text r;
-      is_so = refl;
-      whole = omega (arith, counted, same_length r);
-      written = λ room. absurd (omega (arith, counted, same_length r, room, c.if-len-buffer.true, c.put_parts-len.auto.buffer));
-    }
+returns-then-len-buffer c = grind (arith, nat_tests, c.put_parts-len.ensures, same_length, c.if-len-buffer.true, c.put_parts-len.auto.buffer)

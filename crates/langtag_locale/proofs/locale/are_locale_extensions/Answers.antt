@@ -1,19 +1,12 @@
-use Rattle.langtag_keyword.proofs.Common.{true, false, refl, sym, ap, ◌∙◌, extension_text, extensions_left}
+use Rattle.std.proofs.lemmas.Bool.Decides.{nat_tests}
+use Rattle.std.proofs.Common.{arith}
+use Rattle.langtag_keyword.proofs.Common.{true, false, sym, ◌∙◌, extension_text, extensions_left}
 use Rattle.langtag_locale.proofs.LocaleRecords.{asked-first}
 use Rattle.langtag_keyword.proofs.ExtensionsPut.{left-none}
 use Rattle.langtag_locale.proofs.locale.are_locale_extensions.Goals as goal
 
 pub loop-extension-init : goal.loop-extension-init
-loop-extension-init c = record {
-  can_next = tt;
-  is_finite = tt;
-  so_far = λ es spells. record {
-    left = es;
-    spelled = ap extensions_left c.into_iter-extension-iterator.ensures.into_iter_gives ∙ c.iter-extension-items.ensures.list es spells;
-    members = spells.members;
-    holds = refl;
-  };
-}
+loop-extension-init c = grind (arith, nat_tests, c.iter-extension-items.ensures.list)
 
 pub loop-extension-preserved : goal.loop-extension-preserved
 loop-extension-preserved c = record {

@@ -1,4 +1,5 @@
-use Rattle.langtag_keyword.proofs.Common.{◌∷◌, [], true, false, refl, sym, ap, ◌∙◌, arith, pushes_joined, pushes_same, extension_flat, subtags, is_of, is_transform, unicode_form}
+use Rattle.std.proofs.lemmas.Bool.Decides.{nat_tests}
+use Rattle.langtag_keyword.proofs.Common.{◌∷◌, [], true, false, sym, ap, ◌∙◌, arith, pushes_joined, pushes_same, extension_flat, subtags, is_transform}
 use Rattle.langtag_locale.specs.LocaleForm.{locale_extension_form, locale_transform_form}
 use Rattle.langtag_locale.proofs.LocaleRecords.{locale_form_tested, transform_allowed}
 use Rattle.langtag_locale.proofs.locale_extensions.push_extension.Goals as goal
@@ -10,10 +11,7 @@ push_locale_transform-requires-clause-allowed c =
     ∙ transform_allowed e (sym (c.is_of.ensures e spells) ∙ c.if-is_of.false) (sym (c.is_of-2.ensures e spells) ∙ c.if-is_of-2.true) allowed
 
 pub returns-then-is_of : goal.returns-then-is_of
-returns-then-is_of c = λ e spells.
-    let is = locale_form_tested true (is_of 116 e) e (sym (c.is_of.ensures e spells) ∙ c.if-is_of.true) refl in
-    pushes_same ((117 ∷ []) ∷ unicode_form (subtags c.subtags_of.result.now)) (extension_flat (locale_extension_form e)) _ _
-    (ap (λ ss. (117 ∷ []) ∷ unicode_form ss) (c.subtags_of.ensures.subtags e spells) ∙ sym (ap extension_flat is)) c.push_unicode.ensures
+returns-then-is_of c = grind (arith, nat_tests, locale_form_tested, c.is_of.ensures, c.if-is_of.true, c.subtags_of.ensures.subtags, c.push_unicode.ensures)
 
 pub returns-then-is_of-2 : goal.returns-then-is_of-2
 returns-then-is_of-2 c = λ e spells.

@@ -1,4 +1,5 @@
-use Rattle.std.proofs.Common.{refl, sym, ◌∙◌}
+use Rattle.std.proofs.lemmas.Bool.Decides.{nat_tests}
+use Rattle.std.proofs.Common.{arith}
 use Rattle.langtag_scan.specs.Tag.{IsNormal}
 use Rattle.langtag_locale.proofs.locale_for.as_locale.Goals as goal
 
@@ -9,6 +10,4 @@ returns-in_err-normal-clause-none c = λ is locale. let found = c.in_err-normal.
 pub returns-clause-some : goal.returns-clause-some
 unfolding IsNormal
 returns-clause-some c =
-    let (r, spells) = c.in_ok-normal.ensures.kind.0 refl in
-    let here = spells.1 ∙ sym c.in_ok-normal.ensures.same_text in
-    (c.in_ok-normal.ensures.same_text, (r, spells, sym (c.is_locale_record.ensures r (spells.0, here)) ∙ c.if-not-is_locale_record.false))
+    grind (arith, nat_tests, c.in_ok-normal.ensures.kind.0, c.in_ok-normal.ensures.same_text, c.is_locale_record.ensures, c.if-not-is_locale_record.false)

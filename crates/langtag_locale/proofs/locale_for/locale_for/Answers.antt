@@ -1,3 +1,5 @@
+use Rattle.std.proofs.lemmas.Bool.Decides.{nat_tests}
+use Rattle.std.proofs.Common.{arith}
 use Rattle.langtag_keyword.proofs.Common.{Some, None, refl, sym, subst, ◌∙◌, false≢true}
 use Rattle.std.proofs.lemmas.Option.{IfSome_then}
 use Rattle.langtag.specs.Text.{lang_tag_text}
@@ -11,14 +13,10 @@ pub returns-in-Some-clause-form : goal.returns-in-Some-clause-form
 returns-in-Some-clause-form c = λ form of. own_form _ (Some form) c.in-Some.ensures.some.1 (subst (λ t. IsLocaleForm t (Some form)) c.in-Some.ensures.some.0 of)
 
 pub returns-in-Some-preferred_tag-clause-is_locale : goal.returns-in-Some-preferred_tag-clause-is_locale
-returns-in-Some-preferred_tag-clause-is_locale c =
-    IfSome_then c.as_locale-in-Some-preferred_tag.result c.as_locale-in-Some-preferred_tag.ensures.some (λ locale is. subst IsLocale (sym is.0) is.1)
+returns-in-Some-preferred_tag-clause-is_locale c = grind (arith, nat_tests)
 
 pub returns-in-Some-preferred_tag-clause-form : goal.returns-in-Some-preferred_tag-clause-form
-returns-in-Some-preferred_tag-clause-form c =
-    IfSome_then c.as_locale-in-Some-preferred_tag.result c.as_locale-in-Some-preferred_tag.ensures.some
-    (λ locale is form of.
-    value_form _ _ (Some form) (c.in_default.ensures.none refl) (sym c.in-Some-preferred_tag.ensures) (subst (λ t. IsLocaleForm t (Some form)) is.0 of))
+returns-in-Some-preferred_tag-clause-form c = grind (arith, nat_tests, value_form, c.in_default.ensures.none, c.in-Some-preferred_tag.ensures)
 
 pub returns-in-Some-preferred_tag-clause-none : goal.returns-in-Some-preferred_tag-clause-none
 returns-in-Some-preferred_tag-clause-none c = λ is.

@@ -1,5 +1,6 @@
-use Rattle.langtag_keyword.proofs.Common.{map, rules, sym, ap, subst, ◌∙◌, AllByRecursion, IsSubtag, of_variant, one_flat, segments_left, IsOffered, order_number}
-use Rattle.langtag.specs.Fields.{subtag_of}
+use Rattle.std.proofs.lemmas.Grind.{common_steps}
+use Rattle.std.proofs.Common.{arith}
+use Rattle.langtag_keyword.proofs.Common.{sym, ap, subst, ◌∙◌, IsSubtag, of_variant, segments_left, IsOffered, order_number}
 use Rattle.langtag_locale.specs.LocaleForm.{variant_form}
 use Rattle.langtag_locale.proofs.KeptVariants.{kept_number}
 use Rattle.langtag_locale.proofs.IdentifierForms.{variant_fits}
@@ -9,15 +10,10 @@ pub order_number-number-requires : goal.order_number-number-requires
 order_number-number-requires g c = subst IsSubtag (sym c.as_bytes.ensures.value) (of_variant c.args.variant.now c.requires)
 
 pub offer_changed-requires : goal.offer_changed-requires
-offer_changed-requires g c = (
-  search rules,
-  subst (λ form. AllByRecursion IsSubtag (one_flat (subtag_of form))) (sym c.variant_form.ensures)
-      (variant_fits c.args.language.now (segments_left c.args.variants) c.args.variant.now c.requires),
-)
+offer_changed-requires g c = grind (arith, common_steps, c.variant_form.ensures, variant_fits, c.args.variant.now)
 
 pub returns-then-may_change : goal.returns-then-may_change
-returns-then-may_change g c =
-    subst (λ form. IsOffered (map order_number (one_flat (subtag_of form))) c.args.least.now c.offer_changed.new.least) c.variant_form.ensures c.offer_changed.ensures
+returns-then-may_change g c = grind (arith, common_steps, c.args.least.now, c.variant_form.ensures)
 
 pub returns : goal.returns
 returns g c =

@@ -1,4 +1,6 @@
-use Rattle.langtag_keyword.proofs.Common.{◌≡◌, ◌∷◌, map, rules, sym, ap, subst, ◌∙◌, map-append, one_flat, segments_left, IsOffered, order_number}
+use Rattle.std.proofs.lemmas.Bool.Decides.{nat_tests}
+use Rattle.std.proofs.Common.{arith}
+use Rattle.langtag_keyword.proofs.Common.{◌≡◌, ◌∷◌, map, sym, ap, subst, ◌∙◌, map-append, one_flat, segments_left, IsOffered, order_number}
 use Rattle.langtag.specs.Fields.{subtag_of}
 use Rattle.langtag_keyword.proofs.LeastTexts.{offered-both, offered-none}
 use Rattle.langtag_unicode.proofs.IdentifierParts.{AreVariants}
@@ -6,9 +8,7 @@ use Rattle.langtag_locale.specs.LocaleForm.{forms, variant_form}
 use Rattle.langtag_locale.proofs.locale_variants.offer_forms.Goals as goal
 
 pub offer_form-requires : goal.offer_form-requires
-offer_form-requires g c =
-    let here = ap segments_left c.in-Some.is ∙ c.split_first.ensures in
-    (search rules, (subst AreVariants here c.loop-rest.invariant.each).0)
+offer_form-requires g c = grind (arith, nat_tests, c.split_first.ensures)
 
 pub loop-rest-preserved : goal.loop-rest-preserved
 loop-rest-preserved g c =

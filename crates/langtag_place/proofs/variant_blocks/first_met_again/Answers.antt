@@ -1,4 +1,4 @@
-use Rattle.langtag_scan.proofs.Prelude.{false, ◌&&◌, ◌==◌, [], ◌∷◌, ◌++◌, length, take, map, arith, sym, ap, subst, ◌∙◌, rules, list_any, get_or-replicate, length-replicate}
+use Rattle.langtag_scan.proofs.Prelude.{◌&&◌, ◌==◌, [], ◌∷◌, ◌++◌, length, take, map, arith, sym, ap, subst, ◌∙◌, list_any, get_or-replicate, length-replicate, common_steps}
 use Rattle.langtag_scan.proofs.Grammar.{subtags, folded_number}
 use Rattle.langtag_place.specs.Text.{variant_text, variants_text}
 use Rattle.langtag_place.specs.VariantBlocks.{AreMet}
@@ -6,18 +6,7 @@ use Rattle.langtag_place.proofs.RepeatLaws.{numbers-more, new-here, met-again, r
 use Rattle.langtag_place.proofs.variant_blocks.first_met_again.Goals as goal
 
 pub loop-index-init : goal.loop-index-init
-loop-index-init g c =
-    let room = c.requires.room in
-    record {
-      can_next = tt;
-      is_finite = tt;
-      counter = search rules;
-      within = omega arith;
-      flags = length-replicate g.row.BLOCK false;
-      met = λ place first. let inside = first.0 in get_or-replicate g.row.BLOCK place false false (omega (arith, room, inside));
-      new = λ i below. absurd (omega arith);
-      left = sym c.iter-variant-items.ensures.list;
-    }
+loop-index-init g c = grind (arith, common_steps, c.requires.room, length-replicate, get_or-replicate, c.iter-variant-items.ensures.list)
 
 pub returns-then-meet : goal.returns-then-meet
 returns-then-meet g c =

@@ -1,4 +1,4 @@
-use Rattle.langtag_scan.proofs.Prelude.{◌≡◌, Some, List, ℕ, refl, sym, ◌∙◌, both_ways}
+use Rattle.langtag_scan.proofs.Prelude.{◌≡◌, Some, List, ℕ, refl, sym, ◌∙◌, both_ways, arith, nat_tests}
 use Rattle.langtag_scan.proofs.Grammar.{Spells, IsNormal}
 use Rattle.langtag.proofs.Definitions.{IsGrandfathered, lang_tag_text, normal_lang_tag_text}
 use Rattle.langtag_registry.specs.Canonical.{IsCanonicalForm, canonical_text}
@@ -10,9 +10,7 @@ whole_form : (old new : List ℕ) → preferred_tag old ≡ Some new → IsCanon
 whole_form old new is = record { whole = λ w also. cc; kept = λ none why. absurd cc; parts = λ none other r spells. absurd cc }
 
 pub returns-in-Some : goal.returns-in-Some
-returns-in-Some c =
-    let is = sym (rw c.in-Some.is at c.preferred_tag.ensures) in
-    record { form = whole_form _ (lang_tag_text c.in-Some.preferred) is; same = λ own. absurd (preferred_goes _ (lang_tag_text c.in-Some.preferred) is own) }
+returns-in-Some c = grind (arith, nat_tests, c.in-Some.is, whole_form, preferred_goes)
 
 pub returns : goal.returns
 unfolding IsNormal

@@ -1,9 +1,9 @@
-use Rattle.langtag_scan.proofs.Prelude.{[], ◌∷◌, ◌++◌, take, get_or, subst, false≢true, ap, sym, ◌∙◌, arith, IsCharBoundary-from_ascii, common_steps}
+use Rattle.langtag_scan.proofs.Prelude.{[], ◌∷◌, ◌++◌, take, get_or, subst, false≢true, ap, sym, ◌∙◌, arith, IsCharBoundary-from_ascii, common_steps, nat_tests}
 use Rattle.langtag_scan.proofs.Ascii.{IsAscii-normal}
 use Rattle.langtag_place.specs.Text.{variant_text}
 use Rattle.langtag_scan.proofs.Grammar.{Spells, spell}
 use Rattle.langtag_range.specs.Extended.{test_extended}
-use Rattle.langtag_registry.specs.Matching.{AreMatching, prefixes}
+use Rattle.langtag_registry.specs.Matching.{prefixes}
 use Rattle.langtag_registry.specs.Prefix.{fits_after}
 use Rattle.langtag.proofs.PartRules.{variants_listed}
 use Rattle.langtag_registry.proofs.MisplacedLaws.{walk_first, end_within, walk_stopped, walk_later, walk_ended, some_record, take_sliced, text_later, test_extended-more, unmarked}
@@ -21,8 +21,7 @@ pub range-requires-clause-end_boundary : goal.range-requires-clause-end_boundary
 range-requires-clause-end_boundary c = grind (arith, common_steps, some_record, end_within, IsCharBoundary-from_ascii, IsAscii-normal)
 
 pub fits_after-requires : goal.fits_after-requires
-fits_after-requires c =
-    subst (AreMatching c.loop-variant.matching) (take_sliced _ _ _ _ (sym c.as_str.ensures.same_text) c.range.ensures.value) c.loop-variant.invariant.matching
+fits_after-requires c = grind (arith, nat_tests, take_sliced, c.as_str.ensures.same_text, c.range.ensures.value, c.loop-variant.invariant.matching)
 
 pub returns-then-not-fits_after : goal.returns-then-not-fits_after
 returns-then-not-fits_after c = λ r spells.

@@ -1,4 +1,4 @@
-use Rattle.langtag_scan.proofs.Prelude.{◌+◌, ◌*◌, arith, refl, common_steps}
+use Rattle.langtag_scan.proofs.Prelude.{◌+◌, ◌*◌, arith, refl, nat_tests}
 use Rattle.std.proofs.lemmas.List.Sums.{fold_more}
 use Rattle.langtag_scan.specs.Case.{folded_number}
 use Rattle.langtag_scan.proofs.FoldedNumbers.{digit_fits, fits_64, folded_number-tells}
@@ -21,8 +21,7 @@ overflow_add-number c =
 
 pub loop-byte-preserved : goal.loop-byte-preserved
 unfolding folded_number
-loop-byte-preserved c =
-    grind (arith, common_steps, fold_more, digit_fits c.loop-byte.number c.loop-byte.byte-index c.from.result c.loop-byte.invariant.digits)
+loop-byte-preserved c = grind (arith, nat_tests, fold_more, digit_fits c.loop-byte.number c.loop-byte.byte-index c.from.result c.loop-byte.invariant.digits)
 
 pub returns-clause-tells : goal.returns-clause-tells
 returns-clause-tells c = folded_number-tells

@@ -1,4 +1,5 @@
-use Rattle.std.proofs.Common.{refl, sym}
+use Rattle.std.proofs.lemmas.Bool.Decides.{nat_tests}
+use Rattle.std.proofs.Common.{refl, arith}
 use Rattle.langtag_scan.specs.Tag.{IsNormal}
 use Rattle.langtag_span.proofs.extension_walk.extension_subtags.Goals as goal
 
@@ -8,6 +9,4 @@ returns-in_default-clause-subtags c = record { part = λ r spells. absurd (c.in_
 
 pub find_extension-requires-clause-extensions : goal.find_extension-requires-clause-extensions
 unfolding IsNormal
-find_extension-requires-clause-extensions c =
-    let (r, spells) = c.in-Some.ensures.normal in
-    (r.extensions, record { members = spells.0.extensions; joined = sym (c.in-Some.ensures.text r spells) })
+find_extension-requires-clause-extensions c = grind (arith, nat_tests, c.in-Some.ensures.normal, c.in-Some.ensures.text)

@@ -1,7 +1,8 @@
+use Rattle.langtag_scan.proofs.Prelude.{cases_lt}
 use Rattle.langtag_keyword.proofs.Common.{refl, sym, subst, ap, ◌∙◌, arith, nat_tests, extension_texts, subtags}
 use Rattle.std.proofs.Common.{eq-eqb, ne_eqb}
 use Rattle.langtag_span.specs.Spans.{end_of, span_text}
-use Rattle.langtag_span.proofs.FoundExtension.{after-singleton, extension-step, no-bytes, opens-text, subtags-first, subtags-none, without-singleton}
+use Rattle.langtag_span.proofs.FoundExtension.{after-singleton, extension-step, opens-text, subtags-first, subtags-none, without-singleton}
 use Rattle.langtag_span.proofs.ExtensionSpans.{AreSubtags}
 use Rattle.langtag_span.proofs.extension_walk.find_extension.Goals as goal
 
@@ -53,4 +54,4 @@ loop-part-preserved c =
     }
 
 pub returns-clause-subtags : goal.returns-clause-subtags
-returns-clause-subtags c es spells = grind (arith, nat_tests, subtags-none, no-bytes)
+returns-clause-subtags c es spells = grind (arith, nat_tests, subtags-none, cases_lt)

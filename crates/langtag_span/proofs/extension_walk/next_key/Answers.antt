@@ -1,24 +1,16 @@
-use Rattle.langtag_keyword.proofs.Common.{◌≡◌, ◌≤◌, true, false, not, ◌&&◌, [], ◌∷◌, ◌++◌, take, refl, ap, sym, subst, ◌∙◌, arith, length-drop, nat_tests, HasKeys, opens_keyword, is_new_key, keywords_after}
+use Rattle.langtag_keyword.proofs.Common.{◌≡◌, ◌≤◌, true, false, not, ◌&&◌, [], ◌∷◌, ◌++◌, take, ap, sym, subst, ◌∙◌, arith, length-drop, nat_tests, HasKeys, opens_keyword, is_new_key, keywords_after}
 use Rattle.std.proofs.Math.Bool.{and-false}
 use Rattle.langtag_keyword.specs.KeySets.{has_key}
 use Rattle.langtag_keyword.proofs.KeySetLaws.{is_new-met, met-more, met-none}
 use Rattle.langtag_keyword.proofs.SubtagTexts.{keywords-new, take-turn}
-use Rattle.langtag_span.specs.Keywords.{keywords_from, subtags_in}
+use Rattle.langtag_span.specs.Keywords.{subtags_in}
 use Rattle.langtag_span.specs.Spans.{span_text}
 use Rattle.langtag_span.proofs.ExtensionSpans.{AreSubtags, drop-next, keywords-step, length-subtags_in}
 use Rattle.langtag_span.proofs.extension_walk.next_key.Goals.{else-count-passed-via-then-count-passed+then-has+else-is_new, else-count-passed-via-then-count-passed+else-has, else-count-passed-via-else-count-passed}
 use Rattle.langtag_span.proofs.extension_walk.next_key.Goals as goal
 
 pub loop-key-init : goal.loop-key-init
-loop-key-init c =
-    let all = subtags_in c.args.bytes.now c.args.subtags in
-    record {
-      some = c.requires;
-      left = refl;
-      met = met-none _ c.new-met.ensures;
-      same = λ few. let none : 0 ≡ c.args.passed.now = omega (arith, few) in ap (keywords_from (opens_keyword c.args.keys) all) none;
-      kept = refl;
-    }
+loop-key-init c = grind (arith, nat_tests, c.requires, met-none, c.new-met.ensures)
 
 pub insert-is_new-requires : goal.insert-is_new-requires
 insert-is_new-requires c = (subst AreSubtags c.in-Some.ensures.subtags c.loop-key.invariant.some.some).0

@@ -1,6 +1,7 @@
-use Rattle.langtag_keyword.proofs.Common.{drop, [], IsTrue, sym, ap, subst, ◌∙◌, subtags}
+use Rattle.std.proofs.lemmas.Bool.Decides.{nat_tests}
+use Rattle.std.proofs.Common.{arith}
+use Rattle.langtag_keyword.proofs.Common.{drop, [], sym, ap, ◌∙◌, subtags}
 use Rattle.langtag_extension.proofs.ExtensionLookUp.{subtags_found}
-use Rattle.langtag_extension.specs.Decided.{are_extension_subtags}
 use Rattle.langtag_keyword.proofs.KeySetLaws.{after-singleton-fits}
 use Rattle.langtag_keyword.proofs.SubtagTexts.{subtags-after_singleton, boundary-after_singleton}
 use Rattle.langtag_unicode.proofs.extension_text.extension_text.Goals as goal
@@ -19,5 +20,4 @@ returns-in-Some-clause-subtags c = record {
 }
 
 pub returns-in-Some-clause-in_class : goal.returns-in-Some-clause-in_class
-returns-in-Some-clause-in_class c =
-    subst (λ text. IsTrue (are_extension_subtags (subtags text))) (sym c.range_from.ensures.value) (after-singleton-fits _ c.as_str.ensures.in_class)
+returns-in-Some-clause-in_class c = grind (arith, nat_tests, c.range_from.ensures.value, after-singleton-fits, c.as_str.ensures.in_class)

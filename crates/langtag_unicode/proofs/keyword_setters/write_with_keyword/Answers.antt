@@ -1,4 +1,4 @@
-use Rattle.langtag_scan.proofs.Prelude.{arith, IfOk-weaker}
+use Rattle.langtag_scan.proofs.Prelude.{arith, nat_tests}
 use Rattle.langtag.specs.Text.{lang_tag_text}
 use Rattle.langtag_unicode.proofs.KeywordSizes.{set_bounded}
 use Rattle.langtag_unicode.proofs.keyword_setters.write_with_keyword.Goals as goal
@@ -7,6 +7,4 @@ pub returns-clause-set : goal.returns-clause-set
 returns-clause-set c = λ room. c.write_edited.ensures.written (λ new is. let most = set_bounded c.args.key.now c.args.value.now (lang_tag_text c.args.tag) new is in omega (arith, most, room))
 
 pub returns-clause-bounded : goal.returns-clause-bounded
-returns-clause-bounded c = λ room.
-    IfOk-weaker c.write_edited.result _ _ (λ len w. let most = set_bounded c.args.key.now c.args.value.now (lang_tag_text c.args.tag) w.text w.is_so in omega (arith, most, w.whole))
-    (c.write_edited.ensures.written (λ new is. let most = set_bounded c.args.key.now c.args.value.now (lang_tag_text c.args.tag) new is in omega (arith, most, room)))
+returns-clause-bounded c = grind (arith, nat_tests, set_bounded c.args.key.now c.args.value.now (lang_tag_text c.args.tag), c.write_edited.ensures.written)

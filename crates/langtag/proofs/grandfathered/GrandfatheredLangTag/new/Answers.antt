@@ -1,4 +1,4 @@
-use Rattle.langtag_scan.proofs.Prelude.{arith, ◌∙◌, common_steps}
+use Rattle.langtag_scan.proofs.Prelude.{arith, common_steps}
 use Rattle.langtag.specs.Registered.{IsGrandfathered}
 use Rattle.langtag.proofs.OrderLaws.{tags_compare}
 use Rattle.langtag.proofs.RegisteredLaws.{first_alike_found, grandfathered_tag, listed, none_alike, one_index}

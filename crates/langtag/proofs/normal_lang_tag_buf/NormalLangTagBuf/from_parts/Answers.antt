@@ -1,4 +1,4 @@
-use Rattle.langtag_scan.proofs.Prelude.{◌≤◌, arith, common_steps}
+use Rattle.langtag_scan.proofs.Prelude.{arith, common_steps}
 use Rattle.langtag.proofs.EditLaws.{is_region-member, is_script-member, made_of_parts, short_region, short_script}
 use Rattle.langtag.proofs.normal_lang_tag_buf.NormalLangTagBuf.from_parts.Goals as goal
 
