@@ -28,8 +28,8 @@ build() {
 # Some functions are not counted here. canonical calls singletons_of. bindings/c counts functions
 # that the C library also calls: is_canonical, write_canonical, and fault_at, which does all the work of validate; for tags eq_str,
 # cmp and repeated_singleton_index.
-for name in $(sed -n 's/^pub fn \([a-z_]*\).*/\1/p' "$here"/../crates/langtag_registry/src/*.rt | grep -vx 'singletons_of\|fault_at\|validate\|is_canonical\|write_canonical'); do
-    grep -qw "$name" "$crate"/src/*.rt || { echo "growth: no entry calls $name of langtag_registry"; exit 1; }
+for name in $(sed -n 's/^pub fn \([a-z_]*\).*/\1/p' "$here"/../crates/langtag_{validity,canonical}/src/*.rt | grep -vx 'singletons_of\|fault_at\|validate\|is_canonical\|write_canonical'); do
+    grep -qw "$name" "$crate"/src/*.rt || { echo "growth: no entry calls $name, which langtag_registry exports"; exit 1; }
 done
 
 # with PARAMETER FILE..: prints the public functions of sources that have a parameter.

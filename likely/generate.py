@@ -1,5 +1,5 @@
 #!/usr/bin/env python3
-"""Writes the tables and the lists of the crates langtag_likely, langtag_parent and langtag_choice from Unicode's CLDR. Its likely
+"""Writes the tables and the lists of the crates langtag_cldr, langtag_parent and langtag_distance from Unicode's CLDR. Its likely
 subtags, its parent locales and its data for language matching are in data/ (from_cldr.py writes them).
 
 usage: generate.py                        writes them from the data whose checksums are in data.sha256
@@ -269,7 +269,7 @@ def alias_lists(matching):
         f"-- The deprecated languages and regions of Unicode's CLDR {version()} (the notice: likely/LICENSE-UNICODE). Written by likely/generate.py. Do not edit.\n"
         "use Rattle.std.specs.Prelude.{[], ◌∷◌, List, codes}\nuse Rattle.std.specs.List.{flat_map}\n"
         "use Rattle.langtag_tables.specs.Words.{words}\n"
-        "use Rattle.langtag_likely.specs.Likely.{Likely, likely_of_fields}\n",
+        "use Rattle.langtag_cldr.specs.Likely.{Likely, likely_of_fields}\n",
         word_list("language_aliases", "the languages that are replaced, each with its replacement: language, script and region", "Likely", "likely_of_fields",
                   [[fields(row[0], "", "", *row[1:])] for row in matching.aliases]),
         word_list("region_aliases", "the regions that are replaced, including codes of three digits, each with the first of its replacements", "Likely", "likely_of_fields",
@@ -284,7 +284,7 @@ def matching_lists(matching):
         f"-- The rules of language matching of Unicode's CLDR {version()} (the notice: likely/LICENSE-UNICODE). Written by likely/generate.py. Do not edit.\n"
         "use Rattle.std.specs.Prelude.{ℕ, [], ◌∷◌, List, codes}\nuse Rattle.std.specs.List.{flat_map}\n"
         "use Rattle.langtag_tables.specs.Words.{words}\n"
-        "use Rattle.langtag_choice.specs.Rules.{Rule, rules_of_languages, rules_of_scripts}\n",
+        "use Rattle.langtag_distance.specs.Rules.{Rule, rules_of_languages, rules_of_scripts}\n",
         word_list("language_rules", "the rules for languages: a desired language, a supported language, and their distance. A rule that holds in both directions is listed twice", "Rule", "rules_of_languages",
                   [[row[0], row[1], in_ones(row[2])] for row in matching.languages]),
         word_list("script_rules", "the rules for scripts: a desired language with its script, a supported language with its script, and the distance of the scripts. A rule that holds in both directions is listed twice", "Rule",
@@ -315,7 +315,7 @@ def likely_lists(likely):
         f"-- The likely subtags of Unicode's CLDR {version()} (the notice: likely/LICENSE-UNICODE). Written by likely/generate.py. Do not edit.\n"
         "use Rattle.std.specs.Prelude.{[], ◌∷◌, ◌++◌, List, codes}\nuse Rattle.std.specs.List.{flat_map}\n"
         "use Rattle.langtag_tables.specs.Words.{words}\n"
-        "use Rattle.langtag_likely.specs.Likely.{Likely, likely_of_languages, likely_of_fields}\n",
+        "use Rattle.langtag_cldr.specs.Likely.{Likely, likely_of_languages, likely_of_fields}\n",
         likely_list("language_rows", "the rows whose left side is only a language: this language, and its likely script and region", "likely_of_languages",
                     [(row[0], row[4], row[5]) for row in likely.of_languages]),
         likely_list("other_rows", "the rows whose left side is not only a language: language, script and region of the left side, and then of the right side", "likely_of_fields", likely.others),
@@ -345,7 +345,7 @@ def module_version():
 
 def written(crates, likely, matching, parents):
     """Returns the files that are made from the data: the path and the text of each."""
-    subtags, choice, parent = crates / "langtag_likely", crates / "langtag_choice", crates / "langtag_parent"
+    subtags, choice, parent = crates / "langtag_cldr", crates / "langtag_distance", crates / "langtag_parent"
     return {subtags / "src/tables.rt": tables(likely), subtags / "src/alias_tables.rt": alias_tables(matching),
             subtags / "specs/LikelySubtags.antt": likely_lists(likely), subtags / "specs/Aliases.antt": alias_lists(matching),
             subtags / "specs/RightToLeft.antt": script_list(), subtags / "specs/Scripts.antt": code_list(likely), choice / "src/matching_tables.rt": matching_tables(matching),

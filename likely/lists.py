@@ -7,8 +7,8 @@ from pathlib import Path
 
 import oracle
 
-PAGES = ["langtag_likely/specs/LikelySubtags", "langtag_likely/specs/Aliases", "langtag_likely/specs/RightToLeft", "langtag_likely/specs/Scripts", "langtag_choice/specs/MatchingData",
-         "langtag_choice/specs/Nearness", "langtag_parent/specs/ParentLocales"]
+PAGES = ["langtag_cldr/specs/LikelySubtags", "langtag_cldr/specs/Aliases", "langtag_cldr/specs/RightToLeft", "langtag_cldr/specs/Scripts", "langtag_distance/specs/MatchingData",
+         "langtag_distance/specs/Nearness", "langtag_parent/specs/ParentLocales"]
 
 # The number of words in a row of a list. It is one for a list that is not named here.
 WIDTH = {"language_rows": 3, "other_rows": 6, "language_aliases": 6, "region_aliases": 6, "region_replacements": 6, "language_rules": 3, "script_rules": 5, "is_paradigm": 2, "parent_locales": 2}

@@ -14,10 +14,10 @@ import generate
 import lists
 import matching
 
-WRITTEN = ["langtag_likely/src/tables.rt", "langtag_likely/src/alias_tables.rt", "langtag_likely/specs/LikelySubtags.antt", "langtag_likely/specs/Aliases.antt",
-           "langtag_likely/specs/RightToLeft.antt", "langtag_likely/specs/Scripts.antt", "langtag_parent/src/tables.rt", "langtag_parent/specs/ParentLocales.antt",
-           "langtag_choice/src/matching_tables.rt", "langtag_choice/specs/MatchingData.antt"]
-BY_HAND = ["langtag_choice/specs/Nearness.antt"]
+WRITTEN = ["langtag_cldr/src/tables.rt", "langtag_cldr/src/alias_tables.rt", "langtag_cldr/specs/LikelySubtags.antt", "langtag_cldr/specs/Aliases.antt",
+           "langtag_cldr/specs/RightToLeft.antt", "langtag_cldr/specs/Scripts.antt", "langtag_parent/src/tables.rt", "langtag_parent/specs/ParentLocales.antt",
+           "langtag_distance/src/matching_tables.rt", "langtag_distance/specs/MatchingData.antt"]
+BY_HAND = ["langtag_distance/specs/Nearness.antt"]
 
 
 class Generating(unittest.TestCase):
@@ -91,8 +91,8 @@ class Generating(unittest.TestCase):
         self.edit("right-to-left.txt", "\nHebr\n", "\nHebr\nZxyz\n")
         self.assert_refused("--accept takes newer ones")
         self.assertEqual(self.run_with("--accept"), (False, []))
-        self.assertIn('CLDR_VERSION: &str = "99.1"', (self.crates / "langtag_likely/src/tables.rt").read_text(encoding="utf-8"))
-        self.assertIn("CLDR 99.1", (self.crates / "langtag_likely/specs/LikelySubtags.antt").read_text(encoding="utf-8"))
+        self.assertIn('CLDR_VERSION: &str = "99.1"', (self.crates / "langtag_cldr/src/tables.rt").read_text(encoding="utf-8"))
+        self.assertIn("CLDR 99.1", (self.crates / "langtag_cldr/specs/LikelySubtags.antt").read_text(encoding="utf-8"))
         self.assertIn("CLDR_VERSION = 99.1\n", generate.MODULE.read_text(encoding="utf-8"))
         self.assertEqual(self.run_with(), (False, []))
         # lists.py reads the current data, and only these data are different
@@ -149,15 +149,15 @@ class Generating(unittest.TestCase):
 
     def test_what_a_file_loses(self):
         for name, old, new, told in (
-            ("langtag_likely/src/tables.rt", "0x", "0X", ["differs: langtag_likely/src/tables.rt"]),
-            ("langtag_choice/src/matching_tables.rt", "0x", "0X", ["differs: langtag_choice/src/matching_tables.rt"]),
-            ("langtag_likely/specs/LikelySubtags.antt", "ab Cyrl GE ", "", ["differs: langtag_likely/specs/Likely", "language_rows: differs"]),
-            ("langtag_likely/specs/LikelySubtags.antt", "- - AD ca Latn AD", "- - AD es Latn AD", ["differs: langtag_likely/specs/Likely", "other_rows: differs"]),
-            ("langtag_likely/specs/Aliases.antt", "- - AN - - CW ", "", ["differs: langtag_likely/specs/Aliases", "region_aliases: differs"]),
-            ("langtag_choice/specs/MatchingData.antt", "da nb 8 ", "", ["differs: langtag_choice/specs/MatchingData", "language_rules: differs"]),
-            ("langtag_likely/specs/RightToLeft.antt", "Hebr ", "", ["differs: langtag_likely/specs/Right", "right_to_left_scripts: differs"]),
-            ("langtag_likely/specs/RightToLeft.antt", "right_to_left_scripts =", "scripts =", ["differs: langtag_likely/specs/Right", "right_to_left_scripts: not on", "scripts: not read"]),
-            ("langtag_choice/specs/Nearness.antt", "\"419\"", "\"MX\"", ["is_paradigm: differs"]),
+            ("langtag_cldr/src/tables.rt", "0x", "0X", ["differs: langtag_cldr/src/tables.rt"]),
+            ("langtag_distance/src/matching_tables.rt", "0x", "0X", ["differs: langtag_distance/src/matching_tables.rt"]),
+            ("langtag_cldr/specs/LikelySubtags.antt", "ab Cyrl GE ", "", ["differs: langtag_cldr/specs/Likely", "language_rows: differs"]),
+            ("langtag_cldr/specs/LikelySubtags.antt", "- - AD ca Latn AD", "- - AD es Latn AD", ["differs: langtag_cldr/specs/Likely", "other_rows: differs"]),
+            ("langtag_cldr/specs/Aliases.antt", "- - AN - - CW ", "", ["differs: langtag_cldr/specs/Aliases", "region_aliases: differs"]),
+            ("langtag_distance/specs/MatchingData.antt", "da nb 8 ", "", ["differs: langtag_distance/specs/MatchingData", "language_rules: differs"]),
+            ("langtag_cldr/specs/RightToLeft.antt", "Hebr ", "", ["differs: langtag_cldr/specs/Right", "right_to_left_scripts: differs"]),
+            ("langtag_cldr/specs/RightToLeft.antt", "right_to_left_scripts =", "scripts =", ["differs: langtag_cldr/specs/Right", "right_to_left_scripts: not on", "scripts: not read"]),
+            ("langtag_distance/specs/Nearness.antt", "\"419\"", "\"MX\"", ["is_paradigm: differs"]),
         ):
             with self.subTest(name=name, new=new):
                 self.put(name, old, new)

@@ -208,7 +208,7 @@ class Generating(unittest.TestCase):
 
     def test_length(self):
         """The premises have the same length as the code."""
-        code = (generate.ROOT / "crates/langtag_registry/src/canonical_form.rt").read_text(encoding="utf-8")
+        code = (generate.ROOT / "crates/langtag_canonical/src/canonical_form.rt").read_text(encoding="utf-8")
         self.assertIn(f"const LONGEST_REPLACED: usize = {premises.LONGEST_REPLACED};", code)
 
     def test_unreadable(self):

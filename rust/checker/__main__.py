@@ -63,7 +63,7 @@ class Checker:
         new = without_derives(without_marks(words_of(path.read_text(encoding="utf-8")), counts), old, counts)
         old, imported = without_imports(old)
         if source.name == "lib.rt" and crate in SHOWING:
-            shown = self.shown_by(SHOWING[crate])
+            shown = set().union(*map(self.shown_by, SHOWING[crate]))
             imported |= shown
             counts["shown elsewhere"] += len(shown)
         new, imports = without_imports(new)

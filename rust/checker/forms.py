@@ -15,11 +15,17 @@ CRATES = {
     "langtag_private": "private",
     "langtag": "tag",
     "langtag_range": "range",
+    "langtag_header": "header",
     "langtag_match": "matching",
     "langtag_fields": "fields",
+    "langtag_validity": "validity",
+    "langtag_canonical": "canonical",
     "langtag_registry": "registry",
+    "langtag_cldr": "cldr",
     "langtag_likely": "likely",
+    "langtag_posix": "posix",
     "langtag_parent": "parent",
+    "langtag_distance": "distance",
     "langtag_choice": "choice",
     "langtag_keyword": "keyword",
     "langtag_unicode": "unicode",
@@ -32,8 +38,8 @@ MADE = "erased"
 ELSEWHERE = {"langtag_span": "../c/src", "langtag_c": "../c/src"}
 # The folders with other files: the program, and the list of the modules.
 BY_HAND = ["bin", "bin/langtag", "erased", "names"]
-# The modules that also export what another crate exports.
-SHOWING = {"langtag_unicode": "langtag_locale", "langtag_likely": "langtag_parent"}
+# The modules that also export what other crates export.
+SHOWING = {"langtag_unicode": ["langtag_locale"], "langtag_likely": ["langtag_posix", "langtag_parent"]}
 # The error whose message ends with a suggestion, which is written by hand.
 SUGGESTING = "InvalidSubtag"
 # The errors whose message ends with the refused text, which src/message.rs writes: all whose parameter is a text. That of

@@ -20,11 +20,17 @@ MODULES = [
     Module("langtag_private", "src/erased/private", "crate::erased::private"),
     Module("langtag", "src/erased/tag", "crate::erased::tag"),
     Module("langtag_range", "src/erased/range", "crate::erased::range"),
+    Module("langtag_header", "src/erased/header", "crate::erased::header"),
     Module("langtag_match", "src/erased/matching", "crate::erased::matching"),
     Module("langtag_fields", "src/erased/fields", "crate::erased::fields"),
+    Module("langtag_validity", "src/erased/validity", "crate::erased::validity"),
+    Module("langtag_canonical", "src/erased/canonical", "crate::erased::canonical"),
     Module("langtag_registry", "src/erased/registry", "crate::erased::registry"),
+    Module("langtag_cldr", "src/erased/cldr", "crate::erased::cldr"),
     Module("langtag_likely", "src/erased/likely", "crate::erased::likely"),
+    Module("langtag_posix", "src/erased/posix", "crate::erased::posix"),
     Module("langtag_parent", "src/erased/parent", "crate::erased::parent"),
+    Module("langtag_distance", "src/erased/distance", "crate::erased::distance"),
     Module("langtag_choice", "src/erased/choice", "crate::erased::choice"),
     Module("langtag_keyword", "src/erased/keyword", "crate::erased::keyword"),
     Module("langtag_unicode", "src/erased/unicode", "crate::erased::unicode"),
@@ -40,11 +46,17 @@ PUBLIC = {"scan", "matching", "registry", "likely", "choice", "unicode"}
 
 # The crates whose public items users find in the module of another crate. For SHOWN_IN, the exports are added to that module. For
 # EXPORTED_BY, the other Rattle crate has them.
-SHOWN_IN = {"langtag_locale": "langtag_unicode", "langtag_parent": "langtag_likely"}
-EXPORTED_BY = {"langtag_keyword": "langtag_unicode", "langtag_case": "langtag_scan", "langtag_fields": "langtag_registry"}
+SHOWN_IN = {"langtag_locale": "langtag_unicode", "langtag_posix": "langtag_likely", "langtag_parent": "langtag_likely"}
+EXPORTED_BY = {
+    "langtag_keyword": "langtag_unicode", "langtag_case": "langtag_scan", "langtag_header": "langtag_match", "langtag_fields": "langtag_registry",
+    "langtag_validity": "langtag_registry", "langtag_canonical": "langtag_registry", "langtag_cldr": "langtag_likely", "langtag_distance": "langtag_choice",
+}
 
 # The crates whose modules need the feature `data`, and those of the C library. In a module of another crate every function is inlined.
-WITH_DATA = {"langtag_fields", "langtag_registry", "langtag_likely", "langtag_parent", "langtag_choice", "langtag_keyword", "langtag_unicode", "langtag_locale"}
+WITH_DATA = {
+    "langtag_fields", "langtag_validity", "langtag_canonical", "langtag_registry", "langtag_cldr", "langtag_likely", "langtag_posix", "langtag_parent", "langtag_distance", "langtag_choice",
+    "langtag_keyword", "langtag_unicode", "langtag_locale",
+}
 OF_C = {"langtag_span", "langtag_c"}
 
 

@@ -34,9 +34,10 @@ def items(code, place, end):
 
 
 def names(code, start, end):
-    """Returns the names in some code, except those of methods and fields."""
+    """Returns the names in some code, except those of methods, fields, and modules on the path of an import."""
     is_name = lambda at: code.tokens[at].kind == "word" and code[at - 1] != "." and not code.at(at - 3, "mem", ":", ":")
-    return {code[at] for at in range(start, end) if is_name(at)}
+    is_import = code[start] == "use"
+    return {code[at] for at in range(start, end) if is_name(at) and not (is_import and code.at(at + 1, ":", ":"))}
 
 
 def parts(code, owning):

@@ -13,7 +13,7 @@
 //! # }
 //! # Ok::<(), Box<dyn std::error::Error>>(())
 //! ```
-use crate::erased::likely;
+use crate::erased::{likely, posix};
 use crate::too_short::written;
 #[cfg(feature = "alloc")]
 use crate::{memory::or_abort, AllocError, LangTagBuf};
@@ -22,9 +22,10 @@ use crate::{LangTag, TooShort};
 use alloc::string::String;
 
 #[cfg(feature = "alloc")]
-pub use crate::erased::likely::{from_posix, PosixError};
-pub use crate::erased::likely::{unknown_modifier, CLDR_VERSION};
+pub use crate::erased::posix::{from_posix, PosixError};
+pub use crate::erased::likely::CLDR_VERSION;
 pub use crate::erased::parent::Parents;
+pub use crate::erased::posix::unknown_modifier;
 #[cfg(feature = "alloc")]
 pub use crate::owned_errors::PosixErrorBuf;
 
@@ -152,7 +153,7 @@ pub fn write_from_posix(
     name: impl AsRef<[u8]>,
     buffer: &mut [u8],
 ) -> Result<Option<&str>, TooShort> {
-    match likely::write_from_posix(name.as_ref(), buffer) {
+    match posix::write_from_posix(name.as_ref(), buffer) {
         Some(len) => written(buffer, len).map(Some),
         None => Ok(None),
     }
@@ -193,7 +194,7 @@ pub fn to_posix<'a>(tag: impl Into<LangTag<'a>>) -> Option<String> {
 /// Returns an error if allocation fails.
 #[cfg(feature = "alloc")]
 pub fn try_to_posix<'a>(tag: impl Into<LangTag<'a>>) -> Result<Option<String>, AllocError> {
-    likely::to_posix(tag.into())
+    posix::to_posix(tag.into())
 }
 
 /// Writes the POSIX locale name for a tag to a buffer, as `to_posix` returns it, and returns what was
@@ -218,7 +219,7 @@ pub fn write_to_posix<'a, 'b>(
     tag: impl Into<LangTag<'a>>,
     buffer: &'b mut [u8],
 ) -> Result<Option<&'b str>, TooShort> {
-    match likely::write_to_posix(tag.into(), buffer) {
+    match posix::write_to_posix(tag.into(), buffer) {
         Some(len) => written(buffer, len).map(Some),
         None => Ok(None),
     }

@@ -1,6 +1,6 @@
 -- What a tag becomes if its record becomes another record: one form, which is a tag, and what is written of it.
 use Rattle.langtag_scan.proofs.Prelude.{◌≡◌, ℕ, List, inl, inr, refl, sym, ap, subst, ◌∙◌, length, append-nil, arith, drop_all, common_steps}
-use Rattle.langtag_scan.proofs.Grammar.{Record, Spells, IsWellFormed, spell, IsNormal, IsTag, AlikeRecords, Alike, fold_text}
+use Rattle.langtag_scan.specs.Grammar.{Record, Spells, IsWellFormed, spell, IsNormal, IsTag, AlikeRecords, Alike, fold_text}
 use Rattle.langtag_scan.proofs.Laws.{alike_normal, alike_parts, spelled_alike, spelled_once, normal_or_not}
 use Rattle.langtag.specs.Form.{IsAlikeForm, IsForm}
 use Rattle.langtag_output.specs.Writes.{Writes}

@@ -1,6 +1,6 @@
 -- What the finding that a tag keeps says of its text, and of each text that is alike.
 use Rattle.langtag_scan.proofs.Prelude.{◌≡◌, ◌↔◌, ℕ, ◌<◌, List, Some, IsTrue, sym, subst, arith, ◌∙◌, IsAscii, IsUtf8, common_steps}
-use Rattle.langtag_scan.proofs.Grammar.{Alike, IsFoundOf, is_normal, is_private_use, IsNormal, IsPrivate, IsIrregularAt, IsIrregular, IsTag, are_alike-decides, HasEnds}
+use Rattle.langtag_scan.specs.Grammar.{Alike, IsFoundOf, is_normal, is_private_use, IsNormal, IsPrivate, IsIrregularAt, IsIrregular, IsTag, are_alike-decides, HasEnds}
 use Rattle.langtag_scan.specs.Found.{irregular_index}
 use Rattle.langtag_scan.specs.declared.finding.Finding.{Finding}
 use Rattle.langtag_scan.proofs.Laws.{alike_parts, alike_normal, alike_private, alike_irregular, tag_found, normal_found, private_found, found_had, irregular_fold, normal_no_private, normal_no_irregular, private_no_irregular, offsets_kept, IsAscii-tag, IsUtf8-tag}

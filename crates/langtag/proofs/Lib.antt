@@ -1,4 +1,3 @@
-pub mod Definitions
 pub mod EditLaws
 pub mod PartRules
 pub mod SingletonRepeats
@@ -6,8 +5,6 @@ pub mod KeptFound
 pub mod RegisteredLaws
 pub mod OrderLaws
 mod RefusalLaws
-pub mod Alike
-pub mod FieldClasses
 pub mod FormLaws
 -- what the crates above cite with the others
 pub use Rattle.langtag_scan.proofs.TagLaws

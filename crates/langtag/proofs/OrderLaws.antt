@@ -1,6 +1,6 @@
 -- The derived comparisons of the grandfathered tags, and the order of tags of which one begins the other.
 use Rattle.langtag_scan.proofs.Prelude.{◌≡◌, ◌==◌, ℕ, List, refl, ap, ◌∙◌, arith, nat_cmp, Fits-of_lt, common_steps, Greater, nat_tests}
-use Rattle.langtag_scan.proofs.Grammar.{EndsFirst, case_cmp, IsNormal, IsTag}
+use Rattle.langtag_scan.specs.Grammar.{EndsFirst, case_cmp, IsNormal, IsTag}
 use denote.Enum.Declared.{tag_of}
 use Rattle.std.specs.Hash.{usize}
 use Rattle.langtag_scan.proofs.Ascii.{IsAscii-tag}

@@ -1,6 +1,6 @@
 -- Where the first subtag ends that is refused, by how much of a text and a hyphen is viable.
 use Rattle.langtag_scan.proofs.Prelude.{◌≡◌, ◌↔◌, ℕ, ◌+◌, ◌<◌, ◌≤◌, ◌⊎◌, List, [], ◌∷◌, ◌++◌, length, take, slice_index, inl, inr, sym, subst, ◌∙◌, arith, append-nil, take-length, cases_lt, take-append-le, take_all, take_more, length_push, common_steps}
-use Rattle.langtag_scan.proofs.Grammar.{NoHyphenWithin, IsTag, IsViable, IsViableLength, IsIrregularPrefix}
+use Rattle.langtag_scan.specs.Grammar.{NoHyphenWithin, IsTag, IsViable, IsViableLength, IsIrregularPrefix}
 use Rattle.langtag_scan.proofs.TagLaws.{prefixes_viable, viable_from_tag}
 use Rattle.langtag.specs.Refusal.{MayStand, IsRefusedEnd, EndsTooSoon, IsOpen}
 

@@ -2,12 +2,12 @@
 use Rattle.langtag_scan.proofs.Prelude.{◌≡◌, ◌↔◌, ℕ, true, Bool, IsTrue, List, [], length, take, slice_get, Some, ap, ◌∙◌, arith, ◌<◌, ◌≤◌, false, cond, ltb, map, get_or, Option, None, refl, sym, subst, list_any, position, position_or_len, Any-from_list_any, list_any_at, slice_get_read, slice_get_within, get_or_from_slice_get, slice_get-get_or, slice_get-map, common_steps, option_map_or, lt-ltb, cases_lt, both_ways, get_or-map, position-Some, fails_before_first, nat_tests}
 use Rattle.std.proofs.Common.{Decides, zero-add, bytes_eq}
 use Rattle.std.specs.List.{range_with_len}
-use Rattle.langtag_scan.proofs.Grammar.{Alike, are_alike, fold_byte, fold_text, are_alike-decides, irregular_texts, Grandfathered, grandfathered_tags, IsIrregular, IsIrregularAt, IsNormal, IsTag, IsIrregularPrefix, is_letter, is_primary, EachRecord, segments}
+use Rattle.langtag_scan.specs.Grammar.{Alike, are_alike, fold_byte, fold_text, are_alike-decides, irregular_texts, Grandfathered, grandfathered_tags, IsIrregular, IsIrregularAt, IsNormal, IsTag, IsIrregularPrefix, is_letter, is_primary, EachRecord, segments}
 use Rattle.std.proofs.lemmas.List.FromFn.{get_or-range_with_len}
 use Rattle.langtag_scan.proofs.CaseLaw.{alike_tag}
 use Rattle.langtag_scan.proofs.NormalTexts.{spelled_segments}
 use Rattle.langtag_scan.proofs.IrregularTexts.{normal_no_irregular, registered_tag}
-use Rattle.langtag.proofs.Definitions.{IsLanguage, index_of, text_of, language_of, IsGrandfatheredAt, IsGrandfathered}
+use Rattle.langtag.specs.Definitions.{IsLanguage, index_of, text_of, language_of, IsGrandfatheredAt, IsGrandfathered}
 use Rattle.langtag.specs.declared.grandfathered.GrandfatheredLangTag.{GrandfatheredLangTag}
 use Rattle.langtag.specs.declared.grandfathered.GrandfatheredLangTag.TheVariants.{EnGbOed}
 use Rattle.langtag.specs.declared.grandfathered.TheConstants.{GRANDFATHERED}

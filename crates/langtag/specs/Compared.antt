@@ -1,7 +1,5 @@
 -- The tag types compare and hash by their texts, ignoring the case of ASCII letters. Typed tags have only `==`.
-use Rattle.std.specs.Prelude.{◌≡◌, ◌==◌, Bool, false}
-use Rattle.langtag_scan.specs.Case.{are_alike}
-use Rattle.langtag_scan.specs.Compare.{ComparesByCase}
+use Rattle.langtag_scan.specs.Grammar.{◌≡◌, ◌==◌, Bool, false, are_alike, ComparesByCase}
 use Rattle.langtag.specs.contracts.lang_tag.LangTagHash.TheImpl as lang_tag_hash
 use Rattle.langtag.specs.contracts.lang_tag.LangTagOrd.TheImpl as lang_tag_order
 use Rattle.langtag.specs.contracts.lang_tag.LangTagPartialEq.TheImpl as lang_tag_equality

@@ -1,6 +1,5 @@
 -- What looking up bytes among the grandfathered tags returns.
-use Rattle.std.specs.Prelude.{◌≡◌, ◌↔◌, ℕ, List, Result, IsTrue, IfOk, IfErr, is_ok}
-use Rattle.std.specs.Borrow.{Bor}
+use Rattle.langtag_scan.specs.Prelude.{◌≡◌, ◌↔◌, ℕ, List, Result, IsTrue, IfOk, IfErr, is_ok, Bor}
 use Rattle.langtag.specs.declared.grandfathered.GrandfatheredLangTag.{GrandfatheredLangTag}
 use Rattle.langtag.specs.declared.grandfathered.InvalidGrandfatheredTag.{InvalidGrandfatheredTag}
 use Rattle.langtag.specs.Registered.{index_of, IsGrandfatheredAt, IsGrandfathered}

@@ -1,9 +1,6 @@
 -- Grandfathered tags and kinds compare and hash by their index in the declaration of their enum. `equality`, `order`
 -- and `fed` are what the derived `==`, `cmp` and `hash` compute.
-use Rattle.std.specs.Prelude.{◌≡◌, ℕ, ◌==◌, Bool}
-use Rattle.std.specs.Hash.{HashWrites, usize}
-use Rattle.std.specs.Ordering.{nat_cmp}
-use Rattle.std.specs.declared.cmp.Ordering.{Ordering}
+use Rattle.langtag_scan.specs.Prelude.{◌≡◌, ℕ, ◌==◌, Bool, HashWrites, usize, nat_cmp, Ordering}
 use Rattle.langtag.specs.contracts.grandfathered.GrandfatheredLangTagHash.TheImpl as tag_hash
 use Rattle.langtag.specs.contracts.grandfathered.GrandfatheredLangTagOrd.TheImpl as tag_order
 use Rattle.langtag.specs.contracts.grandfathered.GrandfatheredLangTagPartialEq.TheImpl as tag_equality

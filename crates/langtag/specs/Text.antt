@@ -1,6 +1,5 @@
 -- The text of each type, as a list of bytes.
-use Rattle.std.specs.Prelude.{ℕ, List, [], String, unwrap_or, option_map, string_bytes}
-use Rattle.std.specs.declared.alloc.Global.{Global}
+use Rattle.langtag_scan.specs.Prelude.{ℕ, List, [], String, unwrap_or, option_map, string_bytes, Global}
 use Rattle.langtag_language.specs.Text.{language_text}
 use Rattle.langtag_place.specs.Text.{script_text, region_text, variants_text}
 use Rattle.langtag_extension.specs.Text.{extensions_text}

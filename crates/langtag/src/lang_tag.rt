@@ -2,13 +2,7 @@
 ghost use Rattle.std.specs.Prelude.{◌≡◌, ◌↔◌, ◌<◌, ◌^◌, ℕ, List, [], Some, None, IsTrue, IfOk, IfErr, IfSome, is_ok, is_some, length, option_map};
 ghost use Rattle.langtag_case.specs.RecommendedCase.{recommended_text};
 ghost use Rattle.langtag_case.specs.Text.{in_recommended_case_text};
-ghost use Rattle.langtag_scan.specs.AlikeRecords.{IsSpelledAlike};
-ghost use Rattle.langtag_scan.specs.Case.{EndsFirst, are_alike, case_cmp};
-ghost use Rattle.langtag_scan.specs.Found.{IsFoundOf};
-ghost use Rattle.langtag_scan.specs.Parts.{language_part, variants_part, extensions_part, private_use_part, private_use_subtags};
-ghost use Rattle.langtag_scan.specs.Record.{EachRecord, flat, spell};
-ghost use Rattle.langtag_scan.specs.Subtags.{subtags};
-ghost use Rattle.langtag_scan.specs.Tag.{IsNormal, IsPrivate, IsIrregular, IsTag};
+ghost use Rattle.langtag_scan.specs.Grammar.{IsSpelledAlike, EndsFirst, are_alike, case_cmp, IsFoundOf, language_part, variants_part, extensions_part, private_use_part, private_use_subtags, EachRecord, flat, spell, subtags, IsNormal, IsPrivate, IsIrregular, IsTag};
 ghost use Rattle.langtag.specs.Edit.{base_record};
 ghost use Rattle.langtag.specs.Recognised.{finding_of};
 

@@ -1,13 +1,7 @@
 //! Language tags of every kind that own their text.
-ghost use Rattle.std.specs.Prelude.{◌≡◌, ◌↔◌, ℕ, List, [], Some, IsTrue, IsNone, IsOk, IsErrOf, IfOk, IfErr, OnOk, OnErr, is_ok, option_map};
-ghost use Rattle.std.specs.String.{string_bytes, string_vec};
-ghost use Rattle.std.specs.Vec.{SameBlock};
+ghost use Rattle.langtag_scan.specs.Prelude.{◌≡◌, ◌↔◌, ℕ, List, [], Some, IsTrue, IsNone, IsOk, IsErrOf, IfOk, IfErr, OnOk, OnErr, is_ok, option_map, string_bytes, string_vec, SameBlock};
 ghost use Rattle.langtag_case.specs.RecommendedCase.{recommended_record, recommended_text};
-ghost use Rattle.langtag_scan.specs.AlikeRecords.{IsSpelledAlike};
-ghost use Rattle.langtag_scan.specs.Case.{Alike};
-ghost use Rattle.langtag_scan.specs.Found.{IsFoundOf};
-ghost use Rattle.langtag_scan.specs.Record.{EachRecord, spell};
-ghost use Rattle.langtag_scan.specs.Tag.{IsNormal, IsTag};
+ghost use Rattle.langtag_scan.specs.Grammar.{IsSpelledAlike, Alike, IsFoundOf, EachRecord, spell, IsNormal, IsTag};
 ghost use Rattle.langtag_language.specs.Text.{language_text};
 ghost use Rattle.langtag_place.specs.Text.{script_text, region_text, variants_text};
 ghost use Rattle.langtag_extension.specs.Text.{extensions_text};

@@ -2,13 +2,7 @@
 ghost use Rattle.std.specs.Prelude.{◌≡◌, ◌↔◌, ◌<◌, ◌≤◌, ◌^◌, ℕ, List, [], Some, IsTrue, IfOk, IfErr, is_ok, length, take, map, unwrap_or, option_map};
 ghost use Rattle.langtag_case.specs.RecommendedCase.{recommended_text};
 ghost use Rattle.langtag_case.specs.Text.{in_recommended_case_text};
-ghost use Rattle.langtag_scan.specs.AlikeRecords.{IsSpelledAlike};
-ghost use Rattle.langtag_scan.specs.Case.{EndsFirst, are_alike, case_cmp};
-ghost use Rattle.langtag_scan.specs.Ends.{ends_of, HasEnds};
-ghost use Rattle.langtag_scan.specs.Parts.{language_part, variants_part, extensions_part, private_use_part, private_use_subtags, parts, text_between};
-ghost use Rattle.langtag_scan.specs.Record.{Record, EachRecord, IsWellFormed, flat, spell};
-ghost use Rattle.langtag_scan.specs.Subtags.{join, subtags};
-ghost use Rattle.langtag_scan.specs.Tag.{IsNormal};
+ghost use Rattle.langtag_scan.specs.Grammar.{IsSpelledAlike, EndsFirst, are_alike, case_cmp, ends_of, HasEnds, language_part, variants_part, extensions_part, private_use_part, private_use_subtags, parts, text_between, Record, EachRecord, IsWellFormed, flat, spell, join, subtags, IsNormal};
 ghost use Rattle.langtag.specs.Edit.{base_record};
 ghost use Rattle.langtag.specs.Offsets.{PartsStandIn};
 ghost use Rattle.langtag_place.specs.Repeat.{repeat, repeat_index, IsFirstRepeat, IsFirstRepeatAt, are_alike_bytes};

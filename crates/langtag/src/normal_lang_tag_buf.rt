@@ -1,15 +1,8 @@
 //! Normal tags that own their text.
-ghost use Rattle.std.specs.Prelude.{◌≡◌, ◌↔◌, ℕ, List, [], Option, Some, IsTrue, IsNone, IsOk, IfOk, IfErr, OnOk, OnErr, is_ok, option_map};
-ghost use Rattle.std.specs.String.{string_bytes, string_vec};
-ghost use Rattle.std.specs.Vec.{SameBlock};
+ghost use Rattle.langtag_scan.specs.Prelude.{◌≡◌, ◌↔◌, ℕ, List, [], Option, Some, IsTrue, IsNone, IsOk, IfOk, IfErr, OnOk, OnErr, is_ok, option_map, string_bytes, string_vec, SameBlock};
 ghost use Rattle.langtag_case.specs.RecommendedCase.{recommended_record, recommended_text};
-ghost use Rattle.langtag_scan.specs.AlikeRecords.{IsSpelledAlike};
-ghost use Rattle.langtag_scan.specs.Case.{Alike};
-ghost use Rattle.langtag_scan.specs.Ends.{HasEnds};
-ghost use Rattle.langtag_scan.specs.Parts.{language_part, variants_part, extensions_part, private_use_part};
+ghost use Rattle.langtag_scan.specs.Grammar.{IsSpelledAlike, Alike, HasEnds, language_part, variants_part, extensions_part, private_use_part, EachRecord, Extension, Spells, spell, IsNormal};
 ghost use Rattle.langtag_scan.specs.Record as model;
-ghost use Rattle.langtag_scan.specs.Record.{EachRecord, Extension, Spells, spell};
-ghost use Rattle.langtag_scan.specs.Tag.{IsNormal};
 ghost use Rattle.langtag_language.specs.Language.{EachLanguageSpelling};
 ghost use Rattle.langtag_language.specs.Text.{language_text};
 ghost use Rattle.langtag_place.specs.Text.{script_text, region_text, variants_text};

@@ -1,10 +1,8 @@
 //! Parts of a tag that are appended to an output.
-ghost use Rattle.std.specs.Prelude.{◌≡◌, Option};
-ghost use Rattle.std.specs.Option.{option_map};
+ghost use Rattle.langtag_scan.specs.Grammar.{◌≡◌, Option, option_map, join};
 ghost use Rattle.langtag_output.specs.Output.{Pushes};
 ghost use Rattle.langtag_private.specs.Text.{private_use_text};
 ghost use Rattle.langtag_scan.specs.Record as model;
-ghost use Rattle.langtag_scan.specs.Subtags.{join};
 
 use langtag_output::Output;
 use langtag_private::PrivateUse;

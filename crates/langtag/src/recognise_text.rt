@@ -1,8 +1,5 @@
 //! The only file in which this crate calls a recogniser.
-ghost use Rattle.std.specs.Prelude.{MatchOption};
-ghost use Rattle.langtag_scan.specs.Ends.{HasEnds};
-ghost use Rattle.langtag_scan.specs.Found.{IsFoundOf, finding};
-ghost use Rattle.langtag_scan.specs.Tag.{IsNormal, IsTag};
+ghost use Rattle.langtag_scan.specs.Grammar.{MatchOption, HasEnds, IsFoundOf, finding, IsNormal, IsTag};
 ghost use Rattle.langtag.specs.Recognised.{finding_of};
 
 use crate::grandfathered::GrandfatheredLangTag;

@@ -1,7 +1,5 @@
 //! The string of a tag in its recommended case.
-ghost use Rattle.std.specs.Prelude.{◌≡◌, IsAscii};
-ghost use Rattle.std.specs.String.{string_bytes, string_vec};
-ghost use Rattle.std.specs.Vec.{SameBlock};
+ghost use Rattle.langtag_scan.specs.Prelude.{◌≡◌, IsAscii, string_bytes, string_vec, SameBlock};
 ghost use Rattle.langtag_case.specs.RecommendedCase.{recommended_text};
 
 use langtag_case::make_recommended_case;

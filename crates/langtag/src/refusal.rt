@@ -1,10 +1,5 @@
 //! Where the first fault is in a string that is not a tag (RFC 5646 section 2.1).
-ghost use Rattle.std.specs.Prelude.{◌≡◌, ◌↔◌, ◌≤◌, ◌<◌, ◌++◌, ◌∷◌, [], IsTrue, IsNone, IfSome, false, length, take, slice_index};
-ghost use Rattle.std.specs.List.{list_any};
-ghost use Rattle.langtag_scan.specs.Case.{are_alike};
-ghost use Rattle.langtag_scan.specs.Class as class;
-ghost use Rattle.langtag_scan.specs.Tag.{IsTag};
-ghost use Rattle.langtag_scan.specs.Viable.{IsViableLength, IsIrregularPrefix};
+ghost use Rattle.langtag_scan.specs.Grammar.{◌≡◌, ◌↔◌, ◌≤◌, ◌<◌, ◌++◌, ◌∷◌, [], IsTrue, IsNone, IfSome, false, length, take, slice_index, list_any, are_alike, IsTag, IsViableLength, IsIrregularPrefix, is_alphanumeric};
 ghost use Rattle.langtag.specs.Refusal.{AlphanumericWithin, EndsTooSoon, IsFirstOther, IsOpen, IsRefusedEnd, IsRefusedSubtag};
 ghost use Rattle.langtag.specs.Registered.{text_of};
 ghost use Rattle.langtag.specs.declared.refusal.Refusal.{Refusal};
@@ -158,7 +153,7 @@ fn first_other(bytes: &[u8], start: usize, end: usize) -> usize
     ensures from { start ≤ result }
     ensures to { result ≤ end }
     ensures before { AlphanumericWithin bytes.now start result }
-    ensures other { result < end → class.is_alphanumeric (slice_index bytes.now result) ≡ false }
+    ensures other { result < end → is_alphanumeric (slice_index bytes.now result) ≡ false }
 {
     let mut index = start;
     while index < end && is_alphanumeric(bytes[index]) {
@@ -169,7 +164,7 @@ fn first_other(bytes: &[u8], start: usize, end: usize) -> usize
 
 #[tactic(auto, unfolding(langtag_scan::specs::Class::is_letter, langtag_scan::specs::Class::is_digit))]
 fn is_alphanumeric(byte: u8) -> bool
-    ensures { result ≡ class.is_alphanumeric byte }
+    ensures { result ≡ is_alphanumeric byte }
 {
     byte.is_ascii_alphanumeric()
 }

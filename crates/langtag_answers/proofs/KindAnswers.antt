@@ -1,6 +1,6 @@
 -- The answer to a line, by its kind, as the code puts it together.
 use Rattle.langtag_scan.proofs.Prelude.{arith, ◌≡◌, ◌∙◌, ℕ, Some, List, [], ◌++◌, map, drop, slice_get, refl, ap, append_assoc, append-nil, subst, codes, get_or_append_left, get_or_from_slice_get, slice_get_within}
-use Rattle.langtag_scan.proofs.Grammar.{grandfathered_tags, irregular_texts, language_part, variants_part, extensions_part, private_use_part, Record, Spells, IsPrivate, IsIrregularAt}
+use Rattle.langtag_scan.specs.Grammar.{grandfathered_tags, irregular_texts, language_part, variants_part, extensions_part, private_use_part, Record, Spells, IsPrivate, IsIrregularAt}
 use Rattle.langtag.specs.Registered.{index_of, text_of}
 use Rattle.langtag.specs.declared.grandfathered.GrandfatheredLangTag.{GrandfatheredLangTag}
 use Rattle.langtag_answers.specs.ShowAnswer.{part_or_nothing, has_repeats, yes_or_no, IsShowAnswer, normal, private_use, irregular}

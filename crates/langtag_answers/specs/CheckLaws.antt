@@ -1,15 +1,13 @@
 -- A line has only one answer. The implementation of the trait `Answerer` for `Check` contains a proof of this law. The
 -- proof uses the lemmas of this page, so the law need not be trusted.
 use Rattle.std.proofs.Common.{◌≡◌, ◌∙◌, ℕ, Some, List, ◌++◌, slice_get, sym, ap}
-use Rattle.std.specs.Prelude.{codes}
-use Rattle.langtag_scan.specs.Record.{Record, Spells}
-use Rattle.langtag_scan.specs.Tag.{IsTag}
+use Rattle.langtag_scan.specs.Grammar.{codes, Record, Spells, IsTag}
 use Rattle.langtag_scan.proofs.NormalTexts.{spelled_once}
 use Rattle.langtag_scan.proofs.SpelledTexts.{normal_spelled}
 use Rattle.langtag_scan.proofs.TagLaws.{tag_normal}
-use Rattle.langtag_registry.specs.Fault.{Told, faults}
-use Rattle.langtag_registry.specs.Valid.{IsValid}
-use Rattle.langtag_registry.proofs.OneForm.{one_form}
+use Rattle.langtag_validity.specs.Fault.{Told, faults}
+use Rattle.langtag_fields.specs.Valid.{IsValid}
+use Rattle.langtag_canonical.proofs.OneForm.{one_form}
 use Rattle.langtag_answers.specs.CheckAnswer.{fault_text, IsCheckAnswer, valid, invalid, refused}
 
 valid_tag : (line : List ℕ) → IsValid line → IsTag line

@@ -1,11 +1,7 @@
 -- The answer to a line: its kind, and its parts.
 use Rattle.std.specs.Prelude.{◌≡◌, ℕ, Bool, ◌||◌, if◌then◌else◌, Option, Some, is_some, unwrap_or, List, [], ◌++◌, map, slice_get, codes}
-use Rattle.langtag_scan.specs.Case.{are_alike}
-use Rattle.langtag_scan.specs.Grandfathered.{irregular_texts}
-use Rattle.langtag_scan.specs.Parts.{language_part, variants_part, extensions_part, private_use_part}
-use Rattle.langtag_scan.specs.Record.{Record, Spells}
-use Rattle.langtag_scan.specs.Tag.{IsPrivate, IsIrregularAt, IsTag}
-use Rattle.langtag.specs.Repeat.{repeat, are_alike_bytes}
+use Rattle.langtag_scan.specs.Grammar.{are_alike, irregular_texts, language_part, variants_part, extensions_part, private_use_part, Record, Spells, IsPrivate, IsIrregularAt, IsTag}
+use Rattle.langtag.specs.Definitions.{repeat, are_alike_bytes}
 
 -- the text of a part, which is empty if the part is absent
 abbrev pub part_or_nothing : Option (List ℕ) → List ℕ

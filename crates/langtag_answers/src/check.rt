@@ -1,7 +1,6 @@
 //! The answer to one line.
-ghost use Rattle.std.specs.Prelude.{◌≡◌, ◌++◌, OnOk, IsOkUnless, codes};
-ghost use Rattle.std.specs.Io.KnownBytes.{Appends, append_known};
-ghost use Rattle.langtag_registry.specs.Fault.{told};
+ghost use Rattle.langtag_scan.specs.Prelude.{◌≡◌, ◌++◌, OnOk, IsOkUnless, codes, Appends, append_known};
+ghost use Rattle.langtag_validity.specs.Fault.{told};
 ghost use Rattle.langtag_lines.specs.Lines.{ended};
 ghost use Rattle.langtag_answers.specs.CheckLaws.{one_check_answer};
 ghost use Rattle.langtag_answers.specs.CheckAnswer.{IsCheckAnswer, fault_text};

@@ -1,11 +1,6 @@
 //! The answer to one line.
-ghost use Rattle.std.specs.Prelude.{◌≡◌, [], unwrap_or};
-ghost use Rattle.std.specs.List.{flat_map};
-ghost use Rattle.std.specs.Option.{option_map};
-ghost use Rattle.langtag_scan.specs.Record.{EachRecord};
-ghost use Rattle.langtag.specs.PlaceText.{script_text, region_text};
-ghost use Rattle.langtag.specs.PrivateText.{private_use_text};
-ghost use Rattle.langtag.specs.Text.{normal_lang_tag_text};
+ghost use Rattle.langtag_scan.specs.Grammar.{◌≡◌, [], unwrap_or, flat_map, option_map, EachRecord};
+ghost use Rattle.langtag.specs.Definitions.{script_text, region_text, private_use_text, normal_lang_tag_text};
 ghost use Rattle.langtag_answers.specs.ShowAnswer.{IsShowAnswer, has_repeats};
 ghost use Rattle.langtag_answers.specs.ShowLaws.{one_show_answer};
 

@@ -1,8 +1,5 @@
 -- What `langtag_bench_lang_tag` writes for a normal tag.
-use Rattle.std.specs.Prelude.{length}
-use Rattle.std.specs.Option.{option_map_or}
-use Rattle.langtag_scan.specs.Parts.{language_part, variants_part, extensions_part, private_use_part}
-use Rattle.langtag_scan.specs.Record.{Record}
+use Rattle.langtag_scan.specs.Grammar.{length, option_map_or, language_part, variants_part, extensions_part, private_use_part, Record}
 use Rattle.langtag_bench.specs.declared.lang_tag.PartLengths.{PartLengths}
 
 -- the length of each part, which is 0 if the part is absent

@@ -1,10 +1,6 @@
 //! Calls of langtag and langtag_match over one string; `bench/growth.sh` counts how their work grows with it.
-ghost use Rattle.std.specs.Prelude.{◌≡◌, length, IsTrue};
-ghost use Rattle.std.specs.Str.{IsUtf8};
-ghost use Rattle.langtag_scan.specs.Subtags.{subtags};
-ghost use Rattle.langtag_scan.specs.Tag.{IsTag};
-ghost use Rattle.langtag_range.specs.Fallback.{fallbacks};
-ghost use Rattle.langtag_range.specs.Range.{is_language_range};
+ghost use Rattle.langtag_scan.specs.Grammar.{◌≡◌, length, IsTrue, IsUtf8, subtags, IsTag};
+ghost use Rattle.langtag_range.specs.Definitions.{fallbacks, is_language_range};
 
 use crate::headers::ranges_of;
 use crate::matching::{range_of, read_tags, tag_of};

@@ -1,6 +1,5 @@
 //! Headers, and tags for them. `bench/growth.sh` compares the results with the expected results.
-ghost use Rattle.std.specs.Prelude.{◌≡◌, ◌≤◌, length};
-ghost use Rattle.std.specs.Str.{IsUtf8};
+ghost use Rattle.std.specs.Prelude.{◌≡◌, ◌≤◌, IsUtf8};
 
 use crate::written::count;
 use langtag::LangTag;

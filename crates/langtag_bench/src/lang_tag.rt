@@ -1,9 +1,6 @@
 //! A tag over a string, and all its parts.
-ghost use Rattle.std.specs.Prelude.{◌≡◌, ◌↔◌, IsTrue};
-ghost use Rattle.std.specs.Str.{IsUtf8};
-ghost use Rattle.langtag_scan.specs.Record.{EachRecord};
-ghost use Rattle.langtag_scan.specs.Tag.{IsTag};
-ghost use Rattle.langtag.specs.Text.{lang_tag_text};
+ghost use Rattle.langtag_scan.specs.Grammar.{◌≡◌, ◌↔◌, IsTrue, IsUtf8, EachRecord, IsTag};
+ghost use Rattle.langtag.specs.Definitions.{lang_tag_text};
 ghost use Rattle.langtag_bench.specs.PartLengths.{part_lengths};
 
 use langtag::LangTag;

@@ -1,10 +1,10 @@
 //! Calls of langtag_likely that allocate.
-ghost use Rattle.std.specs.Prelude.{◌≡◌};
-ghost use Rattle.langtag_scan.specs.Tag.{IsTag};
+ghost use Rattle.langtag_scan.specs.Grammar.{◌≡◌, IsTag};
 
 use crate::matching::tag_of;
 use crate::written::{count, write_text};
-use langtag_likely::{PosixError, from_posix, maximized, minimized, to_posix};
+use langtag_likely::{maximized, minimized};
+use langtag_posix::{PosixError, from_posix, to_posix};
 use std::alloc::Global;
 
 /// Writes the maximal form of a tag into a buffer, if there is room, and returns its length. Returns 0 if the string is

@@ -1,13 +1,10 @@
 //! Matching ranges with tags, and choosing the tag for a header.
-ghost use Rattle.std.specs.Prelude.{◌≡◌, ◌≤◌, ◌↔◌, List, length, IsTrue, false, MatchOption};
-ghost use Rattle.langtag.specs.Tag.{IsTag};
-ghost use Rattle.langtag.specs.Text.{lang_tag_text};
+ghost use Rattle.langtag_scan.specs.Grammar.{◌≡◌, ◌≤◌, ◌↔◌, List, length, IsTrue, false, MatchOption, IsTag};
+ghost use Rattle.langtag.specs.Definitions.{lang_tag_text};
 ghost use Rattle.langtag_match.specs.AcceptLanguage.{AreAccepted};
-ghost use Rattle.langtag_range.specs.Basic.{MatchesBasic};
-ghost use Rattle.langtag_range.specs.Extended.{MatchesExtended};
-ghost use Rattle.langtag_range.specs.Range.{is_language_range};
+ghost use Rattle.langtag_range.specs.Definitions.{MatchesBasic, MatchesExtended, is_language_range};
 ghost use Rattle.langtag_match.specs.Text.{language_range_text};
-ghost use Rattle.langtag_match.specs.declared.weighted_range.WeightedRange.{WeightedRange};
+ghost use Rattle.langtag_header.specs.declared.weighted_range.WeightedRange.{WeightedRange};
 
 use langtag::LangTag;
 use langtag_match::{LanguageRange, tag_for_header};

@@ -1,8 +1,5 @@
 //! The recogniser over bytes, and over a string.
-ghost use Rattle.std.specs.Prelude.{◌≡◌, ◌↔◌, IsTrue, MatchOption};
-ghost use Rattle.langtag_scan.specs.Ends.{HasEnds};
-ghost use Rattle.langtag_scan.specs.Found.{finding, normal_ends};
-ghost use Rattle.langtag_scan.specs.Tag.{IsTag, IsNormal};
+ghost use Rattle.langtag_scan.specs.Grammar.{◌≡◌, ◌↔◌, IsTrue, MatchOption, HasEnds, finding, normal_ends, IsTag, IsNormal};
 ghost use Rattle.langtag_bench.specs.PartEnds.{ends_left};
 
 use langtag_scan::{Found, Metered, recognise};

@@ -1,6 +1,5 @@
 //! Calls of langtag_registry over one tag.
-ghost use Rattle.std.specs.Prelude.{◌≡◌, IsTrue};
-ghost use Rattle.langtag_scan.specs.Tag.{IsTag, IsNormal};
+ghost use Rattle.langtag_scan.specs.Grammar.{◌≡◌, IsTrue, IsTag, IsNormal};
 
 use crate::matching::tag_of;
 use crate::memory::normal_of;

@@ -1,10 +1,6 @@
 //! The first repeated variant of a normal tag.
-ghost use Rattle.std.specs.Prelude.{◌≡◌, ◌↔◌, IsTrue, length};
-ghost use Rattle.std.specs.Option.{option_map_or};
-ghost use Rattle.langtag_scan.specs.Case.{are_alike};
-ghost use Rattle.langtag_scan.specs.Record.{EachRecord};
-ghost use Rattle.langtag_scan.specs.Tag.{IsNormal};
-ghost use Rattle.langtag.specs.Repeat.{repeat};
+ghost use Rattle.langtag_scan.specs.Grammar.{◌≡◌, ◌↔◌, IsTrue, length, option_map_or, are_alike, EachRecord, IsNormal};
+ghost use Rattle.langtag.specs.Definitions.{repeat};
 
 use langtag::NormalLangTag;
 

@@ -1,6 +1,5 @@
 //! Calls of langtag_unicode and langtag_locale that allocate.
-ghost use Rattle.std.specs.Prelude.{◌≡◌};
-ghost use Rattle.langtag_scan.specs.Tag.{IsTag};
+ghost use Rattle.langtag_scan.specs.Grammar.{◌≡◌, IsTag};
 
 use crate::matching::tag_of;
 use crate::written::{count, write_text};

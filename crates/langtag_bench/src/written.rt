@@ -1,7 +1,6 @@
 //! Strings that calls of langtag return, written into the caller's buffer. `bench/growth.sh` compares them with the
 //! strings that it expects.
-ghost use Rattle.std.specs.Prelude.{◌≡◌, ◌≤◌, length};
-ghost use Rattle.langtag_scan.specs.Tag.{IsTag};
+ghost use Rattle.langtag_scan.specs.Grammar.{◌≡◌, ◌≤◌, length, IsTag};
 
 use crate::matching::tag_of;
 use std::alloc::Global;

@@ -1,6 +1,6 @@
 -- What is said of the best tag for a reader, of the range that it serves, and of tags that are prepared.
 use Rattle.langtag_scan.proofs.Prelude.{◌≡◌, ℕ, ◌<◌, ◌≤◌, List, length, Option, None, Some, unwrap_or, sym, subst, arith, true, false, true≢false, Bool, not, ◌||◌, Bor, [], ◌∷◌, get_or, option_map, refl, ap, ◌∙◌, slice_get, common_steps, length-map, get_or-map, slice_get_within, slice_get-map, and_parts, nat_tests, list_all, IfSome}
-use Rattle.langtag_range.proofs.Definitions.{Element, items, wanted_elements}
+use Rattle.langtag_range.specs.Definitions.{Element, items, wanted_elements}
 use Rattle.langtag_choice.specs.Best.{IsChoice, IsMatchOf, Pair}
 use Rattle.langtag_choice.specs.Suitable.{AreSuitable}
 use Rattle.langtag_span.specs.RangePlaces.{IsRangeAt, range_count}
@@ -11,9 +11,9 @@ use Rattle.langtag_span.proofs.LookUps.{length_wanted, placed}
 use Rattle.langtag_span.proofs.TagsAt.{are_tags_at, bytes_from_test}
 use Rattle.langtag_c.specs.Choice.{AreBest, IsBest, IsMatchAt, no_match}
 use Rattle.langtag_c.specs.declared.best_match.BestMatch.{BestMatch}
-use Rattle.langtag_choice.specs.Prepared.{is_prepared_for}
+use Rattle.langtag_distance.specs.Prepared.{is_prepared_for}
 use Rattle.langtag_c.specs.Site.{ArePrepared, IsCurrentAt, current_tag_at, current_tags_at, is_current, spans_of}
-use Rattle.langtag_choice.specs.declared.prepared_form.PreparedForm.{PreparedForm}
+use Rattle.langtag_distance.specs.declared.prepared_form.PreparedForm.{PreparedForm}
 use Rattle.langtag_c.specs.declared.prepare.PreparedTag.{PreparedTag}
 use Rattle.langtag_choice.specs.declared.best_match.BestMatch as choice
 

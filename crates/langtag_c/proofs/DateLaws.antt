@@ -1,6 +1,6 @@
 -- The number of a date, digit by digit.
 use Rattle.langtag_scan.proofs.Prelude.{◌≡◌, ℕ, ◌+◌, ◌-◌, ◌*◌, ◌<◌, ◌≤◌, true, false, ltb, List, [], ◌∷◌, drop, length, fold, get_or, refl, ◌∙◌, arith, ltb-true, at_drop_more, nat_tests, filter}
-use Rattle.langtag_scan.proofs.Grammar.{is_digit}
+use Rattle.langtag_scan.specs.Grammar.{is_digit}
 use Rattle.langtag_fields.specs.declared.tables.TheConstants.{FILE_DATE}
 use Rattle.langtag_c.specs.Answers.{digits_number}
 

@@ -1,6 +1,6 @@
 -- The numbers that answer for the kind of a text or a range, where a text stops, and what the spans of its parts say of it.
 use Rattle.langtag_scan.proofs.Prelude.{ℕ, List, arith, ◌≡◌, false, IsTrue, ◌+◌, length, min, ◌-◌, [], take, unwrap_or, ap, ◌∙◌, nat_tests, eqb_tells}
-use Rattle.langtag_scan.proofs.Grammar.{IsNormal, IsPrivate, IsIrregular, IsTag, IsStop, IsViableLength, HasEnds, EachRecord}
+use Rattle.langtag_scan.specs.Grammar.{IsNormal, IsPrivate, IsIrregular, IsTag, IsStop, IsViableLength, HasEnds, EachRecord}
 use Rattle.langtag.proofs.KeptFound.{one_kind}
 use Rattle.langtag_scan.proofs.Laws.{tag_normal, tag_private, tag_of_irregular, stop_at, normal_found, private_found, tag_found, normal_no_private, ends_each, ends_ordered, ends_whole, normal_from_ends, normal_spelled}
 use Rattle.langtag_c.specs.Answers.{IsKind, IsRangeKind}

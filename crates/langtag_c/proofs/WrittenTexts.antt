@@ -3,28 +3,29 @@ use Rattle.langtag_scan.proofs.Prelude.{◌≡◌, ℕ, ◌+◌, ◌≤◌, true
 use Rattle.langtag.specs.Form.{IsForm}
 use Rattle.langtag_output.specs.Writes.{Writes}
 use Rattle.langtag_scan.proofs.Laws.{alphanumeric_below, IsAscii-each, length-join, IsSubtag, of_extension_subtag, of_primary, of_region, join-subtags, tag_normal}
-use Rattle.langtag_scan.proofs.Grammar.{is_alphanumeric, is_extension_subtag, is_letter, is_primary, is_region, subtags, IsNormal, IsTag}
+use Rattle.langtag_scan.specs.Grammar.{is_alphanumeric, is_extension_subtag, is_letter, is_primary, is_region, subtags, IsNormal, IsTag}
 use Rattle.langtag_keyword.specs.Edit.{edited_record, invalid_type, invalid_type_from, is_unicode_key, keyword_error}
 use Rattle.langtag_span.proofs.TagLengths.{IsUtf8-joined, some_tag}
 use Rattle.langtag_output.specs.WritesWhole.{WritesWhole}
-use Rattle.langtag_registry.specs.Canonical.{IsCanonicalForm}
-use Rattle.langtag_likely.proofs.Definitions.{IsMaximalForm, IsMinimalForm, maximal_record, minimal_record, read_place, IsTagOfName, NamesTag, with_said, IsPosixName}
+use Rattle.langtag_canonical.specs.Canonical.{IsCanonicalForm}
+use Rattle.langtag_likely.proofs.Definitions.{IsMaximalForm, IsMinimalForm, maximal_record, minimal_record}
+use Rattle.langtag_posix.proofs.Definitions.{read_place, IsTagOfName, NamesTag, with_said, IsPosixName}
 use Rattle.langtag_range.specs.Locale.{locale_place}
 use Rattle.langtag.proofs.FormLaws.{form_is_tag}
 use Rattle.langtag_likely.proofs.GoodForms.{maximal_well_formed, minimal_well_formed}
-use Rattle.langtag_likely.proofs.PosixLaws.{said_well_formed}
-use Rattle.langtag_likely.proofs.PosixNameRead.{one_name, some_name}
-use Rattle.langtag_unicode.proofs.FormRecords.{form_well_formed}
+use Rattle.langtag_posix.proofs.PosixLaws.{said_well_formed}
+use Rattle.langtag_posix.proofs.PosixNameRead.{one_name, some_name}
+use Rattle.langtag_keyword.proofs.FormRecords.{form_well_formed}
 use Rattle.langtag_locale.proofs.LocaleRecords.{locale_tag}
 use Rattle.langtag_locale.proofs.WholeLaws.{not_both, whole_of_record}
 use Rattle.langtag_keyword.specs.Form.{extensions_record}
 use Rattle.langtag_unicode.specs.ExtensionsForm.{IsExtensionsForm}
 use Rattle.langtag_locale.specs.LocaleForm.{IsWholeForm}
-use Rattle.langtag_likely.specs.Suggestion.{suggested_language, suggested_region}
+use Rattle.langtag_cldr.specs.Suggestion.{suggested_language, suggested_region}
 use Rattle.langtag_c.specs.Validity.{suggested}
 use Rattle.langtag_parent.specs.Parent.{IsParent}
 use Rattle.langtag_parent.proofs.Cuts.{other_parent}
-use Rattle.langtag_registry.proofs.CanonicalParts as canonical
+use Rattle.langtag_canonical.proofs.CanonicalParts as canonical
 
 -- ---- a key and a value are UTF-8
 

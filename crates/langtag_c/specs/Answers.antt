@@ -1,12 +1,7 @@
 -- The numbers that the functions return.
-use Rattle.std.specs.Prelude.{◌≡◌, ◌↔◌, ℕ, ℤ, pos, negsuc, ◌≤◌, ◌*◌, ◌%◌, ◌^◌, List, fold, filter, ◌+◌, ◌-◌, Bool, false, IsTrue, if◌then◌else◌, Option, None, Some}
-use Rattle.std.specs.Int.Bits.{bit_xor}
-use Rattle.std.specs.declared.cmp.Ordering.{Ordering}
-use Rattle.std.specs.declared.cmp.Ordering.TheVariants.{Less, Equal, Greater}
-use Rattle.langtag_scan.specs.Case.{fold_byte}
-use Rattle.langtag_scan.specs.Class.{is_digit}
-use Rattle.langtag_scan.specs.Tag.{IsNormal, IsPrivate, IsIrregular, IsTag}
-use Rattle.langtag_range.specs.Range.{is_language_range, is_basic_range}
+use Rattle.langtag_scan.specs.Prelude.{◌≡◌, ◌↔◌, ℕ, ℤ, pos, negsuc, ◌≤◌, ◌*◌, ◌%◌, ◌^◌, List, fold, filter, ◌+◌, ◌-◌, Bool, false, IsTrue, if◌then◌else◌, Option, None, Some, bit_xor, Ordering, Less, Equal, Greater}
+use Rattle.langtag_scan.specs.Grammar.{fold_byte, is_digit, IsNormal, IsPrivate, IsIrregular, IsTag}
+use Rattle.langtag_range.specs.Definitions.{is_language_range, is_basic_range}
 
 -- the number for the kind of a text: 1 for a normal tag, 2 for private use, 3 for an irregular tag, and 0 for a text
 -- that is not a tag

@@ -1,7 +1,6 @@
 -- The best of the tags in spans of a text, for a reader.
 use Rattle.std.specs.Prelude.{◌≡◌, ◌-◌, ◌^◌, ℕ, List, Option, MatchOption, length, unwrap_or}
-use Rattle.langtag_range.specs.Element.{Element}
-use Rattle.langtag_range.specs.Wanted.{wanted_elements}
+use Rattle.langtag_range.specs.Definitions.{Element, wanted_elements}
 use Rattle.langtag_choice.specs.Best.{IsChoice, IsMatch}
 use Rattle.langtag_choice.specs.Suitable.{AreSuitable}
 use Rattle.langtag_choice.specs.declared.best_match.BestMatch as choice

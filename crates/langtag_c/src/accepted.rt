@@ -1,13 +1,12 @@
 //! A walk over the elements of an Accept-Language header (RFC 9110 section 12.5.4), without allocating.
-ghost use Rattle.std.specs.Prelude.{◌≡◌, ◌↔◌, ◌≤◌, [], is_some};
-ghost use Rattle.std.specs.List.{filter_map, list_all};
-ghost use Rattle.langtag_match.specs.AcceptLanguage as spec;
-ghost use Rattle.langtag_range.specs.Element.{element, items};
-ghost use Rattle.langtag_match.specs.declared.accept_language_error.ElementPart.TheVariants.{Range, Weight};
+ghost use Rattle.langtag_scan.specs.Prelude.{◌≡◌, ◌↔◌, ◌≤◌, [], is_some, filter_map, list_all};
+ghost use Rattle.langtag_header.specs.AcceptLanguage as spec;
+ghost use Rattle.langtag_range.specs.Definitions.{element, items};
+ghost use Rattle.langtag_header.specs.declared.accept_language_error.ElementPart.TheVariants.{Range, Weight};
 ghost use Rattle.langtag_span.specs.Negotiation.{TakesBad, TakesElement, filled_items};
 ghost use Rattle.langtag_span.specs.Spans.{HasBytes, span_text};
 
-use langtag_match::element_at;
+use langtag_header::element_at;
 use langtag_span::{Span, next_item, number_of};
 
 /// Removes the first element from `rest`, which is the value of an Accept-Language header or the rest of it (RFC 9110

@@ -1,6 +1,6 @@
 //! The best tag for a reader, with the range that it serves and its distance from that range.
 ghost use Rattle.std.specs.Prelude.{◌≤◌, length};
-ghost use Rattle.langtag_range.specs.Wanted.{wanted_elements};
+ghost use Rattle.langtag_range.specs.Definitions.{wanted_elements};
 ghost use Rattle.langtag_c.specs.Choice.{IsBest, IsMatchAt};
 
 use crate::spanned_tags::SpannedTags;

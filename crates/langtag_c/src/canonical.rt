@@ -1,8 +1,7 @@
 //! The canonical form of a tag, in the caller's buffer (RFC 5646 section 4.5).
-ghost use Rattle.std.specs.Prelude.{◌≡◌, ◌↔◌, ◌<◌, length, true};
-ghost use Rattle.langtag_scan.specs.Tag.{IsTag};
-ghost use Rattle.langtag_registry.specs.Canonical.{IsCanonicalForm};
-ghost use Rattle.langtag_output.specs.WritesWhole.{WritesWhole};
+ghost use Rattle.langtag_scan.specs.Grammar.{◌≡◌, ◌↔◌, ◌<◌, length, true, IsTag};
+ghost use Rattle.langtag_canonical.specs.Canonical.{IsCanonicalForm};
+ghost use Rattle.langtag.specs.Definitions.{WritesWhole};
 
 use langtag_registry::{is_canonical, write_canonical};
 use langtag_span::tag_of;

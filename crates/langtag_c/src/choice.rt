@@ -1,8 +1,7 @@
 //! The best tag for a reader, and the distance of two tags (UTS #35, part 1, section 'Language Matching').
-ghost use Rattle.std.specs.Prelude.{◌≡◌, ◌↔◌, ◌-◌, ◌^◌, ◌≤◌, length};
-ghost use Rattle.langtag_scan.specs.Tag.{IsTag};
-ghost use Rattle.langtag_range.specs.Wanted.{wanted_elements};
-ghost use Rattle.langtag_choice.specs.Distance.{distance_of_texts};
+ghost use Rattle.langtag_scan.specs.Grammar.{◌≡◌, ◌↔◌, ◌-◌, ◌^◌, ◌≤◌, length, IsTag};
+ghost use Rattle.langtag_range.specs.Definitions.{wanted_elements};
+ghost use Rattle.langtag_distance.specs.Distance.{distance_of_texts};
 ghost use Rattle.langtag_c.specs.Choice.{IsBest};
 ghost use Rattle.langtag_span.specs.Spanned.{ranges_at};
 

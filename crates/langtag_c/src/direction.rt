@@ -1,7 +1,6 @@
 //! Whether a tag is written from right to left.
-ghost use Rattle.std.specs.Prelude.{◌≡◌, false};
-ghost use Rattle.langtag_scan.specs.Tag.{IsTag};
-ghost use Rattle.langtag_likely.specs.Direction as spec;
+ghost use Rattle.langtag_scan.specs.Grammar.{◌≡◌, false, IsTag};
+ghost use Rattle.langtag_cldr.specs.Direction as spec;
 
 use langtag_likely::is_right_to_left;
 use langtag_span::tag_of;

@@ -1,6 +1,6 @@
 //! The fallbacks of a language range in a lookup (RFC 4647 section 3.4), without allocating.
 ghost use Rattle.std.specs.Prelude.{◌≡◌, ◌<◌, ◌∷◌, IsTrue, false};
-ghost use Rattle.langtag_range.specs.Fallback.{fallbacks};
+ghost use Rattle.langtag_range.specs.Definitions.{fallbacks};
 ghost use Rattle.langtag_span.specs.Negotiation.{later_fallbacks};
 ghost use Rattle.langtag_span.specs.Spans.{HasBytes, span_text};
 

@@ -1,6 +1,6 @@
 //! The grandfathered tags (RFC 5646 section 2.2.8).
 ghost use Rattle.std.specs.Prelude.{◌≡◌, ◌↔◌, ◌<◌, ◌≤◌};
-ghost use Rattle.langtag.specs.Registered.{IsGrandfatheredAt, IsGrandfathered};
+ghost use Rattle.langtag.specs.Definitions.{IsGrandfatheredAt, IsGrandfathered};
 
 use langtag::GrandfatheredLangTag;
 

@@ -1,10 +1,6 @@
 //! Where the keywords and attributes of the extension `u` are (RFC 6067 section 2.1).
-ghost use Rattle.std.specs.Prelude.{◌≡◌, ◌↔◌, ◌<◌, ◌∷◌, [], None, IsTrue, false};
-ghost use Rattle.std.specs.Option.{option_map};
-ghost use Rattle.langtag.specs.Part.{PartOf};
-ghost use Rattle.langtag_scan.specs.Record.{EachRecord};
-ghost use Rattle.langtag_scan.specs.Subtags.{join};
-ghost use Rattle.langtag_scan.specs.Tag.{IsNormal};
+ghost use Rattle.langtag_scan.specs.Grammar.{◌≡◌, ◌↔◌, ◌<◌, ◌∷◌, [], None, IsTrue, false, option_map, EachRecord, join, IsNormal};
+ghost use Rattle.langtag.specs.Definitions.{PartOf};
 ghost use Rattle.langtag_keyword.specs.Keywords as spec;
 ghost use Rattle.langtag_c.specs.Answers.{answered};
 ghost use Rattle.langtag_span.specs.Keywords.{keywords_from};

@@ -1,9 +1,8 @@
 //! The maximal and minimal forms of a tag, in the caller's buffer (UTS #35, part 1, section 'Likely Subtags').
-ghost use Rattle.std.specs.Prelude.{◌≡◌, ◌↔◌};
-ghost use Rattle.langtag_scan.specs.Tag.{IsTag};
-ghost use Rattle.langtag_output.specs.Writes.{Writes};
+ghost use Rattle.langtag_scan.specs.Grammar.{◌≡◌, ◌↔◌, IsTag};
+ghost use Rattle.langtag.specs.Definitions.{Writes};
 ghost use Rattle.langtag_likely.specs.Maximal.{IsMaximalForm, IsMinimalForm};
-ghost use Rattle.langtag_likely.specs.declared.tables.TheConstants.{CLDR_VERSION};
+ghost use Rattle.langtag_cldr.specs.declared.tables.TheConstants.{CLDR_VERSION};
 
 use langtag_likely::{CLDR_VERSION, write_maximized, write_minimized};
 use langtag_output::write_text;

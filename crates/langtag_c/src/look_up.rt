@@ -1,9 +1,9 @@
 //! The tag that lookup finds for an Accept-Language header (RFC 9110 section 12.5.4, RFC 4647 section 3.4), without
 //! allocating.
 ghost use Rattle.std.specs.Prelude.{◌≡◌, ◌↔◌, ◌≤◌, IsTrue, length};
-ghost use Rattle.langtag_match.specs.AcceptLanguage.{are_good};
-ghost use Rattle.langtag_range.specs.Element.{items};
-ghost use Rattle.langtag_match.specs.declared.accept_language_error.ElementPart.TheVariants.{Range, Weight};
+ghost use Rattle.langtag_header.specs.AcceptLanguage.{are_good};
+ghost use Rattle.langtag_range.specs.Definitions.{items};
+ghost use Rattle.langtag_header.specs.declared.accept_language_error.ElementPart.TheVariants.{Range, Weight};
 ghost use Rattle.langtag_span.specs.LookUp.{IsBadAt, IsLookedUp};
 ghost use Rattle.langtag_span.specs.Spans.{empty_at};
 

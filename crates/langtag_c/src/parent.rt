@@ -1,7 +1,6 @@
 //! The parent of a tag, in the caller's buffer (UTS #35, part 1, section 'Parent Locales').
-ghost use Rattle.std.specs.Prelude.{◌≡◌, ◌↔◌, ◌≤◌, IfSome, None, Some, length};
-ghost use Rattle.std.specs.Option.{option_map};
-ghost use Rattle.langtag_output.specs.Writes.{Writes};
+ghost use Rattle.std.specs.Prelude.{◌≡◌, ◌↔◌, ◌≤◌, IfSome, None, Some, length, option_map};
+ghost use Rattle.langtag.specs.Definitions.{Writes};
 ghost use Rattle.langtag_parent.specs.Parent.{IsParent};
 
 use langtag_output::write_text;

@@ -1,12 +1,7 @@
 //! Whether bytes are a tag, of which kind, and where its parts are.
 #![tactic(auto, using(crate::proofs::KindLaws::parse_laws))]
 
-ghost use Rattle.std.specs.Prelude.{◌≡◌, ◌≤◌, ℕ, List, length, IfSome, MatchOption};
-ghost use Rattle.langtag_scan.specs.Ends.{HasEnds, ends_of};
-ghost use Rattle.langtag_scan.specs.Found.{IsFoundOf, finding, normal_ends};
-ghost use Rattle.langtag_scan.specs.Parts.{AreInOrder};
-ghost use Rattle.langtag_scan.specs.Record.{EachRecord};
-ghost use Rattle.langtag_scan.specs.Tag.{IsTag, IsNormal, IsPrivate};
+ghost use Rattle.langtag_scan.specs.Grammar.{◌≡◌, ◌≤◌, ℕ, List, length, IfSome, MatchOption, HasEnds, ends_of, IsFoundOf, finding, normal_ends, AreInOrder, EachRecord, IsTag, IsNormal, IsPrivate};
 ghost use Rattle.langtag_c.specs.Answers.{IsKind};
 ghost use Rattle.langtag_c.specs.PartSpans.{AreWithin, ArePartsOf, spans_at, no_parts, private_alone};
 

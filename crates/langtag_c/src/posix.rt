@@ -1,12 +1,12 @@
 //! The tag for a POSIX locale name and the name for a tag, in the caller's buffer, and the unknown modifier that is dropped.
 ghost use Rattle.std.specs.Prelude.{◌≡◌, ◌↔◌, ◌≤◌, IsTrue, None, Some, false, length, not};
-ghost use Rattle.langtag_output.specs.Writes.{Writes};
-ghost use Rattle.langtag_likely.specs.Modifiers.{is_known};
-ghost use Rattle.langtag_likely.specs.Posix.{IsTagOfName, NamesTag, modifier_of};
-ghost use Rattle.langtag_likely.specs.ToPosix.{IsPosixName};
+ghost use Rattle.langtag.specs.Definitions.{Writes};
+ghost use Rattle.langtag_posix.specs.Modifiers.{is_known};
+ghost use Rattle.langtag_posix.specs.Posix.{IsTagOfName, NamesTag, modifier_of};
+ghost use Rattle.langtag_posix.specs.ToPosix.{IsPosixName};
 ghost use Rattle.langtag_span.specs.Spans.{end_of, span_text};
 
-use langtag_likely::{unknown_modifier, write_from_posix, write_to_posix};
+use langtag_posix::{unknown_modifier, write_from_posix, write_to_posix};
 use langtag_span::{Span, tag_of};
 
 /// Writes the tag for a POSIX locale name to `buffer` (IEEE Std 1003.1, section 8.2), and returns its length:

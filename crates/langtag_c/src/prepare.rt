@@ -1,6 +1,6 @@
 //! Tags that are prepared for many choices.
 ghost use Rattle.std.specs.Prelude.{◌≡◌, IsTrue, option_map};
-ghost use Rattle.langtag.specs.Text.{lang_tag_text};
+ghost use Rattle.langtag.specs.Definitions.{lang_tag_text};
 ghost use Rattle.langtag_c.specs.Site.{current_tag_at, current_tags_at, is_current};
 
 use langtag::LangTag;

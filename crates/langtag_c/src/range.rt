@@ -1,12 +1,10 @@
 //! Language ranges, and the tags that they match (RFC 4647).
 ghost use Rattle.std.specs.Prelude.{◌≡◌, ◌↔◌, IsTrue, MatchOption, false};
-ghost use Rattle.langtag_range.specs.Basic.{MatchesBasic};
-ghost use Rattle.langtag_range.specs.Extended.{MatchesExtended};
-ghost use Rattle.langtag_range.specs.Range.{is_language_range};
-ghost use Rattle.langtag_match.specs.Text.{language_range_text};
+ghost use Rattle.langtag_range.specs.Definitions.{MatchesBasic, MatchesExtended, is_language_range};
+ghost use Rattle.langtag_header.specs.Text.{language_range_text};
 ghost use Rattle.langtag_c.specs.Answers.{IsRangeKind, IsRangeMatch};
 
-use langtag_match::LanguageRange;
+use langtag_header::LanguageRange;
 use langtag_span::tag_of;
 
 /// Returns which kind of language range a string is, as an enum `langtag_range_kind_answer`.

@@ -1,10 +1,6 @@
 //! The recommended case (RFC 5646 section 2.1.1).
-ghost use Rattle.std.specs.Prelude.{◌≡◌};
-ghost use Rattle.langtag_scan.specs.AlikeRecords.{IsSpelledAlike};
-ghost use Rattle.langtag_scan.specs.Case.{Alike};
-ghost use Rattle.langtag_scan.specs.Record.{EachRecord};
-ghost use Rattle.langtag_case.specs.RecommendedCase.{recommended_text};
-ghost use Rattle.langtag.specs.Kinds.{AreOfOneKind};
+ghost use Rattle.langtag_scan.specs.Grammar.{◌≡◌, IsSpelledAlike, Alike, EachRecord};
+ghost use Rattle.langtag.specs.Definitions.{recommended_text, AreOfOneKind};
 
 use langtag_case::make_recommended_case;
 

@@ -1,7 +1,6 @@
 //! Where a string that is not a tag is wrong (RFC 5646 section 2.1).
-ghost use Rattle.std.specs.Prelude.{◌≡◌, ◌↔◌, ◌⊎◌, ◌≤◌, ◌<◌, length};
-ghost use Rattle.langtag_scan.specs.Tag.{IsTag};
-ghost use Rattle.langtag.specs.Refusal.{AlphanumericWithin, EndsTooSoon, IsFirstOther, IsRefusedSubtag};
+ghost use Rattle.langtag_scan.specs.Grammar.{◌≡◌, ◌↔◌, ◌⊎◌, ◌≤◌, ◌<◌, length, IsTag};
+ghost use Rattle.langtag.specs.Definitions.{AlphanumericWithin, EndsTooSoon, IsFirstOther, IsRefusedSubtag};
 ghost use Rattle.langtag_span.specs.Spans.{empty_at, end_of};
 
 use langtag::{Refusal, RefusalKind};

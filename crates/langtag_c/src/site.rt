@@ -1,6 +1,6 @@
 //! The best of tags that are prepared once.
 ghost use Rattle.std.specs.Prelude.{◌≤◌, length};
-ghost use Rattle.langtag_range.specs.Wanted.{wanted_elements};
+ghost use Rattle.langtag_range.specs.Definitions.{wanted_elements};
 ghost use Rattle.langtag_span.specs.Spanned.{ranges_at};
 ghost use Rattle.langtag_c.specs.Choice.{IsBest, IsMatchAt};
 ghost use Rattle.langtag_c.specs.Site.{ArePrepared, IsCurrentAt, spans_of};

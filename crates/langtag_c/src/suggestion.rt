@@ -1,7 +1,6 @@
 //! What was probably meant by a subtag that is not registered.
-ghost use Rattle.std.specs.Prelude.{◌≡◌, IfSome, None};
-ghost use Rattle.std.specs.Option.{option_map};
-ghost use Rattle.langtag_output.specs.Writes.{Writes};
+ghost use Rattle.std.specs.Prelude.{◌≡◌, IfSome, None, option_map};
+ghost use Rattle.langtag.specs.Definitions.{Writes};
 ghost use Rattle.langtag_c.specs.Validity.{suggested};
 
 use langtag_likely::{suggested_language, suggested_region};

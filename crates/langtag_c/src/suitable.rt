@@ -1,6 +1,6 @@
 //! All tags that suit a reader, best first.
 ghost use Rattle.std.specs.Prelude.{◌≡◌, ◌≤◌, length, take, drop};
-ghost use Rattle.langtag_range.specs.Wanted.{wanted_elements};
+ghost use Rattle.langtag_range.specs.Definitions.{wanted_elements};
 ghost use Rattle.langtag_c.specs.Choice.{AreBest};
 ghost use Rattle.langtag_span.specs.Spanned.{ranges_at};
 

@@ -1,11 +1,6 @@
 //! Where the language and the fields of the extension `t` are (RFC 6497 section 2.2).
-ghost use Rattle.std.specs.Prelude.{◌≡◌, ◌∷◌, [], None, IsTrue, false};
-ghost use Rattle.std.specs.Option.{option_map};
-ghost use Rattle.langtag.specs.Part.{PartOf};
-ghost use Rattle.langtag_extension.specs.Spelling.{find_extension};
-ghost use Rattle.langtag_scan.specs.Record.{EachRecord};
-ghost use Rattle.langtag_scan.specs.Subtags.{join};
-ghost use Rattle.langtag_scan.specs.Tag.{IsNormal};
+ghost use Rattle.langtag_scan.specs.Grammar.{◌≡◌, ◌∷◌, [], None, IsTrue, false, option_map, EachRecord, join, IsNormal};
+ghost use Rattle.langtag.specs.Definitions.{PartOf, find_extension};
 ghost use Rattle.langtag_keyword.specs.Keywords as spec;
 ghost use Rattle.langtag_keyword.specs.Transform.{is_field_key};
 ghost use Rattle.langtag_c.specs.Answers.{answered};

@@ -1,5 +1,5 @@
 //! How many bytes of a string can begin a tag.
-ghost use Rattle.langtag_scan.specs.Viable.{IsStop, IsViableLength};
+ghost use Rattle.langtag_scan.specs.Grammar.{IsStop, IsViableLength};
 
 use langtag_scan::viable_len;
 

@@ -1,6 +1,6 @@
 //! A tag with one part changed, written to the caller's buffer (RFC 5646 sections 2.2.1 to 2.2.7).
 ghost use Rattle.std.specs.Prelude.{◌≡◌, ◌↔◌, ◌≤◌, ◌+◌, length, IfSome};
-ghost use Rattle.langtag_output.specs.Writes.{Writes};
+ghost use Rattle.langtag.specs.Definitions.{Writes};
 ghost use Rattle.langtag_c.specs.Setting.{CanSet};
 ghost use Rattle.langtag_span.specs.NumberedParts.{SetsNamedPart, part_numbered};
 

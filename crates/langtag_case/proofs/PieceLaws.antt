@@ -3,7 +3,7 @@ use Rattle.langtag_scan.proofs.Prelude.{◌≡◌, ◌≢◌, ℕ, ◌+◌, ◌-
 use Prim.Native.Nat.{zero, suc}
 use borrow.Rule.Slice.PartMut.{put_mid}
 use Rattle.std.proofs.lemmas.List.Elements.{All-from_get_or}
-use Rattle.langtag_scan.proofs.Grammar.{fold_byte, fold_text, is_single, is_hyphen, IsHyphenFree, NoHyphenWithin, join, segments}
+use Rattle.langtag_scan.specs.Grammar.{fold_byte, fold_text, is_single, is_hyphen, IsHyphenFree, NoHyphenWithin, join, segments}
 use Rattle.langtag_scan.proofs.CaseLaw.{join-fold}
 use Rattle.langtag_case.specs.RecommendedCase.{capital_text, by_length, recommended_text}
 use Rattle.langtag_case.specs.Walk.{BeginsWith, after_piece, cased, later, later_text}

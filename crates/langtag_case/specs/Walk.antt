@@ -1,11 +1,7 @@
 -- How a text in its recommended case is written piece by piece. Only the view of `RecommendedBytes` and contracts of
 -- private functions cite this page. The contract of `RecommendedBytes::new` says that the pieces make up the
 -- recommended text.
-use Rattle.std.specs.Prelude.{◌≡◌, ◌≤◌, ◌==◌, ◌-◌, ℕ, List, [], ◌∷◌, ◌++◌, if◌then◌else◌, length, map, take, drop}
-use Rattle.std.specs.Char.{to_ascii_uppercase}
-use Rattle.langtag_scan.specs.Case.{fold_byte, fold_text}
-use Rattle.langtag_scan.specs.Class.{is_single}
-use Rattle.langtag_scan.specs.Subtags.{join, segments}
+use Rattle.langtag_scan.specs.Grammar.{◌≡◌, ◌≤◌, ◌==◌, ◌-◌, ℕ, List, [], ◌∷◌, ◌++◌, if◌then◌else◌, length, map, take, drop, to_ascii_uppercase, fold_byte, fold_text, is_single, join, segments}
 use Rattle.langtag_case.specs.RecommendedCase.{by_length}
 
 -- the text with the letters among its first `capitals` bytes in uppercase, and all other letters in lowercase

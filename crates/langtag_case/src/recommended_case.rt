@@ -1,8 +1,5 @@
 //! Changes a string to its recommended case, or tests whether it has that case.
-ghost use Rattle.std.specs.Prelude.{◌≡◌, ◌↔◌, ℕ, List, Some, IsTrue, ◌≤◌, length, slice_get, take};
-ghost use Rattle.langtag_scan.specs.Case.{Alike, fold_text};
-ghost use Rattle.langtag_scan.specs.Record.{Record, IsWellFormed, spell};
-ghost use Rattle.langtag_scan.specs.Subtags.{segments};
+ghost use Rattle.langtag_scan.specs.Grammar.{◌≡◌, ◌↔◌, ℕ, List, Some, IsTrue, ◌≤◌, length, slice_get, take, Alike, fold_text, Record, IsWellFormed, spell, segments};
 ghost use Rattle.langtag_case.specs.RecommendedCase.{recommended_record, recommended_subtag, recommended_text};
 ghost use Rattle.langtag_case.specs.Walk.{cased};
 

@@ -1,19 +1,21 @@
 -- The choice is the only one, answers lookup, is the tag that is equal, and does not change with the case of letters.
 use Rattle.langtag_scan.proofs.Prelude.{◌≡◌, ℕ, true, List, get_or, Option, Some, None, option_map, ap, refl, sym, subst, ◌∙◌, ◌-◌, ◌==◌, ◌≤◌, false, nat_lt, arith, Ordering, Less, Equal, Greater, inl, inr, ◌<◌, cond, not, [], ◌∷◌, ◌++◌, length, map, filter, All, eq-eqb, IsTrue, length-take, Bool, slice_get, take-append_seam, drop-append_seam, take-length, eqb_tells, nat_tests, and_parts, ltb-false, nat_list_cmp_total, common_steps, All-cons, All-nil, length-map, take-map, drop-map, slice_get-map, bytes_decides, slice_cmp, is_eq, nat_cmp, ordering_reverse}
-use Rattle.langtag_scan.proofs.Grammar.{Alike, fold_byte, fold_text, are_alike, are_alike-decides}
+use Rattle.langtag_scan.specs.Grammar.{Alike, fold_byte, fold_text, are_alike, are_alike-decides}
 use Rattle.std.proofs.Math.ListN.{get_or-map}
 use Rattle.std.proofs.Math.Seq.{drop-length}
 use Rattle.std.proofs.lemmas.List.Elements.{All-append, All-filter, All-map, filter_passes}
 use Rattle.std.specs.Cmp.Lexicographic.{texts_ties}
 use Rattle.std.specs.Ordering.{is_gt}
 use Rattle.langtag_scan.proofs.CaseLaw.{hyphen-fold, fold_text-twice, length-fold}
-use Rattle.langtag_range.proofs.Definitions.{Element, ends_subtag, before_hyphens, ends_in_single, fallbacks, is_star, folded, wanted_elements}
+use Rattle.langtag_range.specs.Definitions.{Element, ends_subtag, before_hyphens, ends_in_single, fallbacks, is_star, folded, wanted_elements}
 use Rattle.langtag_range.proofs.AlikeTexts.{alike_headers, is_star-fold}
 use Rattle.langtag_range.proofs.Among.{length-alike}
-use Rattle.langtag_choice.specs.Best.{IsAtMost, IsChoice, Pair, rank, rank_of_pair, serves, reach, is_wish, is_excluded, is_refused, longest}
+use Rattle.langtag_distance.specs.Serves.{serves, reach, is_wish, is_excluded}
+use Rattle.langtag_distance.specs.Serves.{IsAtMost, rank}
+use Rattle.langtag_choice.specs.Best.{IsChoice, Pair, rank_of_pair, is_refused, longest}
 use Rattle.langtag_choice.specs.ChoiceLaws.{IsOnlyChoice, AnswersLookUp, IsHeaviest, IsFirstAlike, AnswersEqual, IgnoresCase, IgnoresHeaderCase}
-use Rattle.langtag_choice.specs.Nearness.{kept, is_fallback}
-use Rattle.langtag_choice.proofs.AlikeDistances.{distance-none, unlikely-alike, distance-alike, both-alike}
+use Rattle.langtag_distance.specs.Nearness.{kept, is_fallback}
+use Rattle.langtag_distance.proofs.AlikeDistances.{distance-none, unlikely-alike, distance-alike, both-alike}
 
 -- ---- it is the only one
 

@@ -1,36 +1,19 @@
 -- What loops over ranges and over tags have found, and that it is the choice.
-use Rattle.langtag_scan.proofs.Prelude.{◌≡◌, ℕ, true, List, get_or, Option, Some, None, option_map, ap, refl, sym, subst, ◌∙◌, ◌-◌, ◌==◌, ◌≤◌, false, ◌&&◌, ◌||◌, nat_lt, arith, Bool, [], ◌∷◌, ◌+◌, ◌<◌, zero, suc, length, min, inl, inr, slice_get, replicate, or-true, eqb_tells, nat_tests, and_parts, eq-eqb, eqb-true, ltb-false, ltb-true, not-true, or_cases, cases_lt, common_steps, get_or_from_slice_get, slice_get-get_or, slice_get_within, list_any, ForSome}
+use Rattle.langtag_scan.proofs.Prelude.{◌≡◌, ℕ, true, List, get_or, Option, Some, None, option_map, ap, refl, sym, subst, ◌∙◌, ◌-◌, ◌==◌, false, ◌&&◌, ◌||◌, nat_lt, arith, Bool, [], ◌∷◌, ◌+◌, ◌<◌, zero, suc, length, min, inl, inr, slice_get, replicate, or-true, eqb_tells, nat_tests, and_parts, eq-eqb, eqb-true, not-true, or_cases, cases_lt, get_or_from_slice_get, slice_get-get_or, slice_get_within, list_any, ForSome}
 use Rattle.std.proofs.lemmas.Option.{slice_get_cases}
-use Rattle.langtag_range.proofs.Definitions.{Element, basic_text}
-use Rattle.langtag_choice.specs.Best.{IsAtMost, IsChoice, IsMatchOf, Pair, rank, rank_of_pair, serves, reach, service, is_excluded, is_refused, longest}
-use Rattle.langtag_choice.specs.Distance.{distance_of_texts}
-use Rattle.langtag_choice.specs.Found.{IsBestFound, IsBestOf, IsNotAfter, Takes, Tries, TriesRange, is_flagged, is_unrefused_at, rank_of, service_number, wish_element}
-use Rattle.langtag_choice.specs.KnownTexts.{is_known, known_text}
-use Rattle.langtag_choice.specs.Nearness.{kept}
+use Rattle.langtag_range.specs.Definitions.{Element, basic_text}
+use Rattle.langtag_distance.specs.Serves.{serves, is_excluded}
+use Rattle.langtag_distance.specs.Serves.{IsAtMost, rank}
+use Rattle.langtag_choice.specs.Best.{IsChoice, IsMatchOf, Pair, rank_of_pair, is_refused, longest}
+use Rattle.langtag_distance.specs.Distance.{distance_of_texts}
+use Rattle.langtag_distance.specs.Near.{wish_element}
+use Rattle.langtag_distance.specs.Candidates.{IsNotAfter, Takes}
+use Rattle.langtag_choice.specs.Found.{IsBestFound, IsBestOf, Tries, TriesRange, is_flagged, is_unrefused_at}
+use Rattle.langtag_distance.specs.KnownTexts.{is_known, known_text}
 use Rattle.langtag_choice.specs.declared.best_match.BestMatch.{BestMatch}
-use Rattle.langtag_choice.specs.declared.candidate.Candidate.{Candidate}
-use Rattle.langtag_choice.specs.declared.known_tag.KnownTag.{KnownTag}
-use Rattle.langtag_choice.specs.declared.wish.Wish.{Wish}
-
--- ---- how ranks compare
-
-pub reach_most : (range tag : List ℕ) → reach range tag ≤ 50
-unfolding reach
-reach_most range tag = grind (arith, nat_tests)
-
--- what was found for a heavier range, or for an earlier one of that weight, and serves it no worse
-pub settled :
-    (c : Candidate) (place : ℕ) (element : Element) (index : ℕ) (tag : List ℕ) → service_number c.rank.service ≤ service (reach element.range tag) →
-    (nat_lt c.rank.lack (1000 - element.weight) || ((c.rank.lack == (1000 - element.weight)) && nat_lt c.rank.place place)) ≡ true → IsAtMost (rank_of c) (rank place element index tag)
-unfolding rank
-settled c place element index tag serves before = grind (arith, common_steps, or_cases, ltb-true, and_parts, eqb-true, nat_tests, ltb-false, eqb_tells)
-
--- what was found for the same range, serves it no worse and is nearer
-pub settled_nearer :
-    (c : Candidate) (place : ℕ) (element : Element) (index : ℕ) (tag : List ℕ) → service_number c.rank.service ≤ service (reach element.range tag) →
-    c.rank.distance < reach element.range tag → ((c.rank.lack == (1000 - element.weight)) && (c.rank.place == place)) ≡ true → IsAtMost (rank_of c) (rank place element index tag)
-unfolding rank
-settled_nearer c place element index tag serves nearer same = grind (arith, common_steps, ltb-true, and_parts, eqb-true, nat_tests, ltb-false, eqb_tells)
+use Rattle.langtag_distance.specs.declared.candidate.Candidate.{Candidate}
+use Rattle.langtag_distance.specs.declared.known_tag.KnownTag.{KnownTag}
+use Rattle.langtag_distance.specs.declared.wish.Wish.{Wish}
 
 -- ---- pairs that were tried
 
@@ -145,13 +128,6 @@ none_refused elements tag none = let zero = longest_none is_excluded elements ta
 -- a tag of a list is what is read at its index, and what was kept of it is true
 abbrev pub IsKnownAt : List (Option (List ℕ)) → ℕ → KnownTag → Type 0
 IsKnownAt tags index known = ForSome (get_or tags index None) (λ text. (known_text known ≡ text) × (is_known known ≡ true))
-
--- an entry that is far is not taken
-pub far_takes :
-    (wish : Wish) (known : KnownTag) (index : ℕ) (found : Option Candidate) → (is_known known ≡ true → 50 ≤ distance_of_texts (basic_text wish.range.now) (known_text known)) →
-    (is_known known ≡ true → kept (basic_text wish.range.now) (known_text known) ≡ 0) → Takes wish known index found found
-unfolding serves reach
-far_takes wish known index found far none = grind (arith, nat_tests)
 
 -- what is tried at an index is the entry there
 pub takes_at :

@@ -1,11 +1,8 @@
 -- Laws of the choice.
-use Rattle.std.specs.Prelude.{◌≡◌, ℕ, ◌<◌, ◌≤◌, false, IsTrue, List, map, Option, Some, length, is_some, Contains, slice_get, option_map}
-use Rattle.langtag_scan.specs.Case.{Alike, fold_text}
-use Rattle.langtag_range.specs.Element.{Element}
-use Rattle.langtag_range.specs.Fallback.{fallbacks}
-use Rattle.langtag_range.specs.Range.{is_star}
-use Rattle.langtag_range.specs.Wanted.{folded, wanted_elements}
-use Rattle.langtag_choice.specs.Best.{IsChoice, is_refused, is_wish}
+use Rattle.langtag_scan.specs.Grammar.{◌≡◌, ℕ, ◌<◌, ◌≤◌, false, IsTrue, List, map, Option, Some, length, is_some, Contains, slice_get, option_map, Alike, fold_text}
+use Rattle.langtag_range.specs.Definitions.{Element, fallbacks, is_star, folded, wanted_elements}
+use Rattle.langtag_distance.specs.Serves.{is_wish}
+use Rattle.langtag_choice.specs.Best.{IsChoice, is_refused}
 
 -- there is no other choice
 abbrev pub IsOnlyChoice : List Element → List (Option (List ℕ)) → Option ℕ → Type 0

@@ -1,17 +1,7 @@
 pub mod Best
 pub mod ChoiceLaws
-pub mod Distance
-pub mod FirstLetters
 pub mod Found
-pub mod KnownTexts
 pub mod ListTexts
-pub mod MatchingData
-pub mod NearLanguages
-pub mod Nearness
-pub mod Pairs
-pub mod Prepared
 pub mod Remaining
-pub mod Rules
-pub mod Sets
 pub mod Sites
 pub mod Suitable

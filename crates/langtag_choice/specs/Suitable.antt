@@ -1,7 +1,6 @@
 -- All tags that suit a reader, best first.
-use Rattle.std.specs.Prelude.{◌≡◌, ◌≢◌, ◌⊎◌, ℕ, ◌<◌, ◌≤◌, ◌-◌, List, [], ◌∷◌, Option, Some, None, length, slice_get, slice_set}
-use Rattle.std.specs.List.{AllPairs, Contains}
-use Rattle.langtag_range.specs.Element.{Element}
+use Rattle.std.specs.Prelude.{◌≡◌, ◌≢◌, ◌⊎◌, ℕ, ◌<◌, ◌≤◌, ◌-◌, List, [], ◌∷◌, Option, Some, None, length, slice_get, slice_set, AllPairs, Contains}
+use Rattle.langtag_range.specs.Definitions.{Element}
 use Rattle.langtag_choice.specs.Best.{IsChoice, Pair}
 
 -- ---- the definition

@@ -1,17 +1,13 @@
 //! Making the choice range by range. Ranges of lower weight are skipped if a tag is near a range of higher weight.
-ghost use Rattle.std.specs.Prelude.{◌≡◌, IsTrue, None, true};
-ghost use Rattle.std.specs.List.{list_any};
-ghost use Rattle.langtag_range.specs.Listed.{listed_element};
-ghost use Rattle.langtag_range.specs.Range.{is_language_range};
-ghost use Rattle.langtag_range.specs.Wanted.{hyphened};
-ghost use Rattle.langtag_choice.specs.Best.{is_excluded};
+ghost use Rattle.langtag_scan.specs.Prelude.{◌≡◌, IsTrue, None, true, list_any};
+ghost use Rattle.langtag_range.specs.Definitions.{listed_element, is_language_range, hyphened};
+ghost use Rattle.langtag_distance.specs.Serves.{is_excluded};
 ghost use Rattle.langtag_choice.specs.Found.{Tries, TriesRange};
 
-use crate::candidate::Candidate;
-use crate::improve::{improve_entry, limit};
+use crate::known_at::improve_entry;
 use crate::range_list::RangeList;
 use crate::tag_list::TagList;
-use crate::wish::Wish;
+use langtag_distance::{Candidate, Wish, limit};
 use langtag_range::WantedRange;
 
 /// Returns the best of all candidates, even if it is refused or not a tag, and whether a range has the weight 0.

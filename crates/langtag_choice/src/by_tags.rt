@@ -1,16 +1,13 @@
 //! Making the choice tag by tag. Each entry is checked once: whether it is a tag, and whether it is refused.
 ghost use Rattle.std.specs.Prelude.{◌≡◌, ◌<◌, ◌+◌, ◌^◌, ◌&&◌, ℕ, IsTrue, None, false, true, length, nat_lt, slice_index_or};
-ghost use Rattle.langtag_range.specs.Listed.{listed_element};
-ghost use Rattle.langtag_range.specs.Range.{is_language_range};
-ghost use Rattle.langtag_range.specs.Wanted.{hyphened};
+ghost use Rattle.langtag_range.specs.Definitions.{listed_element, is_language_range, hyphened};
 ghost use Rattle.langtag_choice.specs.Found.{Tries, TriesRange, is_flagged, is_unrefused_at};
 
-use crate::candidate::Candidate;
-use crate::improve::{improve_entry, limit};
+use crate::known_at::improve_entry;
 use crate::range_list::RangeList;
 use crate::refused::is_refused;
 use crate::tag_list::TagList;
-use crate::wish::Wish;
+use langtag_distance::{Candidate, Wish, limit};
 use langtag_range::WantedRange;
 
 /// The number of tags for which each range is read once.

@@ -1,13 +1,9 @@
 //! The lists of language ranges for which a tag can be chosen.
-ghost use Rattle.std.specs.Prelude.{◌≡◌, ◌<◌, ◌^◌, ◌∷◌, [], IfSome, IsTrue, List, length};
-ghost use Rattle.std.specs.Option.{option_map_or};
-ghost use Rattle.langtag_range.specs.Element.{Element};
-ghost use Rattle.langtag_range.specs.Listed.{listed_element};
-ghost use Rattle.langtag_range.specs.Range.{is_language_range};
-ghost use Rattle.langtag_range.specs.Wanted.{hyphened, wanted_elements};
+ghost use Rattle.langtag_scan.specs.Prelude.{◌≡◌, ◌<◌, ◌^◌, ◌∷◌, [], IfSome, IsTrue, List, length, option_map_or};
+ghost use Rattle.langtag_range.specs.Definitions.{Element, listed_element, is_language_range, hyphened, wanted_elements};
 ghost use Rattle.langtag_choice.specs.ListTexts.{ordered_elements, weighted_elements};
 
-use langtag_match::{LanguageRange, WeightedRange};
+use langtag_header::{LanguageRange, WeightedRange};
 use langtag_range::{WantedRange, split_wanted};
 
 /// Language ranges with their weights, in the reader's order. It is implemented for an Accept-Language header in a
@@ -34,7 +30,7 @@ pub trait RangeList<'a>: Copy {
 }
 
 /// An Accept-Language header, read as `langtag_match::wanted_ranges` reads it.
-#[tactic(auto, using(crate::proofs::FarTags::basic_read, crate::proofs::FarTags::range_read))]
+#[tactic(auto, using(langtag_distance::proofs::FarTags::basic_read, langtag_distance::proofs::FarTags::range_read))]
 impl<'a> RangeList<'a> for &'a [u8] {
     ghost elements = { λ header. wanted_elements header.now };
 

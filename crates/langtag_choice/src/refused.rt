@@ -1,11 +1,11 @@
 //! Which tags the ranges of weight 0 refuse.
 ghost use Rattle.std.specs.Prelude.{◌≡◌};
-ghost use Rattle.langtag_range.specs.Listed.{listed_element};
+ghost use Rattle.langtag_range.specs.Definitions.{listed_element};
 ghost use Rattle.langtag_choice.specs.Best as spec;
 
 use crate::range_list::RangeList;
-use crate::read_range::{begins, is_star};
-use langtag_likely::basic_len;
+use langtag_cldr::basic_len;
+use langtag_distance::{begins, is_star};
 use langtag_range::WantedRange;
 
 /// Returns whether the longest range that matches a tag has the weight 0.

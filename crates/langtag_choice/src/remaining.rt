@@ -1,9 +1,9 @@
 //! The tags of a list that were not chosen yet.
 ghost use Rattle.langtag_choice.specs.Remaining.{without_all};
 
-use crate::prepared_form::PreparedForm;
 use crate::tag_list::TagList;
 use langtag::LangTag;
+use langtag_distance::PreparedForm;
 
 /// A list of tags without those at some indices. The other tags keep their indices.
 #[derive(Clone, Copy)]

@@ -1,20 +1,19 @@
 //! The tags of a site that is known before the requests.
 ghost use Rattle.std.specs.Prelude.{◌≡◌, option_map};
-ghost use Rattle.langtag.specs.Text.{lang_tag_text};
 ghost use Rattle.langtag_choice.specs.Best as spec;
 ghost use Rattle.langtag_choice.specs.ListTexts.{ordered_elements, tag_texts, weighted_elements};
 ghost use Rattle.langtag_choice.specs.Sites.{prepared_tags};
-ghost use Rattle.langtag_match.specs.Text.{accept_language_ranges};
-ghost use Rattle.langtag_range.specs.Wanted.{wanted_elements};
+ghost use Rattle.langtag_header.specs.Text.{accept_language_ranges};
+ghost use Rattle.langtag_range.specs.Definitions.{wanted_elements};
 
 use crate::best::{best_among, match_among};
 use crate::best_match::BestMatch;
-use crate::prepared_form::PreparedForm;
 use crate::prepared_tag::PreparedTag;
 use crate::range_list::RangeList;
 use crate::tag_list::TagList;
 use langtag::LangTag;
-use langtag_match::{AcceptLanguage, LanguageRange};
+use langtag_distance::PreparedForm;
+use langtag_header::{AcceptLanguage, LanguageRange};
 
 /// The tags of a site, prepared for many choices. A choice among them is the same as among the tags themselves, but takes
 /// fewer instructions: 0.6 times as many for 40 tags, and 0.4 times for 1,000. A site does not change: make another if its

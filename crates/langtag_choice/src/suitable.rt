@@ -1,7 +1,6 @@
 //! All tags that suit a reader, best first.
-ghost use Rattle.std.specs.Prelude.{◌≡◌, ◌≤◌, IfOk, length, take, drop};
-ghost use Rattle.std.specs.List.{All};
-ghost use Rattle.langtag_range.specs.Wanted.{wanted_elements};
+ghost use Rattle.std.specs.Prelude.{◌≡◌, ◌≤◌, IfOk, length, take, drop, All};
+ghost use Rattle.langtag_range.specs.Definitions.{wanted_elements};
 ghost use Rattle.langtag_choice.specs.ListTexts.{ordered_elements, tag_texts};
 ghost use Rattle.langtag_choice.specs.Suitable as spec;
 
@@ -10,7 +9,7 @@ use crate::range_list::RangeList;
 use crate::remaining::Remaining;
 use crate::tag_list::{TagList, Tags};
 use langtag::LangTag;
-use langtag_match::LanguageRange;
+use langtag_header::LanguageRange;
 use std::alloc::{AllocError, Global};
 
 /// Returns the indices of all suitable tags for an Accept-Language header (RFC 9110 section 12.5.4), best first: the tag

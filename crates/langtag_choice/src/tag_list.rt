@@ -1,12 +1,11 @@
 //! The lists of tags from which one can be chosen.
-ghost use Rattle.std.specs.Prelude.{◌≡◌, ◌<◌, ℕ, IsTrue, List, Option, None, length, slice_index_or};
-ghost use Rattle.std.specs.Option.{ForSome, option_map};
-ghost use Rattle.langtag.specs.Text.{lang_tag_text};
+ghost use Rattle.langtag_scan.specs.Prelude.{◌≡◌, ◌<◌, ℕ, IsTrue, List, Option, None, length, slice_index_or, ForSome, option_map};
+ghost use Rattle.langtag.specs.Definitions.{lang_tag_text};
 ghost use Rattle.langtag_choice.specs.ListTexts.{tag_texts};
-ghost use Rattle.langtag_choice.specs.Prepared.{is_prepared_for};
+ghost use Rattle.langtag_distance.specs.Prepared.{is_prepared_for};
 
-use crate::prepared_form::PreparedForm;
 use langtag::LangTag;
+use langtag_distance::PreparedForm;
 
 /// A list of tags with an index for each. An entry that is not a tag is allowed, but never chosen.
 ///

@@ -3,8 +3,7 @@ use Rattle.std.specs.Prelude.{ℕ, List, Option}
 use Rattle.std.specs.Map.{lookup}
 use Rattle.std.specs.Option.{option_map}
 use Rattle.std.specs.String.{string_bytes}
-use Rattle.langtag.specs.Case.{are_alike}
-use Rattle.langtag.specs.Text.{lang_tag_buf_text}
+use Rattle.langtag.specs.Definitions.{are_alike, lang_tag_buf_text}
 use Rattle.langtag_examples.specs.declared.catalogue.Catalogue.{Catalogue}
 
 -- the text for the tag that equals these bytes, ignoring case

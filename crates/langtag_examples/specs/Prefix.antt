@@ -1,7 +1,6 @@
 -- Tags that are prefixes of another tag, by whole subtags (like a basic range in RFC 4647 section 3.3.1).
 use Rattle.std.specs.Prelude.{◌≡◌, ℕ, ◌≤◌, ◌⊎◌, List, length, take, slice_get, Option, Some, IsSomeAnd, Contains}
-use Rattle.langtag.specs.Case.{Alike}
-use Rattle.langtag.specs.Text.{lang_tag_text}
+use Rattle.langtag.specs.Definitions.{Alike, lang_tag_text}
 use Rattle.langtag.specs.declared.lang_tag.LangTag.{LangTag}
 
 -- the text equals the part, or begins with the part and a hyphen, ignoring case

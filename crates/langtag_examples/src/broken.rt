@@ -1,8 +1,6 @@
 //! Where a string stops being a tag, as an error of the caller's own.
 ghost use Rattle.std.specs.Prelude.{◌≡◌, ◌↔◌, IsTrue, IfOk, IfErr, is_ok};
-ghost use Rattle.langtag.specs.Tag.{IsTag};
-ghost use Rattle.langtag.specs.Text.{lang_tag_text};
-ghost use Rattle.langtag.specs.Viable.{IsViableLength};
+ghost use Rattle.langtag.specs.Definitions.{IsTag, lang_tag_text, IsViableLength};
 
 use langtag::{InvalidLangTag, LangTag, viable_len};
 use std::fmt::Debug;

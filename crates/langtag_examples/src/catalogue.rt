@@ -2,9 +2,7 @@
 ghost use Rattle.std.specs.Prelude.{◌≡◌, ℕ, List, Some, None, OnOk, OnErr, IfOk, IsTrue, false, is_some};
 ghost use Rattle.std.specs.Option.{option_map, option_or};
 ghost use Rattle.std.specs.String.{string_bytes};
-ghost use Rattle.langtag.specs.Case.{are_alike};
-ghost use Rattle.langtag.specs.Tag.{IsTag};
-ghost use Rattle.langtag.specs.Text.{lang_tag_buf_text};
+ghost use Rattle.langtag.specs.Definitions.{are_alike, IsTag, lang_tag_buf_text};
 ghost use Rattle.langtag.specs.declared.lang_tag_buf.LangTagBuf.{LangTagBuf};
 
 use langtag::LangTagBuf;

@@ -1,7 +1,6 @@
 //! Counts by language tag, in a map that is sorted by its keys.
 ghost use Rattle.std.specs.Prelude.{◌≡◌, ℕ, List, Some, None, OnOk, OnErr, IsTrue, false};
-ghost use Rattle.langtag.specs.Case.{are_alike};
-ghost use Rattle.langtag.specs.Text.{lang_tag_buf_text};
+ghost use Rattle.langtag.specs.Definitions.{are_alike, lang_tag_buf_text};
 ghost use Rattle.langtag.specs.declared.lang_tag_buf.LangTagBuf.{LangTagBuf};
 
 use langtag::LangTagBuf;

@@ -1,7 +1,6 @@
 //! Literals of RDF.
 ghost use Rattle.std.specs.Prelude.{◌≡◌, ◌↔◌, IsTrue};
-ghost use Rattle.langtag.specs.Case.{are_alike};
-ghost use Rattle.langtag.specs.Text.{lang_tag_text};
+ghost use Rattle.langtag.specs.Definitions.{are_alike, lang_tag_text};
 
 use langtag::LangTag;
 

@@ -1,10 +1,7 @@
 //! The same tag in another script.
 ghost use Rattle.std.specs.Prelude.{◌≡◌, ◌⊎◌, None, Some, IfOk, OnOk, OnErr};
 ghost use Rattle.std.specs.Option.{option_map, option_or};
-ghost use Rattle.langtag.specs.Record.{EachRecord, Spells, spell};
-ghost use Rattle.langtag.specs.PlaceText.{script_text, script_buf_text};
-ghost use Rattle.langtag.specs.Edit.{with_script};
-ghost use Rattle.langtag.specs.Text.{normal_lang_tag_buf_text};
+ghost use Rattle.langtag.specs.Definitions.{EachRecord, Spells, spell, script_text, script_buf_text, with_script, normal_lang_tag_buf_text};
 ghost use Rattle.langtag_examples.specs.Catalogue.{text_for};
 
 use crate::catalogue::Catalogue;

@@ -1,9 +1,6 @@
 //! The script of a tag.
 ghost use Rattle.std.specs.Prelude.{◌≡◌, unwrap_or};
-ghost use Rattle.langtag.specs.PlaceText.{script_text};
-ghost use Rattle.langtag.specs.Record.{EachRecord};
-ghost use Rattle.langtag.specs.Tag.{IsNormal};
-ghost use Rattle.langtag.specs.Text.{lang_tag_text};
+ghost use Rattle.langtag.specs.Definitions.{script_text, EachRecord, IsNormal, lang_tag_text};
 
 use langtag::{LangTag, Script};
 

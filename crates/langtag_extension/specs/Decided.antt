@@ -1,10 +1,6 @@
 -- The rules of the page Spelling as tests of the subtags of a text. Only ghost fields and contracts of private
 -- functions cite this page.
-use Rattle.std.specs.Prelude.{ℕ, Bool, false, ◌&&◌, ◌==◌, List, [], ◌∷◌, slice_index}
-use Rattle.std.specs.List.{list_all}
-use Rattle.langtag_scan.specs.Case.{fold_byte}
-use Rattle.langtag_scan.specs.Class.{is_singleton, is_extension_subtag}
-use Rattle.langtag_scan.specs.Subtags.{subtags}
+use Rattle.langtag_scan.specs.Grammar.{ℕ, Bool, false, ◌&&◌, ◌==◌, List, [], ◌∷◌, slice_index, list_all, fold_byte, is_singleton, is_extension_subtag, subtags}
 use Rattle.langtag_extension.specs.ExtensionTexts.{extension_texts}
 
 abbrev pub are_extension_subtags : List (List ℕ) → Bool

@@ -1,9 +1,6 @@
 -- How a text is split into extensions: before each subtag of one byte. Only ghost fields, contracts of private
 -- functions and langtag_c's walk over extensions cite this page.
-use Rattle.std.specs.Prelude.{◌≡◌, ℕ, ◌+◌, ◌<◌, ◌≤◌, Bool, true, IsTrue, ◌==◌, not, List, [], ◌∷◌, length, take, drop, map, slice_index, cond, Option}
-use Rattle.std.specs.List.{list_all}
-use Rattle.std.specs.Borrow.{Bor}
-use Rattle.langtag_scan.specs.Subtags.{join, segments, subtags, segments_left}
+use Rattle.langtag_scan.specs.Grammar.{◌≡◌, ℕ, ◌+◌, ◌<◌, ◌≤◌, Bool, true, IsTrue, ◌==◌, not, List, [], ◌∷◌, length, take, drop, map, slice_index, cond, Option, list_all, Bor, join, segments, subtags, segments_left}
 
 -- whether a subtag belongs to the same extension as the subtag before it; a subtag of one byte begins another extension
 abbrev pub goes_on : List ℕ → Bool

@@ -1,10 +1,5 @@
 -- The rules of RFC 5646 section 2.2.6: which texts are one extension, and which are a list of extensions.
-use Rattle.std.specs.Prelude.{◌≡◌, ◌==◌, ℕ, Bool, false, List, [], ◌∷◌, Option, find}
-use Rattle.std.specs.List.{AllByRecursion, flat_map}
-use Rattle.langtag_scan.specs.Case.{fold_byte}
-use Rattle.langtag_scan.specs.Class.{is_singleton}
-use Rattle.langtag_scan.specs.Record.{Extension, IsWellFormedExtension, extension_flat}
-use Rattle.langtag_scan.specs.Subtags.{join}
+use Rattle.langtag_scan.specs.Grammar.{◌≡◌, ◌==◌, ℕ, Bool, false, List, [], ◌∷◌, Option, find, AllByRecursion, flat_map, fold_byte, is_singleton, Extension, IsWellFormedExtension, extension_flat, join}
 
 -- whether the text is one byte that is a singleton
 abbrev pub is_singleton_text : List ℕ → Bool

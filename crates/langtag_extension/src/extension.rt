@@ -1,10 +1,8 @@
 //! An extension (RFC 5646 section 2.2.6).
-ghost use Rattle.std.specs.Prelude.{◌≡◌, ◌↔◌, Some, IsTrue, IfOk, IfErr, is_ok, slice_index, string_bytes};
-ghost use Rattle.langtag_scan.specs.Case.{are_alike};
+ghost use Rattle.langtag_scan.specs.Grammar.{◌≡◌, ◌↔◌, Some, IsTrue, IfOk, IfErr, is_ok, slice_index, string_bytes, are_alike};
 ghost use Rattle.langtag_scan.specs.Record as model;
 ghost use Rattle.langtag_extension.specs.Spelling.{SpellsExtension, IsExtension};
-ghost use Rattle.langtag_extension.specs.Decided as test;
-ghost use Rattle.langtag_extension.specs.Decided.{are_extension_subtags, is_extension_text, opens_alike};
+ghost use Rattle.langtag_extension.specs.Decided.{are_extension_subtags, is_extension_text, opens_alike, is_singleton_alone};
 
 use crate::extension_iter::ExtensionIter;
 use crate::singleton::Singleton;
@@ -277,7 +275,7 @@ pub(crate) fn is_extension(text: &str) -> bool
 
 /// Returns whether the bytes are only a singleton.
 fn is_singleton_alone(bytes: &[u8]) -> bool
-    ensures { result ≡ test.is_singleton_alone bytes.now }
+    ensures { result ≡ is_singleton_alone bytes.now }
 {
     match bytes {
         [byte] => is_singleton(*byte),

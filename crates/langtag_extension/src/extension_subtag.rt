@@ -1,10 +1,5 @@
 //! A subtag of an extension (RFC 5646 section 2.2.6).
-ghost use Rattle.std.specs.Prelude.{◌≡◌, ◌&&◌, ◌||◌, Some, IsTrue, IfOk, IfErr, is_ok, length, string_bytes};
-ghost use Rattle.std.specs.Char.{is_ascii_alphabetic, is_ascii_digit};
-ghost use Rattle.std.specs.Int.{is_in_range};
-ghost use Rattle.std.specs.List.{list_all};
-ghost use Rattle.langtag_scan.specs.Case.{are_alike};
-ghost use Rattle.langtag_scan.specs.Class as class;
+ghost use Rattle.langtag_scan.specs.Grammar.{◌≡◌, ◌&&◌, ◌||◌, Some, IsTrue, IfOk, IfErr, is_ok, length, string_bytes, is_ascii_alphabetic, is_ascii_digit, is_in_range, list_all, are_alike, is_extension_subtag};
 
 use langtag_scan::{Caseless, is_extension_subtag};
 use std::alloc::{AllocError, Global};
@@ -40,7 +35,7 @@ pub struct InvalidExtensionSubtag<T>(pub T);
 #[derive(Clone, Copy, Debug, PartialEq, Eq, PartialOrd, Ord, Hash)]
 pub struct ExtensionSubtag<'a> {
     text: Caseless<&'a str>,
-    ghost in_class: { IsTrue (class.is_extension_subtag text.0.now) },
+    ghost in_class: { IsTrue (is_extension_subtag text.0.now) },
 }
 
 impl<'a> ExtensionSubtag<'a> {
@@ -55,7 +50,7 @@ impl<'a> ExtensionSubtag<'a> {
     /// `Err(InvalidExtensionSubtag("c"))`.
     #[tactic(auto, using(crate::proofs::Numbers::extension_subtag_numbers))]
     pub fn new(text: &'a str) -> Result<ExtensionSubtag<'a>, InvalidExtensionSubtag<&'a str>>
-        ensures accepts { is_ok result ≡ class.is_extension_subtag text.now }
+        ensures accepts { is_ok result ≡ is_extension_subtag text.now }
         ensures by_number { is_ok result ≡
             (is_in_range 2 8 (length text.now) && list_all (λ b. is_ascii_alphabetic b || is_ascii_digit b) text.now) }
         ensures same_text { IfOk result (λ subtag. extension_subtag_text subtag ≡ text.now) }
@@ -70,7 +65,7 @@ impl<'a> ExtensionSubtag<'a> {
     /// Wraps a string that is known to be a subtag of an extension, without checking it.
     /// `ExtensionSubtag::from_checked(subtag.as_str())` is equal to `subtag`.
     pub fn from_checked(text: &'a str) -> ExtensionSubtag<'a>
-        requires { IsTrue (class.is_extension_subtag text.now) }
+        requires { IsTrue (is_extension_subtag text.now) }
         ensures { extension_subtag_text result ≡ text.now }
     {
         ExtensionSubtag {
@@ -81,7 +76,7 @@ impl<'a> ExtensionSubtag<'a> {
     /// Returns the string, in its original case: `ExtensionSubtag::new("CO")?.as_str()` is `"CO"`.
     pub fn as_str(&self) -> &'a str
         ensures same_text { result.now ≡ extension_subtag_text self.now }
-        ensures in_class { IsTrue (class.is_extension_subtag result.now) }
+        ensures in_class { IsTrue (is_extension_subtag result.now) }
     {
         self.text.0
     }
@@ -99,7 +94,7 @@ impl<'a> ExtensionSubtag<'a> {
     #[tactic(auto, using(langtag_scan::proofs::CaseOrder::bytes_ends_first, langtag_scan::proofs::CaseLaw::alike_extension_subtag))]
     pub fn eq_str(&self, other: &str) -> bool
         ensures test { result ≡ are_alike (extension_subtag_text self.now) other.now }
-        ensures in_class { IsTrue result → IsTrue (class.is_extension_subtag other.now) }
+        ensures in_class { IsTrue result → IsTrue (is_extension_subtag other.now) }
 
         ensures compared { ExtensionSubtagsCompareByCase }
         ensures cloned { (copy : ExtensionSubtag) → ⟦<ExtensionSubtag<'a> as Clone>⟧.is_clone self.now copy → copy ≡ self.now }
@@ -145,7 +140,7 @@ impl fmt::Display for ExtensionSubtag<'_> {
 #[derive(Debug, Drop, PartialEq, Eq, PartialOrd, Ord, Hash)]
 pub struct ExtensionSubtagBuf {
     text: Caseless<String>,
-    ghost in_class: { IsTrue (class.is_extension_subtag (string_bytes text.0)) },
+    ghost in_class: { IsTrue (is_extension_subtag (string_bytes text.0)) },
 }
 
 impl ExtensionSubtagBuf {
@@ -166,7 +161,7 @@ impl ExtensionSubtagBuf {
     /// ExtensionSubtagBuf::new(String::from_str(alloc, "c")?).is_err(); // true
     /// ```
     pub fn new(text: String) -> Result<ExtensionSubtagBuf, InvalidExtensionSubtag<String>>
-        ensures accepts { is_ok result ≡ class.is_extension_subtag (string_bytes text) }
+        ensures accepts { is_ok result ≡ is_extension_subtag (string_bytes text) }
         ensures same_text { IfOk result (λ subtag. extension_subtag_buf_text subtag ≡ string_bytes text) }
         ensures same_string { IfOk result (λ subtag. extension_subtag_buf_string subtag ≡ text) }
         ensures given_back { IfErr result (λ error. error.0 ≡ text) }
@@ -193,7 +188,7 @@ impl ExtensionSubtagBuf {
     /// Returns the string, in its original case: `ExtensionSubtag::new("CO")?.try_to_owned(alloc)?.as_str()` is `"CO"`.
     pub fn as_str(&self) -> &str
         ensures same_text { result.now ≡ extension_subtag_buf_text self.now }
-        ensures in_class { IsTrue (class.is_extension_subtag result.now) }
+        ensures in_class { IsTrue (is_extension_subtag result.now) }
     {
         self.text.0.as_str()
     }
@@ -203,7 +198,7 @@ impl ExtensionSubtagBuf {
     pub fn into_string(self) -> String
         ensures same_text { string_bytes result ≡ extension_subtag_buf_text self }
         ensures same_string { result ≡ extension_subtag_buf_string self }
-        ensures in_class { IsTrue (class.is_extension_subtag (string_bytes result)) }
+        ensures in_class { IsTrue (is_extension_subtag (string_bytes result)) }
     {
         self.text.0
     }

@@ -1,8 +1,5 @@
 //! An iterator over the strings of the extensions in a string.
-ghost use Rattle.std.specs.Prelude.{◌≡◌, ◌++◌, ◌∷◌, List, ℕ, IsTrue, MatchOption, drop, ⊤};
-ghost use Rattle.std.specs.Iterator.{YieldsFirstRef, item_count};
-ghost use Rattle.std.specs.List.{list_all};
-ghost use Rattle.langtag_scan.specs.Subtags.{segments, segments_left};
+ghost use Rattle.langtag_scan.specs.Grammar.{◌≡◌, ◌++◌, ◌∷◌, List, ℕ, IsTrue, MatchOption, drop, ⊤, YieldsFirstRef, item_count, list_all, segments, segments_left};
 ghost use Rattle.langtag_extension.specs.ExtensionTexts.{IsFirstExtension, extension_texts, texts_left, goes_on, opens};
 
 use langtag_scan::segment_end;

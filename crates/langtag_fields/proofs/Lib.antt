@@ -1,3 +1,4 @@
 pub mod Values
 pub mod FieldTables
 pub mod WholeTags
+pub mod RepeatsSeen

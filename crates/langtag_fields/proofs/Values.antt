@@ -1,7 +1,7 @@
 -- A value beside a key, and an entry's value; and the table of languages, which has a bit for each registered one and no other.
 use Rattle.langtag_scan.proofs.Prelude.{◌≡◌, ◌||◌, ℕ, zero, suc, Bool, true, List, [], ◌∷◌, Some, map, slice_get, refl, ap, arith, ◌+◌, ◌*◌, ◌-◌, ◌/◌, ◌%◌, ◌<◌, ◌≤◌, false, ◌==◌, leb, length, get_or, sym, ◌∙◌, ◌≢◌, ltb, cond, take, drop, Option, None, list_all, list_any, bytes_eq, and_parts, eq-eqb, ne_eqb, leb-true, ltb-true, false_from_ne_true, common_steps, ◌^◌, get_or_append_left, get_or-append-add, length-map, length-drop, drop-map, take_all, get_or-map, Result, fold-map, flat_map, fold, find, Ok, Err, nat_tests}
 use Rattle.std.proofs.lemmas.List.FromFn.{get_or-map-range_with_len, length-map-range_with_len}
-use Rattle.langtag_scan.proofs.Grammar.{fold_byte, are_alike, fold_text, folded_number, Alike, are_alike-decides, is_letter, are_letters, are_alphanumeric}
+use Rattle.langtag_scan.specs.Grammar.{fold_byte, are_alike, fold_text, folded_number, Alike, are_alike-decides, is_letter, are_letters, are_alphanumeric}
 use Rattle.langtag_fields.specs.declared.tables.TheConstants.{LANGUAGE_BITS}
 use Rattle.langtag_fields.specs.Subtags.{language_subtags, extlang_subtags, tag_preferred}
 use Rattle.langtag_tables.specs.Numbers.{letter_number, places, climbs_from}

@@ -1,7 +1,7 @@
 -- What the registry puts in the place of a subtag or a tag is registered, and the Preferred-Value of a whole tag is a normal tag of a
 -- simple record: by computation.
 use Rattle.langtag_scan.proofs.Prelude.{◌≡◌, ℕ, ◌-◌, ◌/◌, ◌%◌, ◌<◌, ◌==◌, true, Bool, ◌&&◌, leb, ltb, List, [], ◌∷◌, length, map, get_or, Option, None, Some, IsTrue, IfSome, inl, refl, arith, nat_tests, common_steps, ◌^◌, list_all, option_map_or, bytes_eq, bytes_decides, and_parts, is_none, find}
-use Rattle.langtag_scan.proofs.Grammar.{fold_byte, are_alike, is_primary, is_letter, are_letters, is_digit, is_script, is_region, is_variant, Record, IsWellFormed, Spells, spell, subtags, IsTag, IsNormal}
+use Rattle.langtag_scan.specs.Grammar.{fold_byte, are_alike, is_primary, is_letter, are_letters, is_digit, is_script, is_region, is_variant, Record, IsWellFormed, Spells, spell, subtags, IsTag, IsNormal}
 use Rattle.langtag_scan.proofs.SubtagLists.{each_from_test}
 use Rattle.langtag.specs.Repeat.{repeat}
 use Rattle.langtag_tables.specs.Numbers.{letter_number}

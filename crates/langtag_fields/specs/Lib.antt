@@ -3,3 +3,4 @@ pub mod Subtags
 pub mod Registered
 pub mod Fields
 pub mod Tables
+pub mod Valid

@@ -1,8 +1,6 @@
 //! The fields of the registry's record for a language (RFC 5646 sections 3.1.7, 3.1.9 and 3.1.10).
-ghost use Rattle.std.specs.Prelude.{◌≡◌};
-ghost use Rattle.std.specs.Option.{option_map};
-ghost use Rattle.langtag_language.specs.Text.{primary_language_text};
-ghost use Rattle.langtag_place.specs.Text.{script_text};
+ghost use Rattle.std.specs.Prelude.{◌≡◌, option_map};
+ghost use Rattle.langtag.specs.Definitions.{primary_language_text, script_text};
 ghost use Rattle.langtag_fields.specs.Fields as field;
 
 use crate::table::value_of;

@@ -1,6 +1,6 @@
 //! Registered languages (RFC 5646 section 2.2.1).
 ghost use Rattle.std.specs.Prelude.{◌≡◌, ◌<◌};
-ghost use Rattle.langtag_language.specs.Text.{primary_language_text};
+ghost use Rattle.langtag.specs.Definitions.{primary_language_text};
 ghost use Rattle.langtag_fields.specs.Registered as registered;
 ghost use Rattle.langtag_fields.specs.Tables.{language_bit};
 

@@ -1,8 +1,6 @@
 //! The Preferred-Value of a region, a variant or a whole tag (RFC 5646 section 3.1.7).
-ghost use Rattle.std.specs.Prelude.{◌≡◌, map};
-ghost use Rattle.std.specs.Option.{option_map};
-ghost use Rattle.langtag_place.specs.Text.{region_text, variant_text};
-ghost use Rattle.langtag.specs.Text.{lang_tag_text};
+ghost use Rattle.std.specs.Prelude.{◌≡◌, map, option_map};
+ghost use Rattle.langtag.specs.Definitions.{region_text, variant_text, lang_tag_text};
 ghost use Rattle.langtag_fields.specs.Entry.{value_for};
 ghost use Rattle.langtag_fields.specs.Fields as field;
 ghost use Rattle.langtag_fields.specs.Tables.{AreEndsOf};

@@ -1,7 +1,6 @@
 //! Registered extended languages, scripts, regions and variants (RFC 5646 sections 2.2.2 to 2.2.5).
 ghost use Rattle.std.specs.Prelude.{◌≡◌};
-ghost use Rattle.langtag_language.specs.Text.{extended_lang_tag_text};
-ghost use Rattle.langtag_place.specs.Text.{script_text, region_text, variant_text};
+ghost use Rattle.langtag.specs.Definitions.{extended_lang_tag_text, script_text, region_text, variant_text};
 ghost use Rattle.langtag_fields.specs.Registered as registered;
 
 use crate::table::is_among;

@@ -1,6 +1,5 @@
 //! Tables of subtags, which are searched for a string, ignoring case.
-ghost use Rattle.std.specs.Prelude.{◌≡◌, ℕ, ◌==◌, IsTrue, List, length, map};
-ghost use Rattle.std.specs.Option.{option_map};
+ghost use Rattle.std.specs.Prelude.{◌≡◌, ℕ, ◌==◌, IsTrue, List, length, map, option_map};
 ghost use Rattle.langtag_scan.proofs.SubtagFacts.{IsSubtag};
 ghost use Rattle.langtag_fields.specs.Entry.{Entry, value_for};
 ghost use Rattle.langtag_fields.specs.Registered as registered;

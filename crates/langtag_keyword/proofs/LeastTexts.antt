@@ -1,7 +1,7 @@
 -- The numbers of subtags are in the order of the alphabet, and tell the subtags.
 use Rattle.langtag_keyword.proofs.Common.{is_alphanumeric, and_parts, are_alphanumeric, each-weaker, ◌≡◌, ℕ, zero, suc, ◌+◌, ◌*◌, ◌<◌, ◌≤◌, ◌-◌, Bool, true, false, not, cond, ◌==◌, ◌&&◌, ◌||◌, List, [], ◌∷◌, ◌++◌, length, get_or, drop, map, append_assoc, append-nil, refl, sym, ap, subst, ◌∙◌, arith, flat_map-append, AllByRecursion, filter, flat_map, list_any, false≢true, nat_tests, at_drop_more, pushes_both, pushes_ended, pushes_same, Output, Pushes, length-fold, IsSubtag, fold_text, in_alphabet, is_before, IsOffered, Least, key_of, number_text, order_number}
 use Rattle.langtag_scan.proofs.Prelude.{◌%◌, ◌^◌, ltb-false, ltb-true, ltb, All, All-from_recursion, common_steps}
-use Rattle.langtag_scan.proofs.Grammar.{folded_number}
+use Rattle.langtag_scan.specs.Grammar.{folded_number}
 use Rattle.langtag_scan.specs.Case.{fold_byte}
 use Rattle.langtag_scan.specs.Class.{is_digit, is_letter}
 use Rattle.std.proofs.Math.Nat.{mod-eq_of_lt, pow-suc}

@@ -1,7 +1,7 @@
 -- The subtags of an extension, and those before a key, in its text.
 use Rattle.langtag_keyword.proofs.Common.{◌≡◌, ℕ, ◌≤◌, ◌<◌, ◌+◌, ◌-◌, Bool, true, false, List, [], ◌∷◌, ◌++◌, length, take, drop, get_or, Option, None, Some, suc, refl, ap, sym, subst, ◌∙◌, arith, cond, append-nil, zero, IsUtf8, IsCharBoundary-after_ascii, common_steps, length-append, AllByRecursion, list_any, option_map_or, length-slice_split, Extension, Record, IsWellFormed, is_hyphen, join, segments, subtags, NoHyphenWithin, hyphenated, length-join, IsSubtag, of_extension_subtag, each_subtag, subtags-joined, join-subtags, is_extension_subtag, SpellsExtension, IsExtension, find_extension, extension_found, length_with_hyphens, opens_keyword, before_key, is_new_key, keywords_after, are_alike, option_map}
 use Rattle.langtag_scan.proofs.Prelude.{take-append-drop, IsCharBoundary, get_or-append_seam, drop-cons, slice_split_at, slice_split_none, nat_tests}
-use Rattle.langtag_scan.proofs.Grammar.{IsHyphenFree}
+use Rattle.langtag_scan.specs.Grammar.{IsHyphenFree}
 use Rattle.std.proofs.lemmas.Str.{IsCharBoundary-start, IsCharBoundary-end}
 use Rattle.langtag_scan.proofs.Laws.{join-append, length-hyphenated, take-join, length-subtags}
 use Rattle.langtag_keyword.specs.Keywords.{subtags_of, each_once_after}

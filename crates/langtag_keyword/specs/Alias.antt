@@ -1,7 +1,5 @@
 -- The form of CLDR's aliases: a text and its replacement (UTS #35, part 1, Annex C).
-use Rattle.std.specs.Prelude.{ℕ, ◌&&◌, List, [], ◌∷◌, Option, find}
-use Rattle.std.specs.Option.{option_map}
-use Rattle.langtag_scan.specs.Case.{are_alike}
+use Rattle.langtag_scan.specs.Grammar.{ℕ, ◌&&◌, List, [], ◌∷◌, Option, find, option_map, are_alike}
 
 -- a text that is replaced, and its replacement
 pub record Alias : Type 0 where

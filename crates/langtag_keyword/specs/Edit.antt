@@ -1,10 +1,6 @@
 -- Setting and removing keywords of the extension `u` (RFC 6067 section 2.1; UTS #35, part 1, section 'U Extension').
-use Rattle.std.specs.Prelude.{◌≡◌, ℕ, ◌+◌, Bool, true, false, ◌&&◌, List, [], ◌∷◌, ◌++◌, Option, None, Some, if◌then◌else◌, find, leb, length, map, nat_lt, unwrap_or}
-use Rattle.std.specs.Option.{is_some, option_map}
-use Rattle.langtag_scan.specs.Case.{are_alike, fold_byte, fold_text}
-use Rattle.langtag_scan.specs.Class.{is_alphanumeric, is_extension_subtag, is_letter}
-use Rattle.langtag_scan.specs.Record.{Extension, Record}
-use Rattle.langtag_scan.specs.Subtags.{join, subtags}
+use Rattle.std.specs.Prelude.{◌≡◌, ℕ, ◌+◌, Bool, true, false, ◌&&◌, List, [], ◌∷◌, ◌++◌, Option, None, Some, if◌then◌else◌, find, leb, length, map, nat_lt, unwrap_or, is_some, option_map}
+use Rattle.langtag_scan.specs.Grammar.{are_alike, fold_byte, fold_text, is_alphanumeric, is_extension_subtag, is_letter, Extension, Record, join, subtags}
 use Rattle.langtag_extension.specs.Spelling.{find_extension}
 use Rattle.langtag_keyword.specs.declared.keyword_error.KeywordError.{KeywordError}
 use Rattle.langtag_keyword.specs.declared.keyword_error.KeywordError.TheVariants.{Key, Value}

@@ -1,8 +1,5 @@
 -- The value in an edit of a keyword, and the place of `u`. Only contracts of private functions cite this page.
-use Rattle.std.specs.Prelude.{◌≡◌, ℕ, Bool, true, false, List, [], Option, None, unwrap_or}
-use Rattle.std.specs.Option.{option_map}
-use Rattle.langtag_scan.specs.Record.{Record}
-use Rattle.langtag_scan.specs.Subtags.{subtags}
+use Rattle.langtag_scan.specs.Grammar.{◌≡◌, ℕ, Bool, true, false, List, [], Option, None, unwrap_or, option_map, Record, subtags}
 use Rattle.langtag_keyword.specs.declared.keyword_edit.KeywordEdit.{KeywordEdit}
 use Rattle.langtag_keyword.specs.declared.keyword_edit.Place.{Place}
 use Rattle.langtag_keyword.specs.declared.keyword_edit.Place.TheVariants.{OfFirstUnicode, BeforeGreater}

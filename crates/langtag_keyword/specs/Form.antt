@@ -1,14 +1,7 @@
 -- The canonical form of the extensions `u` and `t` (UTS #35, part 1, section 'Unicode Locale Identifier' and Annex C; RFC 6067 section
 -- 2.1, RFC 6497 section 2.2).
-use Rattle.std.specs.Prelude.{ℕ, Bool, true, false, not, ◌&&◌, ◌||◌, ◌==◌, leb, List, [], ◌∷◌, ◌++◌, length, map, codes, if◌then◌else◌, unwrap_or}
-use Rattle.std.specs.List.{filter, flat_map, list_any}
-use Rattle.std.specs.Option.{option_map_or}
-use Rattle.std.specs.Ordering.{is_lt, nat_cmp}
-use Rattle.std.specs.Cmp.Lexicographic.{slice_cmp}
-use Rattle.langtag_scan.specs.Case.{are_alike, fold_byte, fold_text}
-use Rattle.langtag_scan.specs.Class.{is_primary, is_region, is_script, is_variant}
-use Rattle.langtag_scan.specs.Record.{Extension, Record}
-use Rattle.langtag_scan.specs.Subtags.{join, subtags}
+use Rattle.langtag_scan.specs.Prelude.{ℕ, Bool, true, false, not, ◌&&◌, ◌||◌, ◌==◌, leb, List, [], ◌∷◌, ◌++◌, length, map, codes, if◌then◌else◌, unwrap_or, filter, flat_map, list_any, option_map_or, is_lt, nat_cmp, slice_cmp}
+use Rattle.langtag_scan.specs.Grammar.{are_alike, fold_byte, fold_text, is_primary, is_region, is_script, is_variant, Extension, Record, join, subtags}
 use Rattle.langtag_keyword.specs.Alias.{alias_for, type_alias_for}
 use Rattle.langtag_keyword.specs.Aliases.{subdivision_aliases, transform_type_aliases, unicode_type_aliases}
 use Rattle.langtag_keyword.specs.Keywords.{before_key, is_key, value_of}

@@ -1,11 +1,6 @@
 -- Sets of keys: a number for each first character, with a bit for each second character. Only contracts of private functions, and
 -- the view of an iterator, cite this page.
-use Rattle.std.specs.Prelude.{◌≡◌, ℕ, ◌+◌, ◌-◌, ◌*◌, ◌%◌, ◌^◌, Bool, false, ◌==◌, ◌&&◌, not, List, [], ◌∷◌, if◌then◌else◌, bit_or, length, slice_index_or, set}
-use Rattle.std.specs.Int.{bit_at}
-use Rattle.std.specs.List.{list_any}
-use Rattle.langtag_scan.specs.Case.{are_alike, fold_byte}
-use Rattle.langtag_scan.specs.Class.{is_digit}
-use Rattle.langtag_scan.specs.Subtags.{join}
+use Rattle.langtag_scan.specs.Grammar.{◌≡◌, ℕ, ◌+◌, ◌-◌, ◌*◌, ◌%◌, ◌^◌, Bool, false, ◌==◌, ◌&&◌, not, List, [], ◌∷◌, if◌then◌else◌, bit_or, length, slice_index_or, set, bit_at, list_any, are_alike, fold_byte, is_digit, join}
 use Rattle.langtag_scan.proofs.SubtagFacts.{IsSubtag}
 use Rattle.langtag_keyword.specs.Keywords.{Keyword, before_key}
 

@@ -1,9 +1,6 @@
 -- How subtags are put in order as numbers, some of them at a time. Only contracts of private functions, and of those that
 -- langtag_locale shares, cite this page.
-use Rattle.std.specs.Prelude.{◌≡◌, ℕ, zero, suc, ◌+◌, ◌*◌, ◌^◌, ◌<◌, Bool, ◌==◌, ◌&&◌, not, ltb, leb, List, [], ◌∷◌, ◌++◌, if◌then◌else◌, take}
-use Rattle.std.specs.List.{filter, list_any}
-use Rattle.std.specs.Int.{w64, to_be_bytes}
-use Rattle.langtag_scan.specs.Case.{fold_text}
+use Rattle.langtag_scan.specs.Grammar.{◌≡◌, ℕ, zero, suc, ◌+◌, ◌*◌, ◌^◌, ◌<◌, Bool, ◌==◌, ◌&&◌, not, ltb, leb, List, [], ◌∷◌, ◌++◌, if◌then◌else◌, take, filter, list_any, w64, to_be_bytes, fold_text}
 
 -- ---- numbers for subtags
 

@@ -3,8 +3,9 @@ pub mod Aliases
 pub mod Edit
 pub mod EditText
 pub mod Form
+pub mod Identifier
+pub mod KeySets
 pub mod Keys
 pub mod Keywords
 pub mod Least
-pub mod KeySets
 pub mod Transform

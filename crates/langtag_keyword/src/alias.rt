@@ -1,6 +1,5 @@
 //! Replacing types and subdivisions (UTS #35, part 1, Annex C).
-ghost use Rattle.std.specs.Prelude.{◌≡◌, map};
-ghost use Rattle.std.specs.Option.{option_map};
+ghost use Rattle.std.specs.Prelude.{◌≡◌, map, option_map};
 ghost use Rattle.langtag_keyword.specs.Alias.{alias_for, type_alias_for};
 ghost use Rattle.langtag_keyword.specs.Aliases as list;
 ghost use Rattle.langtag_keyword.specs.Keys.{canonical_value_of};

@@ -1,9 +1,6 @@
 //! Subtags in lowercase and in alphabetical order, written to an output.
-ghost use Rattle.std.specs.Prelude.{◌≡◌, ◌≤◌, ◌∷◌, [], map};
-ghost use Rattle.std.specs.List.{AllByRecursion};
+ghost use Rattle.langtag_scan.specs.Grammar.{◌≡◌, ◌≤◌, ◌∷◌, [], map, AllByRecursion, fold_text, segments_left, subtags};
 ghost use Rattle.langtag_output.specs.Output.{Pushes};
-ghost use Rattle.langtag_scan.specs.Case.{fold_text};
-ghost use Rattle.langtag_scan.specs.Subtags.{segments_left, subtags};
 ghost use Rattle.langtag_scan.proofs.SubtagFacts.{IsSubtag};
 ghost use Rattle.langtag_keyword.specs.Form as spec;
 ghost use Rattle.langtag_keyword.specs.Least.{IsOffered, order_number};

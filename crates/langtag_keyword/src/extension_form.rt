@@ -1,12 +1,10 @@
 //! The canonical form of the extensions `u` and `t` (UTS #35, part 1, Annex C).
-ghost use Rattle.std.specs.Prelude.{◌≡◌, ◌<◌, ◌∷◌, ◌&&◌, ◌||◌, not, [], List, false};
-ghost use Rattle.std.specs.List.{AllByRecursion, flat_map};
+ghost use Rattle.langtag_scan.specs.Grammar.{◌≡◌, ◌<◌, ◌∷◌, ◌&&◌, ◌||◌, not, [], List, false, AllByRecursion, flat_map, subtags};
 ghost use Rattle.langtag_extension.specs.Spelling.{SpellsExtension, SpellsExtensions};
 ghost use Rattle.langtag_extension.specs.Text.{extension_text, extensions_text};
 ghost use Rattle.langtag_output.specs.Output.{Pushes};
 ghost use Rattle.langtag_scan.proofs.SubtagFacts.{IsSubtag};
 ghost use Rattle.langtag_scan.specs.Record as model;
-ghost use Rattle.langtag_scan.specs.Subtags.{subtags};
 ghost use Rattle.langtag_keyword.specs.Form as spec;
 
 use crate::alphabet::push_in_alphabet;

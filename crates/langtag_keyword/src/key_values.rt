@@ -1,11 +1,6 @@
 //! The values of the keys that begin with one character, found by one walk over the subtags.
-ghost use Rattle.std.specs.Prelude.{◌≡◌, ◌<◌, ◌∷◌, ◌&&◌, ◌==◌, [], IfSome, IsTrue, None, false, get_or, ℕ};
-ghost use Rattle.std.specs.List.{AllByRecursion};
-ghost use Rattle.std.specs.Option.{option_map, option_map_or};
+ghost use Rattle.langtag_scan.specs.Grammar.{◌≡◌, ◌<◌, ◌∷◌, ◌&&◌, ◌==◌, [], IfSome, IsTrue, None, false, get_or, ℕ, AllByRecursion, option_map, option_map_or, are_alike, is_alphanumeric, join, subtags};
 ghost use Rattle.langtag_scan.proofs.SubtagFacts.{IsSubtag};
-ghost use Rattle.langtag_scan.specs.Case.{are_alike};
-ghost use Rattle.langtag_scan.specs.Class.{is_alphanumeric};
-ghost use Rattle.langtag_scan.specs.Subtags.{join, subtags};
 ghost use Rattle.langtag_keyword.specs.Keys.{opens_keyword};
 ghost use Rattle.langtag_keyword.specs.Keywords.{value_of};
 ghost use Rattle.langtag_keyword.specs.KeySets as spec;

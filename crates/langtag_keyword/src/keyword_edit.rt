@@ -1,13 +1,9 @@
 //! Writing the extensions of a tag with a keyword set or removed.
-ghost use Rattle.std.specs.Prelude.{◌≡◌, List, map};
-ghost use Rattle.std.specs.List.{AllByRecursion, flat_map};
-ghost use Rattle.std.specs.Option.{is_some};
+ghost use Rattle.langtag_scan.specs.Grammar.{◌≡◌, List, map, AllByRecursion, flat_map, is_some, IsWellFormedExtension, subtags};
 ghost use Rattle.langtag_extension.specs.Spelling.{SpellsExtension, SpellsExtensions, extension_spelling, find_extension};
 ghost use Rattle.langtag_extension.specs.Text.{extension_text, extensions_left, extensions_text};
 ghost use Rattle.langtag_output.specs.Output.{Pushes};
 ghost use Rattle.langtag_scan.specs.Record as model;
-ghost use Rattle.langtag_scan.specs.Record.{IsWellFormedExtension};
-ghost use Rattle.langtag_scan.specs.Subtags.{subtags};
 ghost use Rattle.langtag_keyword.specs.Edit as spec;
 ghost use Rattle.langtag_keyword.specs.EditText.{edited_by, replaces};
 

@@ -1,10 +1,7 @@
 //! Keywords and fields with their canonical values, in the order of their keys, written to an output.
-ghost use Rattle.std.specs.Prelude.{◌≡◌, ◌≤◌, List, map, ℕ};
-ghost use Rattle.std.specs.List.{All, AllByRecursion, filter, flat_map};
-ghost use Rattle.std.specs.Option.{option_map};
+ghost use Rattle.langtag_scan.specs.Grammar.{◌≡◌, ◌≤◌, List, map, ℕ, All, AllByRecursion, filter, flat_map, option_map, join, subtags};
 ghost use Rattle.langtag_output.specs.Output.{Pushes};
 ghost use Rattle.langtag_scan.proofs.SubtagFacts.{IsSubtag};
-ghost use Rattle.langtag_scan.specs.Subtags.{join, subtags};
 ghost use Rattle.langtag_keyword.specs.Form as spec;
 ghost use Rattle.langtag_keyword.specs.Keys.{canonical_value_of, opens_keyword};
 ghost use Rattle.langtag_keyword.specs.Keywords.{value_of};

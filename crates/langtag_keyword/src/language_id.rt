@@ -1,14 +1,7 @@
 //! The language of the extension `t` (UTS #35, part 1, `unicode_language_id`).
-ghost use Rattle.std.specs.Prelude.{◌≡◌, ◌-◌, ◌^◌, [], IsTrue, fold, length, map, min};
-ghost use Rattle.std.specs.List.{AllByRecursion, list_all, list_any};
-ghost use Rattle.std.specs.Option.{option_map};
+ghost use Rattle.langtag_scan.specs.Grammar.{◌≡◌, ◌-◌, ◌^◌, [], IsTrue, fold, length, map, min, AllByRecursion, list_all, list_any, option_map, are_alike, fold_text, is_region, is_script, one_flat, segments, segments_left, is_variant};
 ghost use Rattle.langtag_output.specs.Output.{Pushes, with_subtag};
 ghost use Rattle.langtag_scan.proofs.SubtagFacts.{IsSubtag};
-ghost use Rattle.langtag_scan.specs.Case.{are_alike, fold_text};
-ghost use Rattle.langtag_scan.specs.Class as class;
-ghost use Rattle.langtag_scan.specs.Class.{is_region, is_script};
-ghost use Rattle.langtag_scan.specs.Record.{one_flat};
-ghost use Rattle.langtag_scan.specs.Subtags.{segments, segments_left};
 ghost use Rattle.langtag_keyword.specs.Form as spec;
 
 use crate::alphabet::{push_in_alphabet, push_lowercase};
@@ -97,7 +90,7 @@ fn are_variants(rest: Option<&str>) -> bool
 
 /// Returns whether all subtags are variants.
 fn are_all_variants(rest: Option<&str>) -> bool
-    ensures { result ≡ list_all class.is_variant (segments_left rest.entry) }
+    ensures { result ≡ list_all is_variant (segments_left rest.entry) }
 {
     let mut rest = rest;
     while let Some(text) = rest {
@@ -113,7 +106,7 @@ fn are_all_variants(rest: Option<&str>) -> bool
 /// Returns whether no two variants of a string are equal: whether they take as many bytes when each is written once.
 #[tactic(auto, using(crate::proofs::VariantLengths::are_subtags, crate::proofs::VariantLengths::different_length))]
 fn are_different(text: &str) -> bool
-    requires { IsTrue (list_all class.is_variant (segments text.now)) }
+    requires { IsTrue (list_all is_variant (segments text.now)) }
     ensures { result ≡ spec.are_different_variants (segments text.now) }
 {
     len_in_alphabet(text, &mut []) == text.len()

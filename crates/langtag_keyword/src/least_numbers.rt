@@ -1,10 +1,8 @@
 //! The least of many numbers, in little memory.
-ghost use Rattle.std.specs.Prelude.{◌≡◌, ◌<◌, ◌≤◌, ℕ, List, [], ◌∷◌, length, ltb, take, true};
-ghost use Rattle.std.specs.List.{filter, flat_map};
+ghost use Rattle.std.specs.Prelude.{◌≡◌, ◌<◌, ◌≤◌, ℕ, List, [], ◌∷◌, length, ltb, take, true, filter, flat_map};
 ghost use Rattle.langtag_output.specs.Output.{Pushes};
 ghost use Rattle.langtag_scan.proofs.SubtagFacts.{IsSubtag};
-ghost use Rattle.langtag_keyword.specs.Least as spec;
-ghost use Rattle.langtag_keyword.specs.Least.{AscendsFrom, HoldsLeast, IsOffered, IsSettled, Least};
+ghost use Rattle.langtag_keyword.specs.Least.{AscendsFrom, HoldsLeast, IsOffered, IsSettled, Least, ascending_after, is_within, number_text, order_number};
 
 use langtag_output::Output;
 use langtag_scan::folded_number;
@@ -69,7 +67,7 @@ impl<const ROOM: usize> LeastNumbers<ROOM> {
 
     /// Puts the numbers that are kept in ascending order, each once.
     pub fn sort(&mut self)
-        ensures kept { (all : List ℕ) → AscendsFrom 0 all → HoldsLeast self.old all → self.new.kept ≡ filter (spec.is_within self.old.last self.old.limit) all }
+        ensures kept { (all : List ℕ) → AscendsFrom 0 all → HoldsLeast self.old all → self.new.kept ≡ filter (is_within self.old.last self.old.limit) all }
         ensures last { self.new.last ≡ self.old.last }
         ensures limit { self.new.limit ≡ self.old.limit }
     {
@@ -108,7 +106,7 @@ fn settle(numbers: &mut [u64]) -> usize
 
 /// Moves each number that is greater than all numbers before it, and than zero, to the start. Returns how many these are.
 fn keep_rising(numbers: &mut [u64]) -> usize
-    ensures rising { take result numbers.new ≡ spec.ascending_after 0 numbers.old }
+    ensures rising { take result numbers.new ≡ ascending_after 0 numbers.old }
     ensures within { result ≤ length numbers.old }
     ensures len { length numbers.new ≡ length numbers.old }
 {
@@ -129,14 +127,14 @@ fn keep_rising(numbers: &mut [u64]) -> usize
 #[tactic(auto, using(crate::proofs::LeastTexts::shifted_number))]
 pub fn order_number(subtag: &[u8]) -> u64
     requires { IsSubtag subtag.now }
-    ensures { result ≡ spec.order_number subtag.now }
+    ensures { result ≡ order_number subtag.now }
 {
     folded_number(subtag) << (64 - 8 * subtag.len())
 }
 
 /// Appends the subtags of numbers.
 pub fn push_numbers(out: &mut Output<'_>, numbers: &[u64])
-    ensures { Pushes (flat_map (λ number. spec.number_text number ∷ []) numbers.now) out.old out.new }
+    ensures { Pushes (flat_map (λ number. number_text number ∷ []) numbers.now) out.old out.new }
 {
     for number in numbers {
         push_number(out, *number);
@@ -145,7 +143,7 @@ pub fn push_numbers(out: &mut Output<'_>, numbers: &[u64])
 
 /// Appends the subtag of a number.
 fn push_number(out: &mut Output<'_>, number: u64)
-    ensures { Pushes (spec.number_text number ∷ []) out.old out.new }
+    ensures { Pushes (number_text number ∷ []) out.old out.new }
 {
     out.push_subtag(b"");
     for byte in number.to_be_bytes() {

@@ -1,9 +1,7 @@
 //! The canonical form of the extension `t`, written to an output.
-ghost use Rattle.std.specs.Prelude.{◌≡◌, ◌∷◌, [], false};
-ghost use Rattle.std.specs.List.{AllByRecursion};
+ghost use Rattle.langtag_scan.specs.Grammar.{◌≡◌, ◌∷◌, [], false, AllByRecursion, subtags};
 ghost use Rattle.langtag_output.specs.Output.{Pushes};
 ghost use Rattle.langtag_scan.proofs.SubtagFacts.{IsSubtag};
-ghost use Rattle.langtag_scan.specs.Subtags.{subtags};
 ghost use Rattle.langtag_keyword.specs.Form as spec;
 ghost use Rattle.langtag_keyword.specs.Keywords.{before_key};
 ghost use Rattle.langtag_keyword.specs.Transform.{is_field_key};

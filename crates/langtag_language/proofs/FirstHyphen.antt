@@ -1,6 +1,6 @@
 -- A language is cut at its first hyphen into its primary subtag and its extension.
 use Rattle.langtag_scan.proofs.Prelude.{◌≡◌, ℕ, ◌+◌, ◌<◌, ◌≤◌, IsTrue, List, [], ◌∷◌, ◌++◌, length, slice_index, take, drop, get_or, refl, sym, ap, ◌∙◌, arith, take-append-drop, drop_more, slice_split_none, slice_split_at, length-slice_split, leb-true, le-leb, and_parts, common_steps, slice_range}
-use Rattle.langtag_scan.proofs.Grammar.{is_primary, is_extended, is_hyphen, segments, subtags, NoHyphenWithin, IsHyphenFree}
+use Rattle.langtag_scan.specs.Grammar.{is_primary, is_extended, is_hyphen, segments, subtags, NoHyphenWithin, IsHyphenFree}
 use Rattle.langtag_language.specs.Language.{IsLanguageExtension}
 use Rattle.langtag_language.specs.Decided.{is_language}
 use Rattle.langtag_language.proofs.Rules.{IsLanguageExtension-from_test}

@@ -1,5 +1,5 @@
 -- The types of this crate compare and hash by their texts, ignoring the case of ASCII letters.
-use Rattle.langtag_scan.specs.Compare.{ComparesByCase}
+use Rattle.langtag_scan.specs.Grammar.{ComparesByCase}
 use Rattle.langtag_language.specs.contracts.primary_language.PrimaryLanguageHash.TheImpl as primary_hash
 use Rattle.langtag_language.specs.contracts.primary_language.PrimaryLanguageOrd.TheImpl as primary_order
 use Rattle.langtag_language.specs.contracts.primary_language.PrimaryLanguagePartialEq.TheImpl as primary_equality

@@ -1,9 +1,5 @@
 //! The extended language subtag (RFC 5646 section 2.2.2).
-ghost use Rattle.std.specs.Prelude.{◌≡◌, ◌==◌, ◌&&◌, length, Some, IsTrue, IfOk, IfErr, is_ok, string_bytes};
-ghost use Rattle.std.specs.Char.{is_ascii_alphabetic};
-ghost use Rattle.std.specs.List.{list_all};
-ghost use Rattle.langtag_scan.specs.Case.{are_alike};
-ghost use Rattle.langtag_scan.specs.Class as class;
+ghost use Rattle.langtag_scan.specs.Grammar.{◌≡◌, ◌==◌, ◌&&◌, length, Some, IsTrue, IfOk, IfErr, is_ok, string_bytes, is_ascii_alphabetic, list_all, are_alike, is_extended};
 
 use langtag_scan::{Caseless, is_extended};
 use std::alloc::{AllocError, Global};
@@ -39,7 +35,7 @@ pub struct InvalidExtendedLangTag<T>(pub T);
 #[derive(Clone, Copy, Debug, PartialEq, Eq, PartialOrd, Ord, Hash)]
 pub struct ExtendedLangTag<'a> {
     text: Caseless<&'a str>,
-    ghost in_class: { IsTrue (class.is_extended text.0.now) },
+    ghost in_class: { IsTrue (is_extended text.0.now) },
 }
 
 impl<'a> ExtendedLangTag<'a> {
@@ -54,7 +50,7 @@ impl<'a> ExtendedLangTag<'a> {
     /// `Err(InvalidExtendedLangTag("yu"))`.
     #[tactic(auto, using(crate::proofs::Numbers::extended_numbers))]
     pub fn new(text: &'a str) -> Result<ExtendedLangTag<'a>, InvalidExtendedLangTag<&'a str>>
-        ensures accepts { is_ok result ≡ class.is_extended text.now }
+        ensures accepts { is_ok result ≡ is_extended text.now }
         ensures by_number { is_ok result ≡ ((length text.now == 3) && list_all is_ascii_alphabetic text.now) }
         ensures same_text { IfOk result (λ extended. extended_lang_tag_text extended ≡ text.now) }
         ensures given_back { IfErr result (λ error. error.0 ≡ text.entry) }
@@ -68,7 +64,7 @@ impl<'a> ExtendedLangTag<'a> {
     /// Wraps a string that is known to be an extended language subtag, without checking it.
     /// `ExtendedLangTag::from_checked(extended.as_str())` is equal to `extended`.
     pub fn from_checked(text: &'a str) -> ExtendedLangTag<'a>
-        requires { IsTrue (class.is_extended text.now) }
+        requires { IsTrue (is_extended text.now) }
         ensures { extended_lang_tag_text result ≡ text.now }
     {
         ExtendedLangTag {
@@ -79,7 +75,7 @@ impl<'a> ExtendedLangTag<'a> {
     /// Returns the string, in its original case: `ExtendedLangTag::new("YUE")?.as_str()` is `"YUE"`.
     pub fn as_str(&self) -> &'a str
         ensures same_text { result.now ≡ extended_lang_tag_text self.now }
-        ensures in_class { IsTrue (class.is_extended result.now) }
+        ensures in_class { IsTrue (is_extended result.now) }
     {
         self.text.0
     }
@@ -97,7 +93,7 @@ impl<'a> ExtendedLangTag<'a> {
     #[tactic(auto, using(langtag_scan::proofs::CaseOrder::bytes_ends_first, langtag_scan::proofs::CaseLaw::alike_extended))]
     pub fn eq_str(&self, other: &str) -> bool
         ensures test { result ≡ are_alike (extended_lang_tag_text self.now) other.now }
-        ensures in_class { IsTrue result → IsTrue (class.is_extended other.now) }
+        ensures in_class { IsTrue result → IsTrue (is_extended other.now) }
 
         ensures compared { ExtendedLangTagsCompareByCase }
         ensures cloned { (copy : ExtendedLangTag) → ⟦<ExtendedLangTag<'a> as Clone>⟧.is_clone self.now copy → copy ≡ self.now }
@@ -143,7 +139,7 @@ impl fmt::Display for ExtendedLangTag<'_> {
 #[derive(Debug, Drop, PartialEq, Eq, PartialOrd, Ord, Hash)]
 pub struct ExtendedLangTagBuf {
     text: Caseless<String>,
-    ghost in_class: { IsTrue (class.is_extended (string_bytes text.0)) },
+    ghost in_class: { IsTrue (is_extended (string_bytes text.0)) },
 }
 
 impl ExtendedLangTagBuf {
@@ -164,7 +160,7 @@ impl ExtendedLangTagBuf {
     /// ExtendedLangTagBuf::new(String::from_str(alloc, "yu")?).is_err(); // true
     /// ```
     pub fn new(text: String) -> Result<ExtendedLangTagBuf, InvalidExtendedLangTag<String>>
-        ensures accepts { is_ok result ≡ class.is_extended (string_bytes text) }
+        ensures accepts { is_ok result ≡ is_extended (string_bytes text) }
         ensures same_text { IfOk result (λ extended. extended_lang_tag_buf_text extended ≡ string_bytes text) }
         ensures same_string { IfOk result (λ extended. extended_lang_tag_buf_string extended ≡ text) }
         ensures given_back { IfErr result (λ error. error.0 ≡ text) }
@@ -192,7 +188,7 @@ impl ExtendedLangTagBuf {
     /// `"YUE"`.
     pub fn as_str(&self) -> &str
         ensures same_text { result.now ≡ extended_lang_tag_buf_text self.now }
-        ensures in_class { IsTrue (class.is_extended result.now) }
+        ensures in_class { IsTrue (is_extended result.now) }
     {
         self.text.0.as_str()
     }
@@ -202,7 +198,7 @@ impl ExtendedLangTagBuf {
     pub fn into_string(self) -> String
         ensures same_text { string_bytes result ≡ extended_lang_tag_buf_text self }
         ensures same_string { result ≡ extended_lang_tag_buf_string self }
-        ensures in_class { IsTrue (class.is_extended (string_bytes result)) }
+        ensures in_class { IsTrue (is_extended (string_bytes result)) }
     {
         self.text.0
     }

@@ -1,7 +1,5 @@
 //! An iterator over the extended subtags of a language.
-ghost use Rattle.std.specs.Prelude.{◌≡◌, ◌≤◌, IsTrue, [], length, ⊤};
-ghost use Rattle.std.specs.Iterator.{YieldsFirstBy, item_count};
-ghost use Rattle.langtag_scan.specs.Subtags.{subtags};
+ghost use Rattle.langtag_scan.specs.Grammar.{◌≡◌, ◌≤◌, IsTrue, [], length, ⊤, YieldsFirstBy, item_count, subtags};
 ghost use Rattle.langtag_language.specs.Decided.{are_extended, is_language_extension};
 
 use crate::extended_lang_tag::ExtendedLangTag;

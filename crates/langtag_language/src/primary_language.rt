@@ -1,10 +1,5 @@
 //! The primary language subtag (RFC 5646 section 2.2.1).
-ghost use Rattle.std.specs.Prelude.{◌≡◌, ◌&&◌, length, Some, IsTrue, IfOk, IfErr, is_ok, string_bytes};
-ghost use Rattle.std.specs.Char.{is_ascii_alphabetic};
-ghost use Rattle.std.specs.Int.{is_in_range};
-ghost use Rattle.std.specs.List.{list_all};
-ghost use Rattle.langtag_scan.specs.Case.{are_alike};
-ghost use Rattle.langtag_scan.specs.Class as class;
+ghost use Rattle.langtag_scan.specs.Grammar.{◌≡◌, ◌&&◌, length, Some, IsTrue, IfOk, IfErr, is_ok, string_bytes, is_ascii_alphabetic, is_in_range, list_all, are_alike, is_primary};
 
 use langtag_scan::{Caseless, is_primary};
 use std::alloc::{AllocError, Global};
@@ -40,7 +35,7 @@ pub struct InvalidPrimaryLanguage<T>(pub T);
 #[derive(Clone, Copy, Debug, PartialEq, Eq, PartialOrd, Ord, Hash)]
 pub struct PrimaryLanguage<'a> {
     text: Caseless<&'a str>,
-    ghost in_class: { IsTrue (class.is_primary text.0.now) },
+    ghost in_class: { IsTrue (is_primary text.0.now) },
 }
 
 impl<'a> PrimaryLanguage<'a> {
@@ -55,7 +50,7 @@ impl<'a> PrimaryLanguage<'a> {
     /// `Err(InvalidPrimaryLanguage("f"))`.
     #[tactic(auto, using(crate::proofs::Numbers::primary_numbers))]
     pub fn new(text: &'a str) -> Result<PrimaryLanguage<'a>, InvalidPrimaryLanguage<&'a str>>
-        ensures accepts { is_ok result ≡ class.is_primary text.now }
+        ensures accepts { is_ok result ≡ is_primary text.now }
         ensures by_number { is_ok result ≡ (is_in_range 2 8 (length text.now) && list_all is_ascii_alphabetic text.now) }
         ensures same_text { IfOk result (λ primary. primary_language_text primary ≡ text.now) }
         ensures given_back { IfErr result (λ error. error.0 ≡ text.entry) }
@@ -69,7 +64,7 @@ impl<'a> PrimaryLanguage<'a> {
     /// Wraps a string that is known to be a primary language subtag, without checking it.
     /// `PrimaryLanguage::from_checked(primary.as_str())` is equal to `primary`.
     pub fn from_checked(text: &'a str) -> PrimaryLanguage<'a>
-        requires { IsTrue (class.is_primary text.now) }
+        requires { IsTrue (is_primary text.now) }
         ensures { primary_language_text result ≡ text.now }
     {
         PrimaryLanguage {
@@ -80,7 +75,7 @@ impl<'a> PrimaryLanguage<'a> {
     /// Returns the string, in its original case: `PrimaryLanguage::new("FR")?.as_str()` is `"FR"`.
     pub fn as_str(&self) -> &'a str
         ensures same_text { result.now ≡ primary_language_text self.now }
-        ensures in_class { IsTrue (class.is_primary result.now) }
+        ensures in_class { IsTrue (is_primary result.now) }
     {
         self.text.0
     }
@@ -98,7 +93,7 @@ impl<'a> PrimaryLanguage<'a> {
     #[tactic(auto, using(langtag_scan::proofs::CaseOrder::bytes_ends_first, langtag_scan::proofs::CaseLaw::alike_primary))]
     pub fn eq_str(&self, other: &str) -> bool
         ensures test { result ≡ are_alike (primary_language_text self.now) other.now }
-        ensures in_class { IsTrue result → IsTrue (class.is_primary other.now) }
+        ensures in_class { IsTrue result → IsTrue (is_primary other.now) }
 
         ensures compared { PrimaryLanguagesCompareByCase }
         ensures cloned { (copy : PrimaryLanguage) → ⟦<PrimaryLanguage<'a> as Clone>⟧.is_clone self.now copy → copy ≡ self.now }
@@ -144,7 +139,7 @@ impl fmt::Display for PrimaryLanguage<'_> {
 #[derive(Debug, Drop, PartialEq, Eq, PartialOrd, Ord, Hash)]
 pub struct PrimaryLanguageBuf {
     text: Caseless<String>,
-    ghost in_class: { IsTrue (class.is_primary (string_bytes text.0)) },
+    ghost in_class: { IsTrue (is_primary (string_bytes text.0)) },
 }
 
 impl PrimaryLanguageBuf {
@@ -165,7 +160,7 @@ impl PrimaryLanguageBuf {
     /// PrimaryLanguageBuf::new(String::from_str(alloc, "f")?).is_err(); // true
     /// ```
     pub fn new(text: String) -> Result<PrimaryLanguageBuf, InvalidPrimaryLanguage<String>>
-        ensures accepts { is_ok result ≡ class.is_primary (string_bytes text) }
+        ensures accepts { is_ok result ≡ is_primary (string_bytes text) }
         ensures same_text { IfOk result (λ primary. primary_language_buf_text primary ≡ string_bytes text) }
         ensures same_string { IfOk result (λ primary. primary_language_buf_string primary ≡ text) }
         ensures given_back { IfErr result (λ error. error.0 ≡ text) }
@@ -192,7 +187,7 @@ impl PrimaryLanguageBuf {
     /// Returns the string, in its original case: `PrimaryLanguage::new("FR")?.try_to_owned(alloc)?.as_str()` is `"FR"`.
     pub fn as_str(&self) -> &str
         ensures same_text { result.now ≡ primary_language_buf_text self.now }
-        ensures in_class { IsTrue (class.is_primary result.now) }
+        ensures in_class { IsTrue (is_primary result.now) }
     {
         self.text.0.as_str()
     }
@@ -202,7 +197,7 @@ impl PrimaryLanguageBuf {
     pub fn into_string(self) -> String
         ensures same_text { string_bytes result ≡ primary_language_buf_text self }
         ensures same_string { result ≡ primary_language_buf_string self }
-        ensures in_class { IsTrue (class.is_primary (string_bytes result)) }
+        ensures in_class { IsTrue (is_primary (string_bytes result)) }
     {
         self.text.0
     }

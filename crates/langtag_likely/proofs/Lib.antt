@@ -1,15 +1,4 @@
 pub mod Definitions
-pub mod AddedTwice
-pub mod AlikeFields
-pub mod CanonicalFields
-pub mod CommonTexts
-pub mod FieldClasses
 pub mod FormsTwice
-pub mod LanguageBits
-pub mod PosixLaws
-pub mod PosixNameLaws
-pub mod PosixNameRead
-pub mod PutLaws
-pub mod RowLaws
-pub mod TableRows
 pub mod GoodForms
+pub mod PutLaws

@@ -1,16 +1,10 @@
 //! Whether a tag is written from right to left.
-ghost use Rattle.std.specs.Prelude.{◌≡◌, IsTrue, map};
-ghost use Rattle.langtag.specs.FieldClasses.{is_script_field};
-ghost use Rattle.langtag.specs.Text.{lang_tag_text};
-ghost use Rattle.langtag_scan.specs.Case.{folded_number};
-ghost use Rattle.langtag_tables.specs.Numbers.{climbs_from};
-ghost use Rattle.langtag_likely.specs.Direction as spec;
-ghost use Rattle.langtag_likely.specs.RightToLeft.{right_to_left_scripts};
+ghost use Rattle.std.specs.Prelude.{◌≡◌};
+ghost use Rattle.langtag.specs.Definitions.{lang_tag_text};
+ghost use Rattle.langtag_cldr.specs.Direction as spec;
 
-use crate::keys::index_of;
-use crate::matching::matching_form;
-use crate::tables;
 use langtag::LangTag;
+use langtag_cldr::{is_right_to_left_script, matching_form};
 
 /// Returns whether a tag's language is written from right to left: `true` for `he`, `pa-PK`, `az-Arab` and `und-Thaa`,
 /// `false` for `ar-Latn`.
@@ -33,21 +27,4 @@ pub fn is_right_to_left(tag: LangTag<'_>) -> bool
         Some(form) => is_right_to_left_script(form.script),
         None => false,
     }
-}
-
-/// Returns whether a script is written from right to left.
-#[tactic(auto, using(crate::proofs::FieldClasses::script_length, crate::proofs::FieldClasses::found_by_key))]
-fn is_right_to_left_script(script: &[u8]) -> bool
-    requires { IsTrue (is_script_field script.now) }
-    ensures { result ≡ spec.is_right_to_left_script script.now }
-{
-    index_of(right_to_left_keys(), script).is_some()
-}
-
-#[tactic(auto, using(crate::proofs::FieldClasses::keys_listed))]
-fn right_to_left_keys() -> &'static [u32]
-    ensures numbers { result.now ≡ map folded_number right_to_left_scripts }
-    ensures climbs { IsTrue (climbs_from 0 result.now) }
-{
-    &tables::RIGHT_TO_LEFT_KEYS
 }

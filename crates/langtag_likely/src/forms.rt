@@ -1,15 +1,13 @@
 //! The maximal and minimal forms of a tag (UTS #35, part 1, section 'Likely Subtags').
 ghost use Rattle.std.specs.Prelude.{◌≡◌, ◌+◌, ◌-◌, ◌^◌, length, min, IfOk};
-ghost use Rattle.langtag.specs.Text.{lang_tag_text, lang_tag_buf_text};
-ghost use Rattle.langtag_output.specs.Writes.{Writes};
+ghost use Rattle.langtag.specs.Definitions.{lang_tag_text, lang_tag_buf_text, Writes, IsOnlyForm, IsAlikeForm};
 ghost use Rattle.langtag_likely.specs.Maximal.{IsMaximalForm, IsMinimalForm, maximal_record, minimal_record};
-ghost use Rattle.langtag.specs.Form.{IsOnlyForm, IsAlikeForm};
 ghost use Rattle.langtag_likely.specs.MaximalLaws.{KeepsOthers, TellsAsMaximal, UndoesMaximal, UndoesMinimal};
 
-use crate::likely::{add_likely_subtags, remove_likely_subtags};
+use crate::fields::fields_of;
 use crate::put::write_changed;
-use crate::tag_fields::TagFields;
 use langtag::{LangTag, LangTagBuf, tag_of};
+use langtag_cldr::{add_likely_subtags, remove_likely_subtags};
 use langtag_output::write_text;
 use std::alloc::{AllocError, Global};
 
@@ -95,7 +93,7 @@ pub fn write_maximized(tag: LangTag<'_>, buffer: &mut [u8]) -> usize
     let Some(normal) = tag.as_normal() else {
         return write_text(tag.as_bytes(), buffer);
     };
-    write_changed(normal, add_likely_subtags(TagFields::of(normal)), buffer)
+    write_changed(normal, add_likely_subtags(fields_of(normal)), buffer)
 }
 
 /// Writes a tag without its likely subtags to a buffer, as `minimized` returns it, and returns its length in bytes.
@@ -115,7 +113,7 @@ pub fn write_minimized(tag: LangTag<'_>, buffer: &mut [u8]) -> usize
     let Some(normal) = tag.as_normal() else {
         return write_text(tag.as_bytes(), buffer);
     };
-    write_changed(normal, remove_likely_subtags(TagFields::of(normal)), buffer)
+    write_changed(normal, remove_likely_subtags(fields_of(normal)), buffer)
 }
 
 /// Returns a buffer that is long enough for the maximal and the minimal form of a tag.

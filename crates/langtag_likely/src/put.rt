@@ -1,20 +1,12 @@
 //! Writes a tag with other fields.
-ghost use Rattle.std.specs.Prelude.{◌≡◌, ◌∷◌, ◌++◌, drop, flat_map};
-ghost use Rattle.std.specs.Option.{option_map, option_map_or};
-ghost use Rattle.langtag_scan.specs.Ends.{ends_of};
-ghost use Rattle.langtag_scan.specs.Record.{EachRecord, one_flat, spell};
-ghost use Rattle.langtag_scan.specs.Subtags.{join};
-ghost use Rattle.langtag_language.specs.Language.{EachLanguageSpelling};
-ghost use Rattle.langtag_language.specs.Text.{language_text};
-ghost use Rattle.langtag.specs.Text.{normal_lang_tag_text};
-ghost use Rattle.langtag_output.specs.Writes.{Writes};
+ghost use Rattle.langtag_scan.specs.Grammar.{◌≡◌, ◌∷◌, ◌++◌, drop, flat_map, option_map, option_map_or, ends_of, EachRecord, one_flat, spell, join};
+ghost use Rattle.langtag.specs.Definitions.{EachLanguageSpelling, language_text, normal_lang_tag_text, Writes};
 ghost use Rattle.langtag_likely.specs.Maximal.{put_fields, put_language};
-ghost use Rattle.langtag.specs.Fields.{subtag_of};
-ghost use Rattle.langtag_likely.specs.Texts.{field_texts};
+ghost use Rattle.langtag_tables.specs.Fields.{subtag_of};
+ghost use Rattle.langtag_cldr.specs.Definitions.{field_texts};
 
-use crate::fields::or_other;
-use crate::tag_fields::TagFields;
 use langtag::NormalLangTag;
+use langtag_cldr::{TagFields, or_other};
 use langtag_language::Language;
 use langtag_output::{write_pieces, write_text};
 

@@ -1,7 +1,6 @@
 //! A page: the buffer in which answers are collected before they are written.
-ghost use Rattle.std.specs.Prelude.{◌≡◌, ◌+◌, ◌≤◌, List, ℕ, [], ◌++◌, length, take, OnOk, IsOkUnless};
+ghost use Rattle.std.specs.Prelude.{◌≡◌, ◌+◌, ◌≤◌, List, ℕ, [], ◌++◌, length, take, OnOk, IsOkUnless, flat_map};
 ghost use Rattle.std.specs.Io.KnownBytes.{Appends, append_known};
-ghost use Rattle.std.specs.List.{flat_map};
 ghost use Rattle.langtag_lines.specs.Lines.{ended};
 ghost use Rattle.langtag_lines.specs.declared.page.TheConstants.{PAGE_LEN};
 

@@ -1,7 +1,6 @@
 //! A run: reads the input, and writes the answer to each line.
-ghost use Rattle.std.specs.Prelude.{◌≡◌, ◌≢◌, ℕ, List, [], ◌∷◌, ◌++◌, take, OnOk, IfErr, IsErrOf};
+ghost use Rattle.std.specs.Prelude.{◌≡◌, ◌≢◌, ℕ, List, [], ◌∷◌, ◌++◌, take, OnOk, IfErr, IsErrOf, position};
 ghost use Rattle.std.specs.Io.KnownBytes.{Appends, Keeps, append_known};
-ghost use Rattle.std.specs.List.{position};
 ghost use Rattle.langtag_lines.specs.Lines.{IsCutInto, NoLineFeed, is_line_feed, complete_lines, rest_of, last_line};
 ghost use Rattle.langtag_lines.specs.Report.{AreAnswersBy, AnswersBy, HasRun};
 

@@ -1,10 +1,11 @@
 -- The case of a tag changes nothing in its form as a Unicode locale identifier.
 use Rattle.langtag_keyword.proofs.Common.{keywords_form, common_steps, arith, ◌≡◌, ℕ, Bool, cond, List, [], ◌∷◌, ◌++◌, ◌&&◌, ◌||◌, map, fold, Option, find, option_map, unwrap_or, refl, sym, ap, subst, ◌∙◌, map-append, length-map, list_any, flat_map, list_all, is_some, option_map_or, is_none, codes, bytes_eq, Alike, are_alike, fold_text, fold_byte, one_flat, Extension, Record, spell, segments, Alias, TypeAlias, alias_for, type_alias_for, nat_tests, find_extension, fold_text-twice, AlikeRecords, transform_value, before_key, is_field_key, slice_get-map}
-use Rattle.langtag_likely.proofs.AlikeFields.{added-alike, by_options, by_same, known-alike, language-alike, likely_for-alike, or_other-alike}
-use Rattle.langtag.proofs.Alike.{AlikeFields, are_alike-left, are_alike-right}
-use Rattle.langtag_likely.proofs.Definitions.{or_else, or_other}
-use Rattle.langtag.proofs.Definitions.{Fields, subtag_of, singletons}
-use Rattle.langtag_scan.proofs.Grammar.{PrivateUse, fold_extension, fold_private_use, fold_record}
+use Rattle.langtag_cldr.proofs.AlikeFields.{added-alike, by_options, by_same, known-alike, language-alike, likely_for-alike, or_other-alike}
+use Rattle.langtag_tables.proofs.Alike.{AlikeFields, are_alike-left, are_alike-right}
+use Rattle.langtag_cldr.specs.Definitions.{or_else, or_other}
+use Rattle.langtag_tables.specs.Fields.{Fields, subtag_of}
+use Rattle.langtag.specs.Definitions.{singletons}
+use Rattle.langtag_scan.specs.Grammar.{PrivateUse, fold_extension, fold_private_use, fold_record}
 use Rattle.langtag_locale.specs.LocaleForm.{forms, has_variant, heir, identifier_form, is_pair_of, language_after, new_variants, sign_for, variant_form}
 use Rattle.langtag_locale.specs.LocaleForm.{extension_at, extensions_in_order, locale_extension_form, locale_transform_form, transform_language_form}
 use Rattle.langtag_locale.specs.LocaleForm.{locale_record, locale_text}
@@ -12,14 +13,14 @@ use Rattle.langtag_keyword.proofs.AlphabetLaws.{in_alphabet-alike}
 use Rattle.langtag_keyword.proofs.Aliases.{alias_for-alike, type_alias_for-alike}
 use Rattle.langtag_scan.proofs.CaseLaw.{fold_byte-twice, spelled_alike, fold_extension-twice}
 use Rattle.langtag_locale.specs.Locale.{is_locale_extension, is_unicode_subtag, is_locale_record}
-use Rattle.langtag_unicode.specs.Identifier.{identifier_flat, identifier_variants}
-use Rattle.langtag_unicode.proofs.CanonicalKeywords.{key-fold, unicode_key-fold}
+use Rattle.langtag_keyword.specs.Identifier.{identifier_flat, identifier_variants}
+use Rattle.langtag_keyword.proofs.CanonicalKeywords.{key-fold, unicode_key-fold}
 use Rattle.langtag_locale.proofs.LocaleRecords.{locale_form_by, locale_form_tested}
-use Rattle.langtag_unicode.proofs.WalkLaws.{field_key-fold}
-use Rattle.langtag_unicode.proofs.ExtensionCase.{before-fold, fields-fold, is_of-fold, is_transform-fold, keywords-fold, lower-twice, transform_value-fold, unicode-fold, variants-fold}
+use Rattle.langtag_keyword.proofs.WalkLaws.{field_key-fold}
+use Rattle.langtag_keyword.proofs.ExtensionCase.{before-fold, fields-fold, is_of-fold, is_transform-fold, keywords-fold, lower-twice, transform_value-fold, unicode-fold, variants-fold}
 use Rattle.langtag.specs.Repeat.{are_alike_bytes, repeat, repeat_index_after}
 use Rattle.langtag_case.proofs.RecommendedLaws.{alike_recommended}
-use Rattle.langtag_unicode.proofs.FormTwice.{unicode_language-fold}
+use Rattle.langtag_keyword.proofs.FormTwice.{unicode_language-fold}
 use Rattle.langtag_locale.specs.LocaleAliases as list
 use Rattle.langtag_locale.specs.LocaleForm as form
 

@@ -1,22 +1,24 @@
 -- The form of a Unicode locale identifier is a tag.
 use Rattle.langtag_keyword.proofs.Common.{common_steps, flat_map-append, ◌≡◌, ◌<◌, List, ℕ, Bool, [], ◌∷◌, ◌++◌, ◌&&◌, true, false, cond, length, get_or, map, Option, None, Some, option_map, refl, sym, ap, ◌∙◌, arith, append-nil, ◌≤◌, inl, inr, false≢true, AllByRecursion, flat_map, list_all, option_map_or, extension_found, SpellsExtension, SpellsExtensions, extension_spelling, find_extension, fold_byte, length-join, is_primary, is_region, is_script, Extension, IsWellFormedExtension, extension_flat, IsWellFormed, Record, one_flat, spell, is_of, is_transform, unicode_form, is_language_or_none, nat_tests, IsTrue, IsSubtag, of_primary, of_variant, each-append, both, found_has}
 use Rattle.langtag_scan.proofs.Prelude.{list_all_at, IfSome}
-use Rattle.langtag_scan.proofs.Grammar.{is_singleton, is_extension_subtag, IsNormal, IsTag}
+use Rattle.langtag_scan.specs.Grammar.{is_singleton, is_extension_subtag, IsNormal, IsTag}
 use Rattle.langtag_extension.proofs.ExtensionLookUp.{first_byte-spelling}
-use Rattle.langtag.proofs.Definitions.{of_singleton, singletons, is_region_field, is_script_field, Fields, subtag_of}
+use Rattle.langtag_tables.specs.FieldClasses.{is_region_field, is_script_field}
+use Rattle.langtag_tables.specs.Fields.{Fields, subtag_of}
+use Rattle.langtag.specs.Definitions.{of_singleton, singletons}
 use Rattle.langtag_locale.specs.Locale.{is_locale_extension, is_locale_record}
 use Rattle.langtag_locale.specs.LocaleForm.{extension_at, locale_extension_form, locale_transform_form, identifier_form, locale_record, locale_text}
 use Rattle.langtag_locale.specs.LocaleForm.{new_variants, record_fields, transform_language_form}
 use Rattle.langtag_case.proofs.RecommendedLaws.{recommended_alike}
-use Rattle.langtag_likely.specs.Matching.{language_replaced}
+use Rattle.langtag_cldr.specs.Matching.{language_replaced}
 use Rattle.langtag_scan.proofs.Laws.{alike_tag, region_two_three, script_four, variant_long, of_region, of_script}
 use Rattle.langtag_tables.proofs.Letters.{primary_length}
-use Rattle.langtag_unicode.specs.Identifier.{identifier_flat}
+use Rattle.langtag_keyword.specs.Identifier.{identifier_flat}
 use Rattle.langtag_keyword.proofs.ExtensionsPut.{AreLeft, left-opens}
-use Rattle.langtag_unicode.proofs.FormTwice.{alphabet-variants}
-use Rattle.langtag_unicode.proofs.FormRecords.{Good, good-keywords, good-transform, good-unicode_form, some-transform, some-unicode_form}
+use Rattle.langtag_keyword.proofs.FormTwice.{alphabet-variants}
+use Rattle.langtag_keyword.proofs.FormRecords.{Good, good-keywords, good-transform, good-unicode_form, some-transform, some-unicode_form}
 use Rattle.langtag_locale.proofs.IdentifierForms.{form_subtags, record_subtags, forms_good}
-use Rattle.langtag_unicode.proofs.IdentifierParts.{AreSubtags, language_primary, fields_good, AreVariants, different_variants}
+use Rattle.langtag_keyword.proofs.IdentifierParts.{AreSubtags, language_primary, fields_good, AreVariants, different_variants}
 use Rattle.langtag_scan.specs.Class as class
 
 -- whether all extensions are allowed depends on those that are left alone

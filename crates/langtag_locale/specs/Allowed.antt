@@ -1,8 +1,6 @@
 -- Texts of extensions that a Unicode locale identifier may have. Only contracts of private functions cite this page.
-use Rattle.std.specs.Prelude.{◌≡◌, ℕ, true, List}
-use Rattle.std.specs.List.{list_all}
-use Rattle.langtag_extension.specs.Spelling.{SpellsExtension, SpellsExtensions}
-use Rattle.langtag_scan.specs.Record.{Extension}
+use Rattle.langtag_scan.specs.Grammar.{◌≡◌, ℕ, true, List, list_all, Extension}
+use Rattle.langtag.specs.Definitions.{SpellsExtension, SpellsExtensions}
 use Rattle.langtag_locale.specs.Locale.{is_locale_extension}
 
 abbrev pub IsAllowed : List ℕ → Type 0

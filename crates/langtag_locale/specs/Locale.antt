@@ -1,10 +1,6 @@
 -- Unicode locale identifiers that are tags (UTS #35, part 1, section 'Unicode Locale Identifier').
-use Rattle.std.specs.Prelude.{◌≡◌, ℕ, Bool, true, not, ◌&&◌, ◌||◌, ◌==◌, List, length, map, if◌then◌else◌}
-use Rattle.std.specs.List.{list_all}
-use Rattle.std.specs.Option.{is_none}
-use Rattle.langtag.specs.Repeat.{are_alike_bytes, repeat}
-use Rattle.langtag_scan.specs.Case.{are_alike}
-use Rattle.langtag_scan.specs.Record.{Extension, Record, Spells}
+use Rattle.langtag_scan.specs.Grammar.{◌≡◌, ℕ, Bool, true, not, ◌&&◌, ◌||◌, ◌==◌, List, length, map, if◌then◌else◌, list_all, is_none, are_alike, Extension, Record, Spells}
+use Rattle.langtag.specs.Definitions.{are_alike_bytes, repeat}
 use Rattle.langtag_keyword.specs.Edit.{is_unicode_key}
 use Rattle.langtag_keyword.specs.Form.{is_of, is_transform, is_unicode_language}
 use Rattle.langtag_keyword.specs.Keywords.{is_key}

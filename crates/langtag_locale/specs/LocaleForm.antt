@@ -1,30 +1,19 @@
 -- The canonical form of a Unicode locale identifier (UTS #35, part 1, Annex C, 'LocaleId Canonicalization'). The annex
 -- repeats the rules of CLDR until none fits. Here they are seven steps, each of which is done once.
-use Rattle.std.specs.Prelude.{◌≡◌, ℕ, Bool, List, [], ◌∷◌, ◌++◌, Option, None, Some, codes, find, if◌then◌else◌, ◌&&◌, ◌||◌, unwrap_or}
-use Rattle.std.specs.List.{flat_map, fold, list_any}
-use Rattle.std.specs.Option.{is_some, option_map, option_map_or}
-use Rattle.langtag.specs.Part.{PartOf}
-use Rattle.langtag.specs.Registered.{IsGrandfathered}
-use Rattle.langtag_case.specs.RecommendedCase.{recommended_text}
-use Rattle.langtag_extension.specs.Spelling.{find_extension}
-use Rattle.langtag_likely.specs.Aliases.{region_replacements}
-use Rattle.langtag_likely.specs.Likely.{add_likely, known, likely_for, or_else, or_other}
-use Rattle.langtag.specs.Fields.{Fields, subtag_of}
-use Rattle.langtag_likely.specs.LikelySubtags.{likely_subtags}
-use Rattle.langtag_likely.specs.Matching.{language_replaced, region_alone}
-use Rattle.langtag_extension.specs.Noted.{singletons}
+use Rattle.langtag_scan.specs.Prelude.{◌≡◌, ℕ, Bool, List, [], ◌∷◌, ◌++◌, Option, None, Some, codes, find, if◌then◌else◌, ◌&&◌, ◌||◌, unwrap_or, flat_map, fold, list_any, is_some, option_map, option_map_or}
+use Rattle.langtag.specs.Definitions.{PartOf, IsGrandfathered, recommended_text, find_extension, singletons}
+use Rattle.langtag_cldr.specs.Definitions.{region_replacements, add_likely, known, likely_for, or_else, or_other, likely_subtags, language_replaced, region_alone}
+use Rattle.langtag_tables.specs.Fields.{Fields, subtag_of}
 use Rattle.langtag_fields.specs.Fields.{preferred_tag}
 use Rattle.langtag_fields.specs.Registered.{is_registered_extlang}
-use Rattle.langtag_scan.specs.Case.{Alike, are_alike}
-use Rattle.langtag_scan.specs.Record.{Extension, Record, one_flat, spell}
-use Rattle.langtag_scan.specs.Subtags.{segments}
+use Rattle.langtag_scan.specs.Grammar.{Alike, are_alike, Extension, Record, one_flat, spell, segments}
 use Rattle.langtag_keyword.specs.Alias.{Alias, TypeAlias, alias_for, type_alias_for}
 use Rattle.langtag_keyword.specs.Form.{in_alphabet, is_of, keywords_form, transform_value, unicode_form}
 use Rattle.langtag_keyword.specs.Keywords.{before_key}
 use Rattle.langtag_locale.specs.Locale.{IsLocale, is_locale_record}
 use Rattle.langtag_locale.specs.LocaleAliases.{dropped_variants, region_heirs, script_aliases, sign_languages, variant_aliases, variant_languages, variant_pairs, variant_regions}
 use Rattle.langtag_keyword.specs.Transform.{is_field_key}
-use Rattle.langtag_unicode.specs.Identifier.{identifier_flat, identifier_fields, identifier_variants}
+use Rattle.langtag_keyword.specs.Identifier.{identifier_flat, identifier_fields, identifier_variants}
 
 -- ---- the language, the script and the region
 

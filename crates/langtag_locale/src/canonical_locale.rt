@@ -1,14 +1,8 @@
 //! The canonical form of a Unicode locale identifier (UTS #35, part 1, Annex C).
-ghost use Rattle.std.specs.Prelude.{◌≡◌, ◌≤◌, ◌<◌, ◌+◌, IfOk, IfSome, IsTrue, None, Some, [], length, unwrap_or};
-ghost use Rattle.std.specs.Option.{option_map};
-ghost use Rattle.langtag.specs.Text.{lang_tag_buf_text, lang_tag_text, normal_lang_tag_text};
-ghost use Rattle.langtag_language.specs.Language.{EachLanguageSpelling};
-ghost use Rattle.langtag_language.specs.Text.{language_text};
-ghost use Rattle.langtag.specs.FieldClasses.{is_language_field, is_region_field, is_script_field};
-ghost use Rattle.langtag_likely.specs.Texts.{field_texts};
-ghost use Rattle.langtag_output.specs.Output.{IsCounted};
-ghost use Rattle.langtag_output.specs.WritesWhole.{WritesWhole};
-ghost use Rattle.langtag_place.specs.Text.{region_text, script_text};
+ghost use Rattle.std.specs.Prelude.{◌≡◌, ◌≤◌, ◌<◌, ◌+◌, IfOk, IfSome, IsTrue, None, Some, [], unwrap_or, option_map};
+ghost use Rattle.langtag.specs.Definitions.{lang_tag_buf_text, lang_tag_text, normal_lang_tag_text, EachLanguageSpelling, language_text, IsCounted, WritesWhole, region_text, script_text};
+ghost use Rattle.langtag_tables.specs.FieldClasses.{is_language_field, is_region_field, is_script_field};
+ghost use Rattle.langtag_cldr.specs.Definitions.{field_texts};
 ghost use Rattle.langtag_scan.specs.Record as model;
 ghost use Rattle.langtag_locale.specs.Locale as identifier;
 ghost use Rattle.langtag_locale.specs.LocaleForm as spec;
@@ -19,8 +13,8 @@ use langtag::{
     LangTag, LangTagBuf, Language, NormalLangTag, Region, Script, push_private_use, tag_of,
 };
 use langtag_case::make_recommended_case;
+use langtag_cldr::TagFields;
 use langtag_keyword::nonempty;
-use langtag_likely::TagFields;
 use langtag_output::Output;
 use std::alloc::{AllocError, Global};
 
@@ -163,7 +157,7 @@ fn fields_of<'a>(tag: NormalLangTag<'a>) -> TagFields<'a>
     }
 }
 
-#[tactic(auto, using(langtag::proofs::FieldClasses::from_primary))]
+#[tactic(auto, using(langtag_tables::proofs::FieldClasses::from_primary))]
 fn primary_field<'a>(language: Language<'a>) -> &'a [u8]
     ensures field { EachLanguageSpelling (language_text language.entry) (λ primary extended. result.now ≡ primary) }
     ensures in_class { IsTrue (is_language_field result.now) }

@@ -1,12 +1,7 @@
 //! Unicode locale identifiers (UTS #35, part 1, section 'Unicode Locale Identifier').
-ghost use Rattle.std.specs.Prelude.{◌≡◌, ◌&&◌, ◌==◌, List, false, length};
-ghost use Rattle.std.specs.List.{list_all};
-ghost use Rattle.langtag.specs.Part.{PartOf};
-ghost use Rattle.langtag.specs.Text.{lang_tag_text, normal_lang_tag_text};
-ghost use Rattle.langtag_extension.specs.Spelling.{SpellsExtension, SpellsExtensions};
-ghost use Rattle.langtag_extension.specs.Text.{extension_text, extensions_text};
+ghost use Rattle.langtag_scan.specs.Grammar.{◌≡◌, ◌&&◌, ◌==◌, List, false, length, list_all, subtags};
+ghost use Rattle.langtag.specs.Definitions.{PartOf, lang_tag_text, normal_lang_tag_text, SpellsExtension, SpellsExtensions, extension_text, extensions_text};
 ghost use Rattle.langtag_scan.specs.Record as model;
-ghost use Rattle.langtag_scan.specs.Subtags.{subtags};
 ghost use Rattle.langtag_keyword.specs.Form.{is_unicode_language};
 ghost use Rattle.langtag_locale.specs.Locale as spec;
 

@@ -1,20 +1,14 @@
 //! The extensions in the form of a Unicode locale identifier (UTS #35, part 1, Annex C).
-ghost use Rattle.std.specs.Prelude.{◌≡◌, ◌∷◌, [], IsTrue, List};
-ghost use Rattle.std.specs.List.{AllByRecursion, flat_map};
-ghost use Rattle.std.specs.Option.{option_map};
-ghost use Rattle.langtag_extension.specs.Spelling.{SpellsExtension, SpellsExtensions};
-ghost use Rattle.langtag_extension.specs.Text.{extension_text, extensions_text};
-ghost use Rattle.langtag.specs.Fields.{subtag_of};
-ghost use Rattle.langtag_likely.specs.Texts.{field_texts};
-ghost use Rattle.langtag_output.specs.Output.{Pushes};
+ghost use Rattle.langtag_scan.specs.Grammar.{◌≡◌, ◌∷◌, [], IsTrue, List, AllByRecursion, flat_map, option_map, is_singleton, segments, segments_left, subtags};
+ghost use Rattle.langtag.specs.Definitions.{SpellsExtension, SpellsExtensions, extension_text, extensions_text, Pushes};
+ghost use Rattle.langtag_tables.specs.Fields.{subtag_of};
+ghost use Rattle.langtag_cldr.specs.Definitions.{field_texts};
 ghost use Rattle.langtag_scan.proofs.SubtagFacts.{IsSubtag};
-ghost use Rattle.langtag_scan.specs.Class.{is_singleton};
 ghost use Rattle.langtag_scan.specs.Record as model;
-ghost use Rattle.langtag_scan.specs.Subtags.{segments, segments_left, subtags};
 ghost use Rattle.langtag_locale.specs.Allowed.{AreAllowed, IsAllowed};
 ghost use Rattle.langtag_keyword.specs.Form.{is_language_id, is_transform};
-ghost use Rattle.langtag_unicode.proofs.IdentifierParts.{AreVariants};
-ghost use Rattle.langtag_unicode.specs.Identifier.{first_subtag, identifier_flat};
+ghost use Rattle.langtag_keyword.proofs.IdentifierParts.{AreVariants};
+ghost use Rattle.langtag_keyword.specs.Identifier.{first_subtag, identifier_flat};
 ghost use Rattle.langtag_keyword.specs.Keywords.{before_key};
 ghost use Rattle.langtag_locale.specs.LocaleForm as spec;
 ghost use Rattle.langtag_keyword.specs.Transform.{is_field_key};
@@ -22,12 +16,12 @@ ghost use Rattle.langtag_keyword.specs.Transform.{is_field_key};
 use crate::locale_fields::identifier_form;
 use crate::locale_variants::push_variants;
 use langtag::{Extension, Extensions, Singleton, into_smallcase};
+use langtag_cldr::{TagFields, language_replaced};
 use langtag_extension::{SINGLETONS, singletons_of};
 use langtag_keyword::{
     Keys, is_of, preceding, push_keywords, push_unicode, split_first, subtags_of, take_region,
     take_script,
 };
-use langtag_likely::{TagFields, language_replaced};
 use langtag_output::Output;
 
 /// Appends the extensions in their forms, in the order of their singletons.

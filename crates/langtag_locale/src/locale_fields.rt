@@ -1,21 +1,16 @@
 //! Language, script and region in the form of a Unicode locale identifier (UTS #35, part 1, Annex C).
-ghost use Rattle.std.specs.Prelude.{◌≡◌, IfSome, IsTrue, map};
-ghost use Rattle.std.specs.List.{fold};
-ghost use Rattle.std.specs.Option.{option_map};
-ghost use Rattle.langtag.specs.FieldClasses.{is_language_field, is_region_field, is_script_field};
-ghost use Rattle.langtag.specs.Fields.{Fields};
-ghost use Rattle.langtag_likely.specs.Likely.{or_other};
-ghost use Rattle.langtag_likely.specs.Matching.{language_replaced};
-ghost use Rattle.langtag_likely.specs.Texts.{field_texts};
-ghost use Rattle.langtag_scan.specs.Subtags.{segments, segments_left};
+ghost use Rattle.langtag_scan.specs.Grammar.{◌≡◌, IfSome, IsTrue, map, fold, option_map, segments, segments_left};
+ghost use Rattle.langtag_tables.specs.FieldClasses.{is_language_field, is_region_field, is_script_field};
+ghost use Rattle.langtag_tables.specs.Fields.{Fields};
+ghost use Rattle.langtag_cldr.specs.Definitions.{or_other, language_replaced, field_texts};
 ghost use Rattle.langtag_locale.specs.LocaleAliases as list;
 ghost use Rattle.langtag_locale.specs.LocaleForm as spec;
 
 use crate::locale_tables as tables;
 use crate::locale_variants::variant_languages;
 use langtag::case_insensitive_eq;
+use langtag_cldr::{TagFields, add_likely, region_replacement};
 use langtag_keyword::{alias_for, is_among, split_first};
-use langtag_likely::{TagFields, add_likely, region_replacement};
 
 /// Returns the form of the fields of a language identifier with these variants. The first step, which replaces the
 /// language, is done already.

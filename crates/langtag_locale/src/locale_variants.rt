@@ -1,16 +1,10 @@
 //! The variants in the form of a Unicode locale identifier (UTS #35, part 1, Annex C).
-ghost use Rattle.std.specs.Prelude.{◌≡◌, ◌≤◌, IsTrue, List, false, find, map, ℕ};
-ghost use Rattle.std.specs.List.{AllByRecursion, list_any};
-ghost use Rattle.std.specs.Option.{option_map};
-ghost use Rattle.langtag.specs.Fields.{subtag_of};
-ghost use Rattle.langtag_output.specs.Output.{Pushes};
+ghost use Rattle.langtag_scan.specs.Grammar.{◌≡◌, ◌≤◌, IsTrue, List, false, find, map, ℕ, AllByRecursion, list_any, option_map, are_alike, is_variant, one_flat, segments_left};
+ghost use Rattle.langtag_tables.specs.Fields.{subtag_of};
+ghost use Rattle.langtag.specs.Definitions.{Pushes};
 ghost use Rattle.langtag_scan.proofs.SubtagFacts.{IsSubtag};
-ghost use Rattle.langtag_scan.specs.Case.{are_alike};
-ghost use Rattle.langtag_scan.specs.Class.{is_variant};
-ghost use Rattle.langtag_scan.specs.Record.{one_flat};
-ghost use Rattle.langtag_scan.specs.Subtags.{segments_left};
 ghost use Rattle.langtag_keyword.specs.Least.{IsOffered, order_number};
-ghost use Rattle.langtag_unicode.proofs.IdentifierParts.{AreVariants};
+ghost use Rattle.langtag_keyword.proofs.IdentifierParts.{AreVariants};
 ghost use Rattle.langtag_locale.specs.LocaleAliases as list;
 ghost use Rattle.langtag_locale.specs.LocaleForm as spec;
 

@@ -1,11 +1,9 @@
 -- Filtering of a list of tags by a language priority list (RFC 4647 section 3.3).
-use Rattle.std.specs.Prelude.{◌≡◌, ℕ, ◌+◌, ◌<◌, Bool, not, ◌&&◌, List, [], ◌∷◌, ◌++◌, length, take, drop, filter, slice_get, Option, Some, MatchOption}
-use Rattle.std.specs.List.{list_any}
-use Rattle.std.specs.List.Sorted.{IsPermutation}
+use Rattle.langtag_scan.specs.Prelude.{◌≡◌, ℕ, ◌+◌, ◌<◌, Bool, not, ◌&&◌, List, [], ◌∷◌, ◌++◌, length, take, drop, filter, slice_get, Option, Some, MatchOption, list_any, IsPermutation}
 use Rattle.langtag.specs.declared.lang_tag.LangTag.{LangTag}
-use Rattle.langtag.specs.Text.{lang_tag_text}
-use Rattle.langtag_match.specs.declared.language_range.LanguageRange.{LanguageRange}
-use Rattle.langtag_match.specs.Text.{language_range_text}
+use Rattle.langtag.specs.Definitions.{lang_tag_text}
+use Rattle.langtag_header.specs.declared.language_range.LanguageRange.{LanguageRange}
+use Rattle.langtag_header.specs.Text.{language_range_text}
 
 -- whether a range matches a tag, by a rule for their texts
 abbrev pub finds : (List ℕ → List ℕ → Bool) → LanguageRange → LangTag → Bool

@@ -1,8 +1,7 @@
 -- The two rules of filtering (RFC 4647 sections 3.3.1 and 3.3.2), and the tags that an iterator will still return.
 use Rattle.std.specs.Prelude.{ℕ, Bool, List}
 use Rattle.langtag.specs.declared.lang_tag.LangTag.{LangTag}
-use Rattle.langtag_range.specs.Basic.{test_basic}
-use Rattle.langtag_range.specs.Extended.{test_extended}
+use Rattle.langtag_range.specs.Definitions.{test_basic, test_extended}
 use Rattle.langtag_match.specs.Filter.{found_at}
 use Rattle.langtag_match.specs.declared.filter_rule.FilterRule.{FilterRule}
 use Rattle.langtag_match.specs.declared.filter_rule.FilterRule.TheVariants.{Basic, Extended}

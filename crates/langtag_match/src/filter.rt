@@ -1,14 +1,12 @@
 //! Filtering of a list of tags by a language priority list (RFC 4647 section 3.3).
-ghost use Rattle.std.specs.Prelude.{◌≡◌, ◌<◌, ◌^◌, length};
-ghost use Rattle.std.specs.Iterator.{YieldsFirst, item_count};
-ghost use Rattle.langtag_range.specs.Basic.{test_basic};
-ghost use Rattle.langtag_range.specs.Extended.{test_extended};
+ghost use Rattle.langtag_scan.specs.Prelude.{◌≡◌, ◌<◌, ◌^◌, length, YieldsFirst, item_count};
+ghost use Rattle.langtag_range.specs.Definitions.{test_basic, test_extended};
 ghost use Rattle.langtag_match.specs.Filter as spec;
 ghost use Rattle.langtag_match.specs.FilterRule.{matches_by, filtered_left};
 
 use crate::filter_rule::FilterRule;
-use crate::language_range::LanguageRange;
 use langtag::LangTag;
+use langtag_header::LanguageRange;
 
 /// Returns an iterator over the tags that basic filtering finds for a language priority list (RFC 4647 sections 3.3 and
 /// 3.3.1). The tags that the first range matches come first. Then, for each later range, come the tags that this range

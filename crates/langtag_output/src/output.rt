@@ -1,5 +1,5 @@
 //! A string that is written into the caller's buffer subtag by subtag.
-ghost use Rattle.std.specs.Prelude.{◌≡◌, ◌∷◌, [], length};
+ghost use Rattle.std.specs.Prelude.{◌≡◌, ◌∷◌, []};
 ghost use Rattle.langtag_output.specs.Output.{Appends, Pushes, HasText};
 
 /// A buffer, and the length of the string so far. Bytes that do not fit are counted, but not written.

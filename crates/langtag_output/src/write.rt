@@ -1,6 +1,5 @@
 //! Writing the pieces of a string into the caller's buffer.
-ghost use Rattle.std.specs.Prelude.{◌≡◌, ◌<◌, ◌≤◌, ◌-◌, ◌^◌, length};
-ghost use Rattle.std.specs.List.{flat_map};
+ghost use Rattle.std.specs.Prelude.{◌≡◌, ◌<◌, ◌≤◌, ◌-◌, ◌^◌, length, flat_map};
 ghost use Rattle.langtag_output.specs.Output.{IsCounted};
 ghost use Rattle.langtag_output.specs.Writes.{Writes};
 

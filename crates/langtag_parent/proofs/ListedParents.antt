@@ -1,20 +1,20 @@
 -- CLDR's rows, by computation: a parent is written in the script of its tag.
 use Rattle.langtag_scan.proofs.Prelude.{◌≡◌, ℕ, ◌<◌, true, false, Bool, List, [], ◌∷◌, length, map, codes, Option, None, Some, refl, sym, ap, ◌∙◌, subst, arith, ◌&&◌, ◌||◌, not, option_map, unwrap_or, list_all, list_any, option_map_or, bytes_eq, bytes_decides, and_parts}
-use Rattle.langtag_scan.proofs.Grammar.{AlikeRecords, fold_record, Alike, are_alike, fold_byte, fold_text, are_alike-decides, is_letter, is_digit, is_primary, is_script, is_region, Record, Spells, IsTag}
+use Rattle.langtag_scan.specs.Grammar.{AlikeRecords, fold_record, Alike, are_alike, fold_byte, fold_text, are_alike-decides, is_letter, is_digit, is_primary, is_script, is_region, Record, Spells, IsTag}
 use Rattle.langtag_scan.proofs.Laws.{alike_parts, length-fold, spelled_once}
-use Rattle.langtag.specs.Fields.{Fields}
-use Rattle.langtag.proofs.Alike.{AlikeFields, alike_is}
-use Rattle.langtag_likely.proofs.Definitions.{Likely, likely_for, language_rows, other_rows, likely_subtags}
-use Rattle.langtag_likely.proofs.AddedTwice.{either_way, found_row}
-use Rattle.langtag_likely.proofs.AlikeFields.{likely_for-alike}
-use Rattle.langtag_likely.proofs.RowLaws.{all_other, either}
+use Rattle.langtag_tables.specs.Fields.{Fields}
+use Rattle.langtag_tables.proofs.Alike.{AlikeFields, alike_is}
+use Rattle.langtag_cldr.specs.Definitions.{Likely, likely_for, language_rows, other_rows, likely_subtags}
+use Rattle.langtag_cldr.proofs.AddedTwice.{either_way, found_row}
+use Rattle.langtag_cldr.proofs.AlikeFields.{likely_for-alike}
+use Rattle.langtag_cldr.proofs.RowLaws.{all_other, either}
 use Rattle.langtag_parent.specs.Parent.{is_empty, likely_of, unless_alike}
 use Rattle.langtag_parent.specs.ParentLaws.{IsListed, IsWrittenAs, script_of}
 use Rattle.langtag_parent.specs.ParentLocales.{parent_locales}
 use Rattle.langtag_parent.specs.Rows.{Row, row_for}
 use Rattle.langtag_parent.proofs.Cuts.{empty-nil}
 use Rattle.langtag_parent.proofs.OtherScript.{is_simple, record_of, simple_spelled, simple_tag, in_region, there-long}
-use Rattle.langtag_likely.proofs.TableRows.{is_there}
+use Rattle.langtag_cldr.proofs.TableRows.{is_there}
 
 -- ---- the languages of the rows, which are written in the same script in each region
 

@@ -1,16 +1,17 @@
 -- The tables have the rows of the lists, and a language that is written in another script in a region stands in the table with it.
 use Rattle.langtag_scan.proofs.Prelude.{◌≡◌, ℕ, ◌<◌, true, false, Bool, cond, List, [], ◌∷◌, length, map, Option, None, Some, IsTrue, inl, refl, arith, ◌&&◌, ◌||◌, not, ap, sym, ◌∙◌, ◌≤◌, append-nil, ◌++◌, find, list_all, option_map_or, option_map, bytes_eq, bytes_decides, and_parts, common_steps, nat_tests, map-append}
-use Rattle.langtag_scan.proofs.Grammar.{are_alike, fold_byte, Alike, fold_text, is_letter, is_digit, is_primary, is_script, is_region, Record, IsWellFormed, Spells, spell, subtags, IsTag, IsNormal, are_alike-decides}
-use Rattle.langtag_likely.proofs.AddedTwice.{found_row}
+use Rattle.langtag_scan.specs.Grammar.{are_alike, fold_byte, Alike, fold_text, is_letter, is_digit, is_primary, is_script, is_region, Record, IsWellFormed, Spells, spell, subtags, IsTag, IsNormal, are_alike-decides}
+use Rattle.langtag_cldr.proofs.AddedTwice.{found_row}
 use Rattle.langtag_parent.specs.ParentLocales.{parent_locales}
 use Rattle.langtag_parent.specs.declared.tables.TheConstants.{PARENT_LOCALES, SCRIPTED_LANGUAGES}
 use Rattle.langtag_scan.proofs.Laws.{length-fold, script_four}
-use Rattle.langtag.proofs.Definitions.{EachLanguageSpelling, IsLanguage, SpellsLanguage, Fields}
+use Rattle.langtag_tables.specs.Fields.{Fields}
+use Rattle.langtag.specs.Definitions.{EachLanguageSpelling, IsLanguage, SpellsLanguage}
 use Rattle.langtag_tables.proofs.Letters.{primary_length}
-use Rattle.langtag.proofs.Alike.{alike_is}
-use Rattle.langtag_likely.proofs.Definitions.{Likely, likely_for, or_else, likely_subtags, other_rows}
-use Rattle.langtag_likely.proofs.RowLaws.{all_other}
-use Rattle.langtag_likely.proofs.TableRows.{is_there}
+use Rattle.langtag_tables.proofs.Alike.{alike_is}
+use Rattle.langtag_cldr.specs.Definitions.{Likely, likely_for, or_else, likely_subtags, other_rows}
+use Rattle.langtag_cldr.proofs.RowLaws.{all_other}
+use Rattle.langtag_cldr.proofs.TableRows.{is_there}
 use Rattle.langtag_parent.specs.Parent.{fields_text, likely_of, unless_alike}
 
 pub parents_listed : map (λ row. record { tag = row.0.now; parent = row.1.now }) PARENT_LOCALES ≡ parent_locales

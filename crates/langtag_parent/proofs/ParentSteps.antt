@@ -1,11 +1,12 @@
 -- From a tag to its parent: the record of the parent, its script, and what it keeps. A chain ends: a parent has fewer subtags than
 -- the tag, or is one of a few texts whose chains are short.
 use Rattle.langtag_scan.proofs.Prelude.{◌≡◌, ℕ, ◌+◌, ◌-◌, ◌<◌, ◌⊎◌, inl, inr, true, false, List, [], ◌∷◌, ◌++◌, length, take, drop, find, is_none, Option, None, Some, IsTrue, refl, sym, ap, ◌∙◌, subst, arith, ◌&&◌, option_map, length-append, append-nil, zero, suc, ◌≤◌, Bool, ◌||◌, not, IfSome, MatchOption, flat_map, list_any, list_all, bytes_eq, and_parts, common_steps, length-take, take-append-drop, option_map_or, bytes_decides}
-use Rattle.langtag_scan.proofs.Grammar.{Alike, are_alike, fold_byte, are_alike-decides, is_region, is_script, is_letter, is_digit, is_primary, EachRecord, Extension, IsWellFormed, PrivateUse, Record, Spells, extension_flat, flat, one_flat, private_part_flat, spell, IsNormal, subtags}
+use Rattle.langtag_scan.specs.Grammar.{Alike, are_alike, fold_byte, are_alike-decides, is_region, is_script, is_letter, is_digit, is_primary, EachRecord, Extension, IsWellFormed, PrivateUse, Record, Spells, extension_flat, flat, one_flat, private_part_flat, spell, IsNormal, subtags}
 use Rattle.langtag_scan.proofs.Laws.{alike_primary, script_four, normal_or_not, spelled_once, subtags-spelled}
 use Rattle.langtag_tables.proofs.Letters.{primary_length}
-use Rattle.langtag.proofs.Definitions.{base_record, with_region, with_script, Fields}
-use Rattle.langtag.proofs.Alike.{alike_is}
+use Rattle.langtag_tables.specs.Fields.{Fields}
+use Rattle.langtag.specs.Definitions.{base_record, with_region, with_script}
+use Rattle.langtag_tables.proofs.Alike.{alike_is}
 use Rattle.langtag_parent.specs.Parent.{IsParent, fields_text, is_base, is_empty, is_likely_script, likely_of, other_script, parent_in_script, parent_of, plain_parent, stated_or, unless_alike, usual_parent, without_last_variant, stated, parent_of_script}
 use Rattle.langtag_parent.specs.ParentLaws.{AddsNothing, IsInOneScript, IsKeptOrListed, IsListed, IsWrittenAs, script_of, EndsWithin}
 use Rattle.langtag_parent.specs.ParentLocales.{parent_locales}

@@ -1,6 +1,6 @@
 -- A tag, its parent, the parent of its parent, and so on, as an iterator returns them.
 use Rattle.std.specs.Prelude.{◌≡◌, ℕ, List, Option, None, MatchOption, option_map}
-use Rattle.langtag.specs.Text.{lang_tag_text}
+use Rattle.langtag.specs.Definitions.{lang_tag_text}
 use Rattle.langtag.specs.declared.lang_tag.LangTag.{LangTag}
 use Rattle.langtag_parent.specs.Parent.{IsParent}
 use Rattle.langtag_parent.specs.declared.parents.Parents.{Parents}

@@ -1,15 +1,9 @@
 -- The parent of a tag, from which a catalogue of texts takes what it does not have itself: CLDR's parent locales, and
 -- CLDR's likely subtags, so that a text is never replaced by one in another script (UTS #35, part 1, 'Parent Locales').
-use Rattle.std.specs.Prelude.{ℕ, ◌-◌, Bool, true, false, not, ◌&&◌, List, [], ◌∷◌, ◌++◌, length, take, Option, None, Some, is_none, if◌then◌else◌}
-use Rattle.std.specs.Option.{option_map_or}
-use Rattle.langtag_scan.specs.Case.{are_alike}
-use Rattle.langtag_scan.specs.Record.{Record, one_flat, spell}
-use Rattle.langtag_scan.specs.Subtags.{join}
-use Rattle.langtag.specs.Edit.{base_record, with_region, with_script, with_variants}
-use Rattle.langtag.specs.Fields.{Fields, subtag_of}
-use Rattle.langtag.specs.Part.{PartOf}
-use Rattle.langtag_likely.specs.Likely.{looked_up}
-use Rattle.langtag_likely.specs.LikelySubtags.{likely_subtags}
+use Rattle.langtag_scan.specs.Grammar.{ℕ, ◌-◌, Bool, true, false, not, ◌&&◌, List, [], ◌∷◌, ◌++◌, length, take, Option, None, Some, is_none, if◌then◌else◌, option_map_or, are_alike, Record, one_flat, spell, join}
+use Rattle.langtag.specs.Definitions.{base_record, with_region, with_script, with_variants, PartOf}
+use Rattle.langtag_tables.specs.Fields.{Fields, subtag_of}
+use Rattle.langtag_cldr.specs.Definitions.{looked_up, likely_subtags}
 use Rattle.langtag_parent.specs.ParentLocales.{parent_locales}
 use Rattle.langtag_parent.specs.Rows.{row_for}
 

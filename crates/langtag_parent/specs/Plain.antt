@@ -1,7 +1,5 @@
 -- Tags of a language, a script and a region. Only contracts of private functions cite this page.
-use Rattle.std.specs.Prelude.{◌≡◌, ℕ, ◌+◌, ◌-◌, ◌<◌, List, [], length, take, None}
-use Rattle.langtag_scan.specs.Record.{Record}
-use Rattle.langtag_scan.specs.Tag.{IsTag}
+use Rattle.langtag_scan.specs.Grammar.{◌≡◌, ℕ, ◌+◌, ◌-◌, ◌<◌, List, [], length, take, None, Record, IsTag}
 
 -- a record without variants, extensions and private use
 pub record IsPlain (r : Record) : Type 0 where

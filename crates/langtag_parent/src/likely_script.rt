@@ -1,15 +1,12 @@
 //! The scripts in which a language is written.
 ghost use Rattle.std.specs.Prelude.{◌≡◌, IsTrue, [], option_map};
-ghost use Rattle.langtag.specs.FieldClasses.{is_region_field};
-ghost use Rattle.langtag_language.specs.Language.{EachLanguageSpelling};
-ghost use Rattle.langtag_language.specs.Text.{language_text};
-ghost use Rattle.langtag_place.specs.Text.{region_text, script_text};
-ghost use Rattle.langtag_parent.specs.Parent as spec;
-ghost use Rattle.langtag_parent.specs.Parent.{likely_of, unless_alike};
+ghost use Rattle.langtag_tables.specs.FieldClasses.{is_region_field};
+ghost use Rattle.langtag.specs.Definitions.{EachLanguageSpelling, language_text, region_text, script_text};
+ghost use Rattle.langtag_parent.specs.Parent.{likely_of, unless_alike, is_likely_script};
 
 use langtag::case_insensitive_eq;
+use langtag_cldr::{TagFields, add_likely};
 use langtag_language::Language;
-use langtag_likely::{TagFields, add_likely};
 use langtag_place::{Region, Script};
 
 /// Returns the likely script of a language in a region, if it is not the likely script of the language alone.
@@ -29,7 +26,7 @@ pub(crate) fn other_script<'a>(language: Language<'a>, region: Region<'a>) -> Op
 /// Returns whether a script is the likely script of a language, or no likely script is known.
 pub(crate) fn is_likely_script(language: Language<'_>, script: Script<'_>) -> bool
     ensures { EachLanguageSpelling (language_text language.entry)
-        (λ primary extended. result ≡ spec.is_likely_script (script_text script.entry) (likely_of primary extended [])) }
+        (λ primary extended. result ≡ is_likely_script (script_text script.entry) (likely_of primary extended [])) }
 {
     match likely_script(language, b"") {
         Some(alone) => case_insensitive_eq(alone, script.as_bytes()),

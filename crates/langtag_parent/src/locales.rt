@@ -1,6 +1,6 @@
 //! The parents that CLDR states.
-ghost use Rattle.std.specs.Prelude.{◌≡◌, IsTrue, map, option_map};
-ghost use Rattle.langtag.specs.Text.{lang_tag_text};
+ghost use Rattle.std.specs.Prelude.{◌≡◌, map, option_map};
+ghost use Rattle.langtag.specs.Definitions.{lang_tag_text};
 ghost use Rattle.langtag_parent.specs.Parent.{stated};
 ghost use Rattle.langtag_parent.specs.ParentLocales.{parent_locales};
 ghost use Rattle.langtag_parent.specs.Rows.{row_for};

@@ -1,6 +1,6 @@
 //! A tag and its parents.
 ghost use Rattle.std.specs.Prelude.{◌≡◌, Some};
-ghost use Rattle.langtag.specs.Text.{lang_tag_text};
+ghost use Rattle.langtag.specs.Definitions.{lang_tag_text};
 ghost use Rattle.langtag_parent.specs.Chain.{StepsToParent, tag_left};
 
 use crate::tag_parent::parent;

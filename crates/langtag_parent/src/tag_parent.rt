@@ -1,10 +1,7 @@
 //! The parent of a tag.
-ghost use Rattle.std.specs.Prelude.{◌≡◌, ◌+◌, ◌-◌, IsTrue, None, Some, length, take, option_map};
-ghost use Rattle.langtag.specs.Text.{lang_tag_text, normal_lang_tag_text};
-ghost use Rattle.langtag_place.specs.Text.{region_text, script_text};
-ghost use Rattle.langtag_scan.specs.Record.{EachRecord};
-ghost use Rattle.langtag_parent.specs.Parent as spec;
-ghost use Rattle.langtag_parent.specs.Parent.{IsParent, parent_of, parent_of_region, parent_of_script, plain_parent};
+ghost use Rattle.langtag_scan.specs.Grammar.{◌≡◌, ◌+◌, ◌-◌, None, Some, length, take, option_map, EachRecord};
+ghost use Rattle.langtag.specs.Definitions.{lang_tag_text, normal_lang_tag_text, region_text, script_text};
+ghost use Rattle.langtag_parent.specs.Parent.{IsParent, parent_of, parent_of_region, parent_of_script, plain_parent, is_base};
 ghost use Rattle.langtag_parent.specs.Plain.{IsLonger, IsPlain};
 
 use crate::likely_script::is_likely_script;
@@ -56,7 +53,7 @@ fn parent_of_normal<'a>(tag: NormalLangTag<'a>) -> Option<LangTag<'a>>
 /// Returns whether a tag has neither extensions nor a private use part.
 #[tactic(auto, using(crate::proofs::Cuts::base_told))]
 fn is_base(tag: NormalLangTag<'_>) -> bool
-    ensures { EachRecord (normal_lang_tag_text tag.entry) (λ r. result ≡ spec.is_base r) }
+    ensures { EachRecord (normal_lang_tag_text tag.entry) (λ r. result ≡ is_base r) }
 {
     let ends = tag.ends();
     ends.variants == ends.whole

@@ -1,5 +1,5 @@
 -- The types of this crate compare and hash by their texts, ignoring the case of ASCII letters.
-use Rattle.langtag_scan.specs.Compare.{ComparesByCase}
+use Rattle.langtag_scan.specs.Grammar.{ComparesByCase}
 use Rattle.langtag_place.specs.contracts.script.ScriptHash.TheImpl as script_hash
 use Rattle.langtag_place.specs.contracts.script.ScriptOrd.TheImpl as script_order
 use Rattle.langtag_place.specs.contracts.script.ScriptPartialEq.TheImpl as script_equality

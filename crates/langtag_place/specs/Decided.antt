@@ -1,9 +1,6 @@
 -- The rule for a list of variants as a test of the subtags of a text. Only ghost fields and contracts of private
 -- functions cite this page.
-use Rattle.std.specs.Prelude.{ℕ, Bool, List}
-use Rattle.std.specs.List.{list_all}
-use Rattle.langtag_scan.specs.Class.{is_variant}
-use Rattle.langtag_scan.specs.Subtags.{subtags}
+use Rattle.langtag_scan.specs.Grammar.{ℕ, Bool, List, list_all, is_variant, subtags}
 
 abbrev pub are_variants : List (List ℕ) → Bool
 are_variants texts = list_all is_variant texts

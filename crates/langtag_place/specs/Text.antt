@@ -1,6 +1,5 @@
 -- The text of each type, as a list of bytes.
-use Rattle.std.specs.Prelude.{ℕ, List, String, string_bytes}
-use Rattle.std.specs.declared.alloc.Global.{Global}
+use Rattle.langtag_scan.specs.Prelude.{ℕ, List, String, string_bytes, Global}
 use Rattle.langtag_place.specs.declared.script.Script.{Script}
 use Rattle.langtag_place.specs.declared.script.ScriptBuf.{ScriptBuf}
 use Rattle.langtag_place.specs.declared.region.Region.{Region}

@@ -1,8 +1,5 @@
 -- Lists of variants (RFC 5646 section 2.1, `*("-" variant)` without the first hyphen).
-use Rattle.std.specs.Prelude.{◌≡◌, ℕ, IsTrue, List}
-use Rattle.std.specs.List.{AllByRecursion}
-use Rattle.langtag_scan.specs.Class.{is_variant}
-use Rattle.langtag_scan.specs.Subtags.{join}
+use Rattle.langtag_scan.specs.Grammar.{◌≡◌, ℕ, IsTrue, List, AllByRecursion, is_variant, join}
 
 -- each subtag in the list is a variant, and the text consists of all these subtags, joined by hyphens
 pub record SpellsVariants (variants : List (List ℕ)) (text : List ℕ) : Type 0 where

@@ -1,9 +1,5 @@
 //! The region subtag (RFC 5646 section 2.2.4).
-ghost use Rattle.std.specs.Prelude.{◌≡◌, ◌==◌, ◌&&◌, ◌||◌, Some, IsTrue, IfOk, IfErr, is_ok, length, string_bytes};
-ghost use Rattle.std.specs.Char.{is_ascii_alphabetic, is_ascii_digit};
-ghost use Rattle.std.specs.List.{list_all};
-ghost use Rattle.langtag_scan.specs.Case.{are_alike};
-ghost use Rattle.langtag_scan.specs.Class as class;
+ghost use Rattle.langtag_scan.specs.Grammar.{◌≡◌, ◌==◌, ◌&&◌, ◌||◌, Some, IsTrue, IfOk, IfErr, is_ok, length, string_bytes, is_ascii_alphabetic, is_ascii_digit, list_all, are_alike, is_region};
 
 use langtag_scan::{Caseless, is_region};
 use std::alloc::{AllocError, Global};
@@ -38,7 +34,7 @@ pub struct InvalidRegion<T>(pub T);
 #[derive(Clone, Copy, Debug, PartialEq, Eq, PartialOrd, Ord, Hash)]
 pub struct Region<'a> {
     text: Caseless<&'a str>,
-    ghost in_class: { IsTrue (class.is_region text.0.now) },
+    ghost in_class: { IsTrue (is_region text.0.now) },
 }
 
 impl<'a> Region<'a> {
@@ -53,7 +49,7 @@ impl<'a> Region<'a> {
     /// `Err(InvalidRegion("FR1"))`.
     #[tactic(auto, using(crate::proofs::Numbers::region_numbers))]
     pub fn new(text: &'a str) -> Result<Region<'a>, InvalidRegion<&'a str>>
-        ensures accepts { is_ok result ≡ class.is_region text.now }
+        ensures accepts { is_ok result ≡ is_region text.now }
         ensures by_number { is_ok result ≡
             (((length text.now == 2) && list_all is_ascii_alphabetic text.now)
             || ((length text.now == 3) && list_all is_ascii_digit text.now)) }
@@ -69,7 +65,7 @@ impl<'a> Region<'a> {
     /// Wraps a string that is known to be a region, without checking it. `Region::from_checked(region.as_str())` is
     /// equal to `region`.
     pub fn from_checked(text: &'a str) -> Region<'a>
-        requires { IsTrue (class.is_region text.now) }
+        requires { IsTrue (is_region text.now) }
         ensures { region_text result ≡ text.now }
     {
         Region {
@@ -80,7 +76,7 @@ impl<'a> Region<'a> {
     /// Returns the string, in its original case: `Region::new("FR")?.as_str()` is `"FR"`.
     pub fn as_str(&self) -> &'a str
         ensures same_text { result.now ≡ region_text self.now }
-        ensures in_class { IsTrue (class.is_region result.now) }
+        ensures in_class { IsTrue (is_region result.now) }
     {
         self.text.0
     }
@@ -98,7 +94,7 @@ impl<'a> Region<'a> {
     #[tactic(auto, using(langtag_scan::proofs::CaseOrder::bytes_ends_first, langtag_scan::proofs::CaseLaw::alike_region))]
     pub fn eq_str(&self, other: &str) -> bool
         ensures test { result ≡ are_alike (region_text self.now) other.now }
-        ensures in_class { IsTrue result → IsTrue (class.is_region other.now) }
+        ensures in_class { IsTrue result → IsTrue (is_region other.now) }
 
         ensures compared { RegionsCompareByCase }
         ensures cloned { (copy : Region) → ⟦<Region<'a> as Clone>⟧.is_clone self.now copy → copy ≡ self.now }
@@ -144,7 +140,7 @@ impl fmt::Display for Region<'_> {
 #[derive(Debug, Drop, PartialEq, Eq, PartialOrd, Ord, Hash)]
 pub struct RegionBuf {
     text: Caseless<String>,
-    ghost in_class: { IsTrue (class.is_region (string_bytes text.0)) },
+    ghost in_class: { IsTrue (is_region (string_bytes text.0)) },
 }
 
 impl RegionBuf {
@@ -165,7 +161,7 @@ impl RegionBuf {
     /// RegionBuf::new(String::from_str(alloc, "FR1")?).is_err(); // true
     /// ```
     pub fn new(text: String) -> Result<RegionBuf, InvalidRegion<String>>
-        ensures accepts { is_ok result ≡ class.is_region (string_bytes text) }
+        ensures accepts { is_ok result ≡ is_region (string_bytes text) }
         ensures same_text { IfOk result (λ region. region_buf_text region ≡ string_bytes text) }
         ensures same_string { IfOk result (λ region. region_buf_string region ≡ text) }
         ensures given_back { IfErr result (λ error. error.0 ≡ text) }
@@ -192,7 +188,7 @@ impl RegionBuf {
     /// Returns the string, in its original case: `Region::new("FR")?.try_to_owned(alloc)?.as_str()` is `"FR"`.
     pub fn as_str(&self) -> &str
         ensures same_text { result.now ≡ region_buf_text self.now }
-        ensures in_class { IsTrue (class.is_region result.now) }
+        ensures in_class { IsTrue (is_region result.now) }
     {
         self.text.0.as_str()
     }
@@ -201,7 +197,7 @@ impl RegionBuf {
     pub fn into_string(self) -> String
         ensures same_text { string_bytes result ≡ region_buf_text self }
         ensures same_string { result ≡ region_buf_string self }
-        ensures in_class { IsTrue (class.is_region (string_bytes result)) }
+        ensures in_class { IsTrue (is_region (string_bytes result)) }
     {
         self.text.0
     }

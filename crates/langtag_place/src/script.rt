@@ -1,9 +1,5 @@
 //! The script subtag (RFC 5646 section 2.2.3).
-ghost use Rattle.std.specs.Prelude.{◌≡◌, ◌==◌, ◌&&◌, Some, IsTrue, IfOk, IfErr, is_ok, length, string_bytes};
-ghost use Rattle.std.specs.Char.{is_ascii_alphabetic};
-ghost use Rattle.std.specs.List.{list_all};
-ghost use Rattle.langtag_scan.specs.Case.{are_alike};
-ghost use Rattle.langtag_scan.specs.Class as class;
+ghost use Rattle.langtag_scan.specs.Grammar.{◌≡◌, ◌==◌, ◌&&◌, Some, IsTrue, IfOk, IfErr, is_ok, length, string_bytes, is_ascii_alphabetic, list_all, are_alike, is_script};
 
 use langtag_scan::{Caseless, is_script};
 use std::alloc::{AllocError, Global};
@@ -38,7 +34,7 @@ pub struct InvalidScript<T>(pub T);
 #[derive(Clone, Copy, Debug, PartialEq, Eq, PartialOrd, Ord, Hash)]
 pub struct Script<'a> {
     text: Caseless<&'a str>,
-    ghost in_class: { IsTrue (class.is_script text.0.now) },
+    ghost in_class: { IsTrue (is_script text.0.now) },
 }
 
 impl<'a> Script<'a> {
@@ -52,7 +48,7 @@ impl<'a> Script<'a> {
     /// Returns the string if it is not four letters: `Script::new("Lat")` is `Err(InvalidScript("Lat"))`.
     #[tactic(auto, using(crate::proofs::Numbers::script_numbers))]
     pub fn new(text: &'a str) -> Result<Script<'a>, InvalidScript<&'a str>>
-        ensures accepts { is_ok result ≡ class.is_script text.now }
+        ensures accepts { is_ok result ≡ is_script text.now }
         ensures by_number { is_ok result ≡ ((length text.now == 4) && list_all is_ascii_alphabetic text.now) }
         ensures same_text { IfOk result (λ script. script_text script ≡ text.now) }
         ensures given_back { IfErr result (λ error. error.0 ≡ text.entry) }
@@ -66,7 +62,7 @@ impl<'a> Script<'a> {
     /// Wraps a string that is known to be a script, without checking it. `Script::from_checked(script.as_str())` is
     /// equal to `script`.
     pub fn from_checked(text: &'a str) -> Script<'a>
-        requires { IsTrue (class.is_script text.now) }
+        requires { IsTrue (is_script text.now) }
         ensures { script_text result ≡ text.now }
     {
         Script {
@@ -77,7 +73,7 @@ impl<'a> Script<'a> {
     /// Returns the string, in its original case: `Script::new("LATN")?.as_str()` is `"LATN"`.
     pub fn as_str(&self) -> &'a str
         ensures same_text { result.now ≡ script_text self.now }
-        ensures in_class { IsTrue (class.is_script result.now) }
+        ensures in_class { IsTrue (is_script result.now) }
     {
         self.text.0
     }
@@ -95,7 +91,7 @@ impl<'a> Script<'a> {
     #[tactic(auto, using(langtag_scan::proofs::CaseOrder::bytes_ends_first, langtag_scan::proofs::CaseLaw::alike_script))]
     pub fn eq_str(&self, other: &str) -> bool
         ensures test { result ≡ are_alike (script_text self.now) other.now }
-        ensures in_class { IsTrue result → IsTrue (class.is_script other.now) }
+        ensures in_class { IsTrue result → IsTrue (is_script other.now) }
 
         ensures compared { ScriptsCompareByCase }
         ensures cloned { (copy : Script) → ⟦<Script<'a> as Clone>⟧.is_clone self.now copy → copy ≡ self.now }
@@ -141,7 +137,7 @@ impl fmt::Display for Script<'_> {
 #[derive(Debug, Drop, PartialEq, Eq, PartialOrd, Ord, Hash)]
 pub struct ScriptBuf {
     text: Caseless<String>,
-    ghost in_class: { IsTrue (class.is_script (string_bytes text.0)) },
+    ghost in_class: { IsTrue (is_script (string_bytes text.0)) },
 }
 
 impl ScriptBuf {
@@ -162,7 +158,7 @@ impl ScriptBuf {
     /// ScriptBuf::new(String::from_str(alloc, "Lat")?).is_err(); // true
     /// ```
     pub fn new(text: String) -> Result<ScriptBuf, InvalidScript<String>>
-        ensures accepts { is_ok result ≡ class.is_script (string_bytes text) }
+        ensures accepts { is_ok result ≡ is_script (string_bytes text) }
         ensures same_text { IfOk result (λ script. script_buf_text script ≡ string_bytes text) }
         ensures same_string { IfOk result (λ script. script_buf_string script ≡ text) }
         ensures given_back { IfErr result (λ error. error.0 ≡ text) }
@@ -189,7 +185,7 @@ impl ScriptBuf {
     /// Returns the string, in its original case: `Script::new("LATN")?.try_to_owned(alloc)?.as_str()` is `"LATN"`.
     pub fn as_str(&self) -> &str
         ensures same_text { result.now ≡ script_buf_text self.now }
-        ensures in_class { IsTrue (class.is_script result.now) }
+        ensures in_class { IsTrue (is_script result.now) }
     {
         self.text.0.as_str()
     }
@@ -198,7 +194,7 @@ impl ScriptBuf {
     pub fn into_string(self) -> String
         ensures same_text { string_bytes result ≡ script_buf_text self }
         ensures same_string { result ≡ script_buf_string self }
-        ensures in_class { IsTrue (class.is_script (string_bytes result)) }
+        ensures in_class { IsTrue (is_script (string_bytes result)) }
     {
         self.text.0
     }

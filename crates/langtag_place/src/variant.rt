@@ -1,10 +1,5 @@
 //! The variant subtag (RFC 5646 section 2.2.5).
-ghost use Rattle.std.specs.Prelude.{◌≡◌, ◌==◌, ◌&&◌, ◌||◌, Some, IsTrue, IfOk, IfErr, is_ok, length, slice_index, string_bytes};
-ghost use Rattle.std.specs.Char.{is_ascii_alphabetic, is_ascii_digit};
-ghost use Rattle.std.specs.Int.{is_in_range};
-ghost use Rattle.std.specs.List.{list_all};
-ghost use Rattle.langtag_scan.specs.Case.{are_alike};
-ghost use Rattle.langtag_scan.specs.Class as class;
+ghost use Rattle.langtag_scan.specs.Grammar.{◌≡◌, ◌==◌, ◌&&◌, ◌||◌, Some, IsTrue, IfOk, IfErr, is_ok, length, slice_index, string_bytes, is_ascii_alphabetic, is_ascii_digit, is_in_range, list_all, are_alike, is_variant};
 
 use langtag_scan::{Caseless, is_variant};
 use std::alloc::{AllocError, Global};
@@ -40,7 +35,7 @@ pub struct InvalidVariant<T>(pub T);
 #[derive(Clone, Copy, Debug, PartialEq, Eq, PartialOrd, Ord, Hash)]
 pub struct Variant<'a> {
     text: Caseless<&'a str>,
-    ghost in_class: { IsTrue (class.is_variant text.0.now) },
+    ghost in_class: { IsTrue (is_variant text.0.now) },
 }
 
 impl<'a> Variant<'a> {
@@ -55,7 +50,7 @@ impl<'a> Variant<'a> {
     /// digits: `Variant::new("roza")` is `Err(InvalidVariant("roza"))`.
     #[tactic(auto, using(crate::proofs::Numbers::variant_numbers))]
     pub fn new(text: &'a str) -> Result<Variant<'a>, InvalidVariant<&'a str>>
-        ensures accepts { is_ok result ≡ class.is_variant text.now }
+        ensures accepts { is_ok result ≡ is_variant text.now }
         ensures by_number { is_ok result ≡
             ((is_in_range 5 8 (length text.now) && list_all (λ b. is_ascii_alphabetic b || is_ascii_digit b) text.now)
             || ((length text.now == 4) && list_all (λ b. is_ascii_alphabetic b || is_ascii_digit b) text.now
@@ -72,7 +67,7 @@ impl<'a> Variant<'a> {
     /// Wraps a string that is known to be a variant, without checking it. `Variant::from_checked(variant.as_str())` is
     /// equal to `variant`.
     pub fn from_checked(text: &'a str) -> Variant<'a>
-        requires { IsTrue (class.is_variant text.now) }
+        requires { IsTrue (is_variant text.now) }
         ensures { variant_text result ≡ text.now }
     {
         Variant {
@@ -83,7 +78,7 @@ impl<'a> Variant<'a> {
     /// Returns the string, in its original case: `Variant::new("ROZAJ")?.as_str()` is `"ROZAJ"`.
     pub fn as_str(&self) -> &'a str
         ensures same_text { result.now ≡ variant_text self.now }
-        ensures in_class { IsTrue (class.is_variant result.now) }
+        ensures in_class { IsTrue (is_variant result.now) }
     {
         self.text.0
     }
@@ -101,7 +96,7 @@ impl<'a> Variant<'a> {
     #[tactic(auto, using(langtag_scan::proofs::CaseOrder::bytes_ends_first, langtag_scan::proofs::CaseLaw::alike_variant))]
     pub fn eq_str(&self, other: &str) -> bool
         ensures test { result ≡ are_alike (variant_text self.now) other.now }
-        ensures in_class { IsTrue result → IsTrue (class.is_variant other.now) }
+        ensures in_class { IsTrue result → IsTrue (is_variant other.now) }
 
         ensures compared { VariantsCompareByCase }
         ensures cloned { (copy : Variant) → ⟦<Variant<'a> as Clone>⟧.is_clone self.now copy → copy ≡ self.now }
@@ -147,7 +142,7 @@ impl fmt::Display for Variant<'_> {
 #[derive(Debug, Drop, PartialEq, Eq, PartialOrd, Ord, Hash)]
 pub struct VariantBuf {
     text: Caseless<String>,
-    ghost in_class: { IsTrue (class.is_variant (string_bytes text.0)) },
+    ghost in_class: { IsTrue (is_variant (string_bytes text.0)) },
 }
 
 impl VariantBuf {
@@ -169,7 +164,7 @@ impl VariantBuf {
     /// VariantBuf::new(String::from_str(alloc, "roza")?).is_err(); // true
     /// ```
     pub fn new(text: String) -> Result<VariantBuf, InvalidVariant<String>>
-        ensures accepts { is_ok result ≡ class.is_variant (string_bytes text) }
+        ensures accepts { is_ok result ≡ is_variant (string_bytes text) }
         ensures same_text { IfOk result (λ variant. variant_buf_text variant ≡ string_bytes text) }
         ensures same_string { IfOk result (λ variant. variant_buf_string variant ≡ text) }
         ensures given_back { IfErr result (λ error. error.0 ≡ text) }
@@ -196,7 +191,7 @@ impl VariantBuf {
     /// Returns the string, in its original case: `Variant::new("ROZAJ")?.try_to_owned(alloc)?.as_str()` is `"ROZAJ"`.
     pub fn as_str(&self) -> &str
         ensures same_text { result.now ≡ variant_buf_text self.now }
-        ensures in_class { IsTrue (class.is_variant result.now) }
+        ensures in_class { IsTrue (is_variant result.now) }
     {
         self.text.0.as_str()
     }
@@ -206,7 +201,7 @@ impl VariantBuf {
     pub fn into_string(self) -> String
         ensures same_text { string_bytes result ≡ variant_buf_text self }
         ensures same_string { result ≡ variant_buf_string self }
-        ensures in_class { IsTrue (class.is_variant (string_bytes result)) }
+        ensures in_class { IsTrue (is_variant (string_bytes result)) }
     {
         self.text.0
     }

@@ -1,7 +1,5 @@
 //! An iterator over the variants of a tag, from either end.
-ghost use Rattle.std.specs.Prelude.{◌≡◌, ◌<◌, ◌^◌, IsTrue, [], length, ⊤};
-ghost use Rattle.std.specs.Iterator.{YieldsFirstBy, YieldsLastBy, item_count};
-ghost use Rattle.langtag_scan.specs.Subtags.{subtags};
+ghost use Rattle.langtag_scan.specs.Grammar.{◌≡◌, ◌<◌, ◌^◌, IsTrue, [], length, ⊤, YieldsFirstBy, YieldsLastBy, item_count, subtags};
 ghost use Rattle.langtag_place.specs.Decided.{are_variants, is_variants};
 
 use crate::variant::Variant;

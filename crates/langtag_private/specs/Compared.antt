@@ -1,5 +1,5 @@
 -- The types of this crate compare and hash by their texts, ignoring the case of ASCII letters.
-use Rattle.langtag_scan.specs.Compare.{ComparesByCase}
+use Rattle.langtag_scan.specs.Grammar.{ComparesByCase}
 use Rattle.langtag_private.specs.contracts.private_use_subtag.PrivateUseSubtagHash.TheImpl as subtag_hash
 use Rattle.langtag_private.specs.contracts.private_use_subtag.PrivateUseSubtagOrd.TheImpl as subtag_order
 use Rattle.langtag_private.specs.contracts.private_use_subtag.PrivateUseSubtagPartialEq.TheImpl as subtag_equality

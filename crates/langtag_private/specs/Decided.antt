@@ -1,9 +1,6 @@
 -- The rule `privateuse` as a test of the subtags of a text. Only ghost fields and contracts of private functions cite
 -- this page. Public contracts cite `IsPrivateUse` instead.
-use Rattle.std.specs.Prelude.{ℕ, Bool, false, ◌&&◌, List, [], ◌∷◌}
-use Rattle.std.specs.List.{list_all}
-use Rattle.langtag_scan.specs.Class.{is_mark, is_private_subtag}
-use Rattle.langtag_scan.specs.Subtags.{subtags}
+use Rattle.langtag_scan.specs.Grammar.{ℕ, Bool, false, ◌&&◌, List, [], ◌∷◌, list_all, is_mark, is_private_subtag, subtags}
 
 abbrev pub are_private : List (List ℕ) → Bool
 are_private subtags = list_all is_private_subtag subtags

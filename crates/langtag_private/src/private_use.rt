@@ -1,7 +1,5 @@
 //! The private use part of a tag (RFC 5646 section 2.2.7).
-ghost use Rattle.std.specs.Prelude.{◌≡◌, ◌↔◌, Some, IsTrue, IfOk, IfErr, is_ok, drop, string_bytes};
-ghost use Rattle.langtag_scan.specs.Case.{are_alike};
-ghost use Rattle.langtag_scan.specs.Subtags.{subtags};
+ghost use Rattle.langtag_scan.specs.Grammar.{◌≡◌, ◌↔◌, Some, IsTrue, IfOk, IfErr, is_ok, drop, string_bytes, are_alike, subtags};
 ghost use Rattle.langtag_private.specs.PrivateUse.{IsPrivateUse, EachPrivateUseSpelling};
 ghost use Rattle.langtag_private.specs.Decided as test;
 

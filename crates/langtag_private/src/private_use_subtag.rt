@@ -1,10 +1,5 @@
 //! A subtag of a private use part (RFC 5646 section 2.2.7).
-ghost use Rattle.std.specs.Prelude.{◌≡◌, ◌&&◌, ◌||◌, length, Some, IsTrue, IfOk, IfErr, is_ok, string_bytes};
-ghost use Rattle.std.specs.Char.{is_ascii_alphabetic, is_ascii_digit};
-ghost use Rattle.std.specs.Int.{is_in_range};
-ghost use Rattle.std.specs.List.{list_all};
-ghost use Rattle.langtag_scan.specs.Case.{are_alike};
-ghost use Rattle.langtag_scan.specs.Class as class;
+ghost use Rattle.langtag_scan.specs.Grammar.{◌≡◌, ◌&&◌, ◌||◌, length, Some, IsTrue, IfOk, IfErr, is_ok, string_bytes, is_ascii_alphabetic, is_ascii_digit, is_in_range, list_all, are_alike, is_private_subtag};
 
 use langtag_scan::{Caseless, is_private_subtag};
 use std::alloc::{AllocError, Global};
@@ -40,7 +35,7 @@ pub struct InvalidPrivateUseSubtag<T>(pub T);
 #[derive(Clone, Copy, Debug, PartialEq, Eq, PartialOrd, Ord, Hash)]
 pub struct PrivateUseSubtag<'a> {
     text: Caseless<&'a str>,
-    ghost in_class: { IsTrue (class.is_private_subtag text.0.now) },
+    ghost in_class: { IsTrue (is_private_subtag text.0.now) },
 }
 
 impl<'a> PrivateUseSubtag<'a> {
@@ -55,7 +50,7 @@ impl<'a> PrivateUseSubtag<'a> {
     /// `Err(InvalidPrivateUseSubtag("a-b"))`.
     #[tactic(auto, using(crate::proofs::Numbers::private_subtag_numbers))]
     pub fn new(text: &'a str) -> Result<PrivateUseSubtag<'a>, InvalidPrivateUseSubtag<&'a str>>
-        ensures accepts { is_ok result ≡ class.is_private_subtag text.now }
+        ensures accepts { is_ok result ≡ is_private_subtag text.now }
         ensures by_number { is_ok result ≡
             (is_in_range 1 8 (length text.now) && list_all (λ b. is_ascii_alphabetic b || is_ascii_digit b) text.now) }
         ensures same_text { IfOk result (λ subtag. private_use_subtag_text subtag ≡ text.now) }
@@ -70,7 +65,7 @@ impl<'a> PrivateUseSubtag<'a> {
     /// Wraps a string that is known to be a private use subtag, without checking it.
     /// `PrivateUseSubtag::from_checked(subtag.as_str())` is equal to `subtag`.
     pub fn from_checked(text: &'a str) -> PrivateUseSubtag<'a>
-        requires { IsTrue (class.is_private_subtag text.now) }
+        requires { IsTrue (is_private_subtag text.now) }
         ensures { private_use_subtag_text result ≡ text.now }
     {
         PrivateUseSubtag {
@@ -81,7 +76,7 @@ impl<'a> PrivateUseSubtag<'a> {
     /// Returns the string, in its original case: `PrivateUseSubtag::new("TWAIN")?.as_str()` is `"TWAIN"`.
     pub fn as_str(&self) -> &'a str
         ensures same_text { result.now ≡ private_use_subtag_text self.now }
-        ensures in_class { IsTrue (class.is_private_subtag result.now) }
+        ensures in_class { IsTrue (is_private_subtag result.now) }
     {
         self.text.0
     }
@@ -99,7 +94,7 @@ impl<'a> PrivateUseSubtag<'a> {
     #[tactic(auto, using(langtag_scan::proofs::CaseOrder::bytes_ends_first, langtag_scan::proofs::CaseLaw::alike_private_subtag))]
     pub fn eq_str(&self, other: &str) -> bool
         ensures test { result ≡ are_alike (private_use_subtag_text self.now) other.now }
-        ensures in_class { IsTrue result → IsTrue (class.is_private_subtag other.now) }
+        ensures in_class { IsTrue result → IsTrue (is_private_subtag other.now) }
 
         ensures compared { PrivateUseSubtagsCompareByCase }
         ensures cloned { (copy : PrivateUseSubtag) → ⟦<PrivateUseSubtag<'a> as Clone>⟧.is_clone self.now copy → copy ≡ self.now }
@@ -146,7 +141,7 @@ impl fmt::Display for PrivateUseSubtag<'_> {
 #[derive(Debug, Drop, PartialEq, Eq, PartialOrd, Ord, Hash)]
 pub struct PrivateUseSubtagBuf {
     text: Caseless<String>,
-    ghost in_class: { IsTrue (class.is_private_subtag (string_bytes text.0)) },
+    ghost in_class: { IsTrue (is_private_subtag (string_bytes text.0)) },
 }
 
 impl PrivateUseSubtagBuf {
@@ -167,7 +162,7 @@ impl PrivateUseSubtagBuf {
     /// PrivateUseSubtagBuf::new(String::from_str(alloc, "a-b")?).is_err(); // true
     /// ```
     pub fn new(text: String) -> Result<PrivateUseSubtagBuf, InvalidPrivateUseSubtag<String>>
-        ensures accepts { is_ok result ≡ class.is_private_subtag (string_bytes text) }
+        ensures accepts { is_ok result ≡ is_private_subtag (string_bytes text) }
         ensures same_text { IfOk result (λ subtag. private_use_subtag_buf_text subtag ≡ string_bytes text) }
         ensures same_string { IfOk result (λ subtag. private_use_subtag_buf_string subtag ≡ text) }
         ensures given_back { IfErr result (λ error. error.0 ≡ text) }
@@ -195,7 +190,7 @@ impl PrivateUseSubtagBuf {
     /// `"TWAIN"`.
     pub fn as_str(&self) -> &str
         ensures same_text { result.now ≡ private_use_subtag_buf_text self.now }
-        ensures in_class { IsTrue (class.is_private_subtag result.now) }
+        ensures in_class { IsTrue (is_private_subtag result.now) }
     {
         self.text.0.as_str()
     }
@@ -205,7 +200,7 @@ impl PrivateUseSubtagBuf {
     pub fn into_string(self) -> String
         ensures same_text { string_bytes result ≡ private_use_subtag_buf_text self }
         ensures same_string { result ≡ private_use_subtag_buf_string self }
-        ensures in_class { IsTrue (class.is_private_subtag (string_bytes result)) }
+        ensures in_class { IsTrue (is_private_subtag (string_bytes result)) }
     {
         self.text.0
     }

@@ -1,8 +1,8 @@
 -- The case of letters changes no mark, no digit and no range in a text; so alike headers have alike elements.
 use Rattle.langtag_scan.proofs.Prelude.{◌≡◌, ℕ, ◌+◌, Bool, List, [], ◌∷◌, map, reverse, refl, arith, ◌<◌, eqb, ap, true, cond, Option, None, Some, option_map, sym, ◌∙◌, list_any, slice_split, before_first, after_first, position_or_len, list_all, take-map, drop-map, map-append, reverse-append, length-map, common_steps, nat_tests, eqb_tells, and_parts}
-use Rattle.langtag_scan.proofs.Grammar.{fold_byte, fold_text, is_letter, is_private_subtag, are_digits, is_digit, subtags, Classes}
+use Rattle.langtag_scan.specs.Grammar.{fold_byte, fold_text, is_letter, is_private_subtag, are_digits, is_digit, subtags, Classes}
 use Rattle.langtag_scan.proofs.CaseLaw.{all-fold, is_letter-fold, length-fold, classes-fold, is_digit-fold, subtags-fold}
-use Rattle.langtag_range.proofs.Definitions.{from_first, trimmed, Element, is_comma, is_semicolon, items, is_star, is_first_subtag, is_basic_range, hyphened, wanted_text, number_weight, value_weight, is_equals, is_q_name, is_q_parameter, wanted_weight, parameters, wanted, digits_behind, wanted_items, wanted_elements, folded, ElementsIgnoreCase, ends_locale, front_of, is_hash, place_before, locale_place, without_mark}
+use Rattle.langtag_range.specs.Definitions.{from_first, trimmed, Element, is_comma, is_semicolon, items, is_star, is_first_subtag, is_basic_range, hyphened, wanted_text, number_weight, value_weight, is_equals, is_q_name, is_q_parameter, wanted_weight, parameters, wanted, digits_behind, wanted_items, wanted_elements, folded, ElementsIgnoreCase, ends_locale, front_of, is_hash, place_before, locale_place, without_mark}
 use Rattle.std.proofs.Math.ListN.{get_or-map}
 
 module _ (p : ℕ → Bool) (same : (b : ℕ) → p (fold_byte b) ≡ p b) where

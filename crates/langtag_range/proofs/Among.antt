@@ -1,8 +1,8 @@
 -- A range beside a tag: what each subtag of the tag says of the subtags of the range, and what stands before each hyphen.
 use Rattle.langtag_scan.proofs.Prelude.{◌≡◌, ◌↔◌, ℕ, Bool, true, false, not, subst, IsTrue, List, [], ◌∷◌, ◌++◌, refl, ap, append_assoc, arith, ◌+◌, ◌-◌, ◌<◌, ◌≤◌, take, drop, length, get_or, ◌∙◌, eqb, ◌&&◌, sym, rules, and_parts, both_ways, not-true, or_cases, or_right, cases_lt, eq-eqb, length-map, get_or-drop, at_drop_more, take-append-drop, take_all, take_at, list_all-append, common_steps, All-tail, length-filter, count_by-le-length, length-slice_split, length-drop, eqb-true, length-append}
 use Rattle.std.proofs.lemmas.List.{get_or-append_right}
-use Rattle.langtag_scan.proofs.Grammar.{fold_byte, are_alike, Alike, subtags, is_hyphen, IsHyphenFree, NoHyphenWithin, is_single}
-use Rattle.langtag_range.proofs.Definitions.{have_no_single, StandAmong, without_stars, MatchesExtended, stand_among, test_extended, is_star, is_range_subtag, are_extended_range, is_language_range, before_hyphens, fallbacks, begins_with_wildcard, basic_form, BeginsWithRange, MatchesBasic, ends_subtag, test_basic}
+use Rattle.langtag_scan.specs.Grammar.{fold_byte, are_alike, Alike, subtags, is_hyphen, IsHyphenFree, NoHyphenWithin, is_single}
+use Rattle.langtag_range.specs.Definitions.{have_no_single, StandAmong, without_stars, MatchesExtended, stand_among, test_extended, is_star, is_range_subtag, are_extended_range, is_language_range, before_hyphens, fallbacks, begins_with_wildcard, basic_form, BeginsWithRange, MatchesBasic, ends_subtag, test_basic}
 use Rattle.langtag_scan.proofs.SubtagLists.{slice_split-push}
 use Rattle.std.specs.Char.{to_ascii_lowercase}
 

@@ -1,4 +1,3 @@
-pub mod Definitions
 pub mod BasicForms
 pub mod AlikeTexts
 pub mod WantedTexts

@@ -1,5 +1,6 @@
 pub mod Basic
 pub mod BasicForm
+pub mod Definitions
 pub mod Element
 pub mod Extended
 pub mod Fallback

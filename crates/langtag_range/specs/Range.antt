@@ -1,9 +1,5 @@
 -- Language ranges (RFC 4647 section 2).
-use Rattle.std.specs.Prelude.{ℕ, Bool, false, ◌&&◌, ◌||◌, List, [], ◌∷◌}
-use Rattle.std.specs.List.{list_all}
-use Rattle.std.specs.Str.{bytes_eq}
-use Rattle.langtag_scan.specs.Class.{has_length, are_letters, is_private_subtag}
-use Rattle.langtag_scan.specs.Subtags.{subtags}
+use Rattle.langtag_scan.specs.Grammar.{ℕ, Bool, false, ◌&&◌, ◌||◌, List, [], ◌∷◌, list_all, bytes_eq, has_length, are_letters, is_private_subtag, subtags}
 
 -- "*"
 abbrev pub is_star : List ℕ → Bool

@@ -1,8 +1,7 @@
 //! The length of a fallback of a language range (RFC 4647 section 3.4).
-ghost use Rattle.std.specs.Prelude.{◌≡◌, ◌<◌, ◌∷◌, [], length, take, IfSome, IsTrue};
-ghost use Rattle.std.specs.Option.{option_map_or};
+ghost use Rattle.langtag_scan.specs.Prelude.{◌≡◌, ◌<◌, ◌∷◌, [], length, take, IfSome, IsTrue, option_map_or};
 ghost use Rattle.langtag_range.specs.Fallback as spec;
-ghost use Rattle.langtag_range.specs.Range.{is_language_range};
+ghost use Rattle.langtag_range.specs.Definitions.{is_language_range};
 
 use langtag_scan::segment_start;
 

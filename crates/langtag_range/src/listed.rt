@@ -1,10 +1,7 @@
 //! A language range in a list that the caller has, such as the user's settings.
-ghost use Rattle.std.specs.Prelude.{◌≡◌, IfSome, IsTrue};
-ghost use Rattle.std.specs.List.{slice_split};
-ghost use Rattle.std.specs.Option.{option_map};
+ghost use Rattle.langtag_scan.specs.Prelude.{◌≡◌, IfSome, IsTrue, slice_split, option_map};
 ghost use Rattle.langtag_range.specs.Listed as spec;
-ghost use Rattle.langtag_range.specs.Range.{are_range_subtags, is_language_range};
-ghost use Rattle.langtag_range.specs.Wanted.{hyphened, is_separator};
+ghost use Rattle.langtag_range.specs.Definitions.{are_range_subtags, is_language_range, hyphened, is_separator};
 
 use crate::locale::locale_place;
 use crate::range_text::{is_first_subtag, is_range_subtag};

@@ -1,6 +1,6 @@
 //! The language and the territory of a POSIX locale name.
 ghost use Rattle.std.specs.Prelude.{◌≡◌};
-ghost use Rattle.langtag_range.specs.Locale.{locale_place, without_mark};
+ghost use Rattle.langtag_range.specs.Definitions.{locale_place, without_mark};
 
 use langtag_scan::{split_at_byte, split_at_either};
 

@@ -1,6 +1,5 @@
 //! The white space around a string in a header (RFC 9110 section 5.6.3).
-ghost use Rattle.std.specs.Prelude.{◌≡◌, ◌≤◌, IsTrue, drop, length, reverse, take};
-ghost use Rattle.std.specs.List.{slice_range};
+ghost use Rattle.std.specs.Prelude.{◌≡◌, ◌≤◌, IsTrue, drop, length, reverse, take, slice_range};
 ghost use Rattle.langtag_range.specs.Element as spec;
 
 /// Returns whether the string between two commas of a header is empty except for spaces and tabs. Such an element must

@@ -1,13 +1,11 @@
-pub mod Fault
-pub mod Compared
-pub mod Valid
-pub mod Canonical
-pub mod Form
-pub mod CanonicalLaws
-pub mod Prefix
-pub mod Matching
--- what the clauses of the calls of langtag_fields cite
+-- the pages that are cited by the contracts of what this crate exports. So callers need to name only this crate
+pub use Rattle.langtag_canonical.specs.Canonical
+pub use Rattle.langtag_canonical.specs.CanonicalLaws
 pub use Rattle.langtag_fields.specs.Entry
 pub use Rattle.langtag_fields.specs.Fields
 pub use Rattle.langtag_fields.specs.Registered
 pub use Rattle.langtag_fields.specs.Subtags
+pub use Rattle.langtag_fields.specs.Valid
+pub use Rattle.langtag_validity.specs.Compared
+pub use Rattle.langtag_validity.specs.Fault
+pub use Rattle.langtag_validity.specs.Prefix

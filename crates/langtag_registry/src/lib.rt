@@ -21,25 +21,13 @@
 //! ```
 #![tactic(auto)]
 
-mod canonical_form;
-mod canonical_language;
-mod canonical_parts;
-mod canonical_variants;
-mod extension_order;
-mod extlang_forms;
-mod form;
-mod invalid_subtag;
-mod misplaced;
-mod validity;
-
-pub use canonical_form::{canonical, is_canonical, write_canonical};
-pub use extlang_forms::extlang_form;
-pub use invalid_subtag::InvalidSubtag;
+pub use langtag_canonical::{canonical, extlang_form, is_canonical, write_canonical};
 pub use langtag_fields::{
     FILE_DATE, extlang_prefix, is_deprecated_extlang, is_deprecated_language, is_deprecated_region,
     is_deprecated_tag, is_deprecated_variant, is_registered_extlang, is_registered_language,
     is_registered_region, is_registered_script, is_registered_variant, macrolanguage,
     preferred_language, preferred_region, preferred_tag, preferred_variant, suppress_script,
 };
-pub use misplaced::{misplaced_extlang, misplaced_variant};
-pub use validity::{fault_at, validate};
+pub use langtag_validity::{
+    InvalidSubtag, fault_at, misplaced_extlang, misplaced_variant, validate,
+};

@@ -1,6 +1,6 @@
 -- A tag of any kind is ASCII, so a text that is not UTF-8 is not a tag.
 use Rattle.langtag_scan.proofs.Prelude.{Bool, ◌≡◌, ℕ, ◌<◌, true, List, [], ◌∷◌, arith, ap, sym, subst, refl, ◌∙◌, IsAscii, IsUtf8, and_parts, agree_below_at, is_ascii, AllByRecursion, list_all, nat_tests, IsUtf8-from_ascii, IsAscii-append, IsAscii-nil, IsAscii-cons, common_steps}
-use Rattle.langtag_scan.proofs.Grammar.{fold_byte, is_letter, is_digit, is_alphanumeric, is_private_subtag, grandfathered_tags, irregular_texts, folded_texts, folded_at, flat, private_use_flat, join, IsNormal, IsPrivate, IsIrregular, IsTag}
+use Rattle.langtag_scan.specs.Grammar.{fold_byte, is_letter, is_digit, is_alphanumeric, is_private_subtag, grandfathered_tags, irregular_texts, folded_texts, folded_at, flat, private_use_flat, join, IsNormal, IsPrivate, IsIrregular, IsTag}
 use Rattle.langtag_scan.proofs.CaseLaw.{all-fold}
 use Rattle.langtag_scan.proofs.IrregularTexts.{irregular_fold}
 use Rattle.langtag_scan.proofs.NormalTexts.{flat_subtags}

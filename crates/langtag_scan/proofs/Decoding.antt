@@ -1,7 +1,7 @@
 -- The subtags over which the stages run are those of the parts of a record, which is found from the last subtag on.
 use Rattle.langtag_scan.proofs.Prelude.{◌≡◌, drop, ℕ, suc, zero, ◌-◌, ◌≤◌, true, false, List, [], ◌∷◌, ◌++◌, length, get_or, Option, Some, None, ◌⊎◌, refl, ◌∙◌, arith, ◌+◌, cond, eqb, leb, append_assoc, IsTrue, IfSome, AllByRecursion, flat_map, option_map_or, nat_tests, common_steps, and_from, eq-eqb, lt-ltb, le-leb}
 use Rattle.std.specs.Prelude.{⊤}
-use Rattle.langtag_scan.proofs.Grammar.{is_primary, is_extended, is_script, is_region, is_variant, is_extension_subtag, is_private_subtag, PrivateUse, Extension, Record, IsWellFormedPrivateUse, IsWellFormedExtension, extension_flat, one_flat, private_part_flat, IsWellFormed, flat, Stage, Start, Language, Extended, AfterScript, AfterRegion, AfterVariant, AfterSingleton, InExtension, AfterMark, InPrivate, classes_of, next_stage, may_end}
+use Rattle.langtag_scan.specs.Grammar.{is_primary, is_extended, is_script, is_region, is_variant, is_extension_subtag, is_private_subtag, PrivateUse, Extension, Record, IsWellFormedPrivateUse, IsWellFormedExtension, extension_flat, one_flat, private_part_flat, IsWellFormed, flat, Stage, Start, Language, Extended, AfterScript, AfterRegion, AfterVariant, AfterSingleton, InExtension, AfterMark, InPrivate, classes_of, next_stage, may_end}
 use Rattle.langtag_scan.proofs.StageLaws.{runs, leads_to, may_follow, place, next_step, next_part, is_next_extended, part_ends, part_follows}
 use Rattle.langtag_scan.proofs.Disjoint.{reached}
 

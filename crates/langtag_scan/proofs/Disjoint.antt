@@ -1,6 +1,6 @@
 -- The classes of subtags that may stand at one place have no member in common.
 use Rattle.langtag_scan.proofs.Prelude.{◌≡◌, Some, ℕ, ◌≤◌, true, eqb, List, length, arith, ◌⊎◌, and_parts, nat_tests, common_steps, eqb-true}
-use Rattle.langtag_scan.proofs.Grammar.{is_letter, is_digit, are_letters, are_digits, are_alphanumeric, is_extended, is_script, is_region, is_variant, is_extension_subtag, is_singleton, Stage, classes_of, next_stage}
+use Rattle.langtag_scan.specs.Grammar.{is_letter, is_digit, are_letters, are_digits, are_alphanumeric, is_extended, is_script, is_region, is_variant, is_extension_subtag, is_singleton, Stage, classes_of, next_stage}
 use Rattle.langtag_scan.specs.Class.{starts_with_digit}
 use Rattle.langtag_scan.proofs.StageLaws.{leads_to, may_follow}
 

@@ -2,7 +2,7 @@
 use Rattle.langtag_scan.proofs.Prelude.{◌≡◌, ℕ, ◌+◌, ◌*◌, ◌<◌, ◌≤◌, true, ◌==◌, List, [], ◌∷◌, Bool, refl, arith, rules, map, list_any, list_all, AllByRecursion, ◌^◌, common_steps, and_parts, false_from_ne_true, eqb_tells, nat_tests, fold-map}
 use Rattle.std.proofs.Math.Nat.{pow-le-pow_right}
 use Rattle.std.proofs.lemmas.Grind.{pow_more}
-use Rattle.langtag_scan.proofs.Grammar.{fold_byte, fold_text, are_alike, folded_number, is_letter, is_digit, is_alphanumeric, are_alphanumeric}
+use Rattle.langtag_scan.specs.Grammar.{fold_byte, fold_text, are_alike, folded_number, is_letter, is_digit, is_alphanumeric, are_alphanumeric}
 use Rattle.langtag_scan.proofs.Digits.{IsBase, digits-same}
 
 pub record IsByte (d : ℕ) : Type 0 where

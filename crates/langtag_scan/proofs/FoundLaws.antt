@@ -1,7 +1,7 @@
 -- What is found of a text is what it is: a normal tag with the ends of its parts, a private use tag, or neither.
 use Rattle.langtag_scan.proofs.Prelude.{◌≡◌, ◌↔◌, ℕ, List, Option, IsTrue, MatchOption, arith, Bool, false, cond, [], ◌∷◌, Some, None, refl, sym, subst, ∥∥₁_elim, props, common_steps, option_map_or, both_ways}
 use mathlib.Core.Bool.{Bool-set}
-use Rattle.langtag_scan.proofs.Grammar.{HasEnds, IsFoundOf, is_normal, is_private_use, normal_ends, IsNormal, IsPrivate, IsIrregularAt, IsIrregular, IsTag, all_at, end_at, index_after, outcome, outcome_of, IsRefused, Stage, Start, InPrivate, AfterMark, AfterFirstMark, InPrivateTag, segments}
+use Rattle.langtag_scan.specs.Grammar.{HasEnds, IsFoundOf, is_normal, is_private_use, normal_ends, IsNormal, IsPrivate, IsIrregularAt, IsIrregular, IsTag, all_at, end_at, index_after, outcome, outcome_of, IsRefused, Stage, Start, InPrivate, AfterMark, AfterFirstMark, InPrivateTag, segments}
 use Rattle.langtag_scan.specs.declared.ends.Ends.{Ends}
 use Rattle.langtag_scan.specs.declared.finding.Finding.{Finding}
 use Rattle.langtag_scan.specs.declared.finding.Finding.TheVariants.{Normal, PrivateUse, Irregular}

@@ -1,5 +1,4 @@
 pub mod Prelude
-pub mod Grammar
 pub mod BoolFacts
 pub mod Disjoint
 mod Decoding

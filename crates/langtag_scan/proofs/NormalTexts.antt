@@ -1,6 +1,6 @@
 -- A text is normal or private exactly where its segments may follow one another, and a normal text has one record.
 use Rattle.langtag_scan.proofs.Prelude.{◌≡◌, append-nil, ℕ, true, List, Some, sym, ap, ◌∙◌, ◌⊎◌, arith, rules, Bool, false, ◌&&◌, [], ◌∷◌, refl, AllByRecursion, and_parts, both_ways, and_from, join_with_byte-slice_split, common_steps}
-use Rattle.langtag_scan.proofs.Grammar.{Record, IsWellFormed, flat, spell, Stage, Start, classes_of, after_stage, AfterMark, is_one, segments, join, IsNormal, IsPrivate, is_private_subtag, is_primary, is_mark}
+use Rattle.langtag_scan.specs.Grammar.{Record, IsWellFormed, flat, spell, Stage, Start, classes_of, after_stage, AfterMark, is_one, segments, join, IsNormal, IsPrivate, is_private_subtag, is_primary, is_mark}
 use Rattle.langtag_scan.proofs.StageLaws.{leads_to, after_class, next_step, runs}
 use Rattle.langtag_scan.proofs.Decoding.{Read, Ready, FitParts, decode_sound, over_run, decode, decode_complete, flat_once, after_mark}
 use Rattle.langtag_scan.proofs.SubtagFacts.{IsSubtag, of_primary, of_extended, of_script, of_region, of_variant, of_extension_subtag, of_private_subtag, of_one, of_mark, singleton_alphanumeric, mark_alphanumeric}

@@ -4,7 +4,7 @@ use Rattle.std.specs.Prelude.{max}
 use Rattle.std.proofs.Math.Nat.{max-le}
 use Rattle.std.proofs.lemmas.Bool.{and_left}
 use Rattle.std.proofs.lemmas.List.{set-get_or}
-use Rattle.langtag_scan.proofs.Grammar.{fold_byte, fold_text, grandfathered_tags, irregular_texts, folded_texts, is_prefix, is_possible, kind_after, kind_of, IsBegun, end_at, HasStopped, ends_at, found_by, outcome, IsRefused, Begun, nothing_read, possible_index, irregular_after, position_after, position_of, part_before, ending_of, is_dead, Stage, Start, after_stage, may_end, IsFoundOf, IsPrivate, IsIrregular, IsIrregularAt, IsTag, IsViable, IsViableLength, IsStop, Language, Extended, AfterScript, AfterRegion, AfterVariant, AfterSingleton, InExtension, AfterMark, InPrivate, AfterFirstMark, InPrivateTag}
+use Rattle.langtag_scan.specs.Grammar.{fold_byte, fold_text, grandfathered_tags, irregular_texts, folded_texts, is_prefix, is_possible, kind_after, kind_of, IsBegun, end_at, HasStopped, ends_at, found_by, outcome, IsRefused, Begun, nothing_read, possible_index, irregular_after, position_after, position_of, part_before, ending_of, is_dead, Stage, Start, after_stage, may_end, IsFoundOf, IsPrivate, IsIrregular, IsIrregularAt, IsTag, IsViable, IsViableLength, IsStop, Language, Extended, AfterScript, AfterRegion, AfterVariant, AfterSingleton, InExtension, AfterMark, InPrivate, AfterFirstMark, InPrivateTag}
 use Rattle.langtag_scan.specs.Machine.{all_at}
 use Rattle.langtag_scan.specs.Position.{fresh, may_grow, stage_after, begun_after, place_of, ending_after, irregular_ending}
 use Rattle.langtag_scan.specs.declared.ends.Ends.{Ends}

@@ -1,6 +1,6 @@
 -- What is known of a text while another of its subtags is read, and once it has ended; so a prefix is viable exactly where it fills to a tag or begins an irregular text.
 use Rattle.langtag_scan.proofs.Prelude.{◌≡◌, ℕ, false, eqb, List, [], ◌∷◌, ◌++◌, length, Some, None, refl, sym, ap, ◌∙◌, arith, append_assoc, append-nil, Option, ◌↔◌, ◌-◌, eqb-true, ◌⊎◌, subst, Bool, true, take, drop, length_push, map-append, take-append-drop, length-map, take-map, drop-append-le, drop_all, reverse-append, common_steps, take-append_seam, length-append, nat_tests}
-use Rattle.langtag_scan.proofs.Grammar.{IsBegun, all_at, end_at, index_after, outcome, outcome_of, HasStopped, IsRefused, Stage, Start, after_stage, segments, is_hyphen, IsTag, IsIrregular, IsIrregularAt, IsViable, filling, IsIrregularPrefix, fold_byte, fold_text}
+use Rattle.langtag_scan.specs.Grammar.{IsBegun, all_at, end_at, index_after, outcome, outcome_of, HasStopped, IsRefused, Stage, Start, after_stage, segments, is_hyphen, IsTag, IsIrregular, IsIrregularAt, IsViable, filling, IsIrregularPrefix, fold_byte, fold_text}
 use Rattle.langtag_scan.specs.Machine.{Reads}
 use Rattle.langtag_scan.specs.Viable.{fill}
 use Rattle.langtag_scan.specs.declared.ends.Ends.{Ends}

@@ -3,7 +3,7 @@
 use Rattle.langtag_scan.proofs.Prelude.{◌≡◌, ℕ, List, length, refl, sym, ◌∙◌, arith, IsAscii, ∥∥₁_elim, props, common_steps}
 use Rattle.std.proofs.Math.Logic.{∥∥₁_prop}
 use mathlib.Core.Bool.{Bool-set}
-use Rattle.langtag_scan.proofs.Grammar.{ends_of, HasEnds, AreInOrder, EachRecord, flat, subtags, IsNormal}
+use Rattle.langtag_scan.specs.Grammar.{ends_of, HasEnds, AreInOrder, EachRecord, flat, subtags, IsNormal}
 use Rattle.langtag_scan.specs.declared.ends.Ends.{Ends}
 use Rattle.langtag_scan.proofs.Ascii.{IsAscii-normal}
 use Rattle.langtag_scan.proofs.PartOffsets.{ends_in_order}

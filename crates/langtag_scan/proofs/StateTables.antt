@@ -4,7 +4,7 @@ use Rattle.std.specs.Cmp.{booleans_Decides}
 use Rattle.std.proofs.Math.Bool.{beq}
 use Rattle.std.proofs.lemmas.Bool.{le-ltb}
 use Rattle.std.proofs.lemmas.List.Sums.{AllPass-from_list_all}
-use Rattle.langtag_scan.proofs.Grammar.{fold_byte, fold_text, is_letter, is_digit, is_mark, grandfathered_tags, irregular_texts, folded_texts, folded_at, is_possible, is_prefix, Kind, Empty, Begun, possible_index, irregular_after, position_after, position_of, part_before, ending_of, is_dead, nothing_read, Stage, Start, Language, Extended, AfterScript, AfterRegion, AfterVariant, AfterSingleton, InExtension, AfterMark, InPrivate, AfterFirstMark, InPrivateTag, Stands}
+use Rattle.langtag_scan.specs.Grammar.{fold_byte, fold_text, is_letter, is_digit, is_mark, grandfathered_tags, irregular_texts, folded_texts, folded_at, is_possible, is_prefix, Kind, Empty, Begun, possible_index, irregular_after, position_after, position_of, part_before, ending_of, is_dead, nothing_read, Stage, Start, Language, Extended, AfterScript, AfterRegion, AfterVariant, AfterSingleton, InExtension, AfterMark, InPrivate, AfterFirstMark, InPrivateTag, Stands}
 use Rattle.langtag_scan.specs.Kind.{Mark, Letters, Digits, LetterFirst, DigitFirst}
 use Rattle.langtag_scan.specs.Position.{Position}
 use Rattle.langtag_scan.specs.States.{states_of, states_along}

@@ -1,7 +1,7 @@
 -- Texts and the lists of subtags that stand between their hyphens: joining and splitting undo one another, and a list of
 -- members of a class is found again in its join.
 use Rattle.langtag_scan.proofs.Prelude.{◌≡◌, ℕ, ◌<◌, ◌≤◌, ◌+◌, List, length, drop, arith, Bool, true, false, [], ◌∷◌, ◌++◌, refl, ap, ◌∙◌, Option, Bor, MatchOption, All, IsTrue, get_or, and_parts, take-append-drop, drop_more, onto_first, AllByRecursion, list_all, slice_split-cons_yes, slice_split-cons_no, slice_split_none, slice_split_at, length-slice_split, join_with_byte-slice_split, All-nil, All-cons, All-head, All-tail, All-from_recursion, count_by-le-length, common_steps, IsCharBoundary-after_ascii, length-drop, slice_range, nat_tests}
-use Rattle.langtag_scan.proofs.Grammar.{is_hyphen, IsHyphenFree, join, segments, subtags, segments_left}
+use Rattle.langtag_scan.specs.Grammar.{is_hyphen, IsHyphenFree, join, segments, subtags, segments_left}
 use Rattle.std.proofs.lemmas.List.Elements.{All-weaker}
 use Rattle.langtag_scan.proofs.Joins.{length-join}
 use Rattle.langtag_scan.proofs.SubtagFacts.{IsSubtag, no_hyphen}

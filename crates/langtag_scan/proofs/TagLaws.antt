@@ -1,6 +1,6 @@
 -- Tags, the prefixes that some tag begins with, and where a text stops (RFC 5646 section 2.1).
 use Rattle.langtag_scan.proofs.Prelude.{◌≡◌, ℕ, ◌+◌, ◌<◌, ◌≤◌, List, ◌++◌, length, take, drop, inl, inr, sym, subst, arith, append_assoc, take-length, common_steps, take-append-drop, take-take}
-use Rattle.langtag_scan.proofs.Grammar.{IsNormal, IsPrivate, IsIrregular, IsIrregularAt, IsTag, IsViable, IsViableLength, IsStop}
+use Rattle.langtag_scan.specs.Grammar.{IsNormal, IsPrivate, IsIrregular, IsIrregularAt, IsTag, IsViable, IsViableLength, IsStop}
 
 -- ---- a text of one of the three kinds is a tag
 

@@ -1,11 +1,6 @@
 -- The case of ASCII letters, which tags ignore (RFC 5646 section 2.1.1): how texts are folded to lowercase, when two
 -- texts are alike, how texts are ordered, and what a text feeds to a hasher.
-use Rattle.std.specs.Prelude.{◌≡◌, ℕ, ◌+◌, ◌*◌, ◌<◌, Bool, List, [], ◌∷◌, ◌++◌, fold, map, length, take, bytes_eq}
-use Rattle.std.specs.Char.{to_ascii_lowercase}
-use Rattle.std.specs.declared.cmp.Ordering.{Ordering}
-use Rattle.std.specs.Ordering.{nat_cmp, on}
-use Rattle.std.specs.Cmp.Lexicographic.{slice_cmp}
-use Rattle.std.specs.Hash.{HashWrites}
+use Rattle.langtag_scan.specs.Prelude.{◌≡◌, ℕ, ◌+◌, ◌*◌, ◌<◌, Bool, List, [], ◌∷◌, ◌++◌, fold, map, length, take, bytes_eq, to_ascii_lowercase, Ordering, nat_cmp, on, slice_cmp, HashWrites}
 
 -- an uppercase ASCII letter (65 to 90) becomes lowercase, which adds 32; any other byte stays as it is
 unfoldable pub fold_byte : ℕ → ℕ

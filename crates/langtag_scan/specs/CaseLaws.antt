@@ -4,9 +4,7 @@
 -- to its text.
 use Rattle.std.proofs.Common.{ap, sym, ◌∙◌, ◌≡◌, ℕ, IsTrue, List, [], ◌∷◌, ◌++◌, map, refl, ◌==◌, ◌&&◌, Decides, bytes_eq}
 use Rattle.std.proofs.Math.Bool.{and-false}
-use Rattle.std.specs.Ordering.{nat_cmp, on, eq_by_cmp, as_partial_cmp}
-use Rattle.std.specs.Cmp.{IsEquivalence, IsPartialEquivalence, IsTotalOrder, IsPartialOrder, Agrees, partial_equiv_from_equiv, on_equiv, on_total, unsigned_ties, partial_order_from_agreeing_total}
-use Rattle.std.specs.Cmp.Lexicographic.{nat_list_cmp_total, nat_list_eq_equiv, lists_ties, bytes_decides}
+use Rattle.langtag_scan.specs.Prelude.{nat_cmp, on, eq_by_cmp, as_partial_cmp, IsEquivalence, IsPartialEquivalence, IsTotalOrder, IsPartialOrder, Agrees, partial_equiv_from_equiv, on_equiv, on_total, unsigned_ties, partial_order_from_agreeing_total, nat_list_cmp_total, nat_list_eq_equiv, lists_ties, bytes_decides}
 use Rattle.langtag_scan.specs.Case.{fold_byte, fold_text, Alike, are_alike, order_key, case_cmp, case_writes}
 
 -- the test `are_alike` decides whether texts are alike

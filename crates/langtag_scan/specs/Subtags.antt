@@ -1,7 +1,5 @@
 -- Subtags and the hyphens between them (RFC 5646 section 2.1).
-use Rattle.std.specs.Prelude.{◌≡◌, ℕ, Bool, false, ◌==◌, List, [], ◌∷◌, Option, None, Some}
-use Rattle.std.specs.List.{join_with_byte, slice_split, AllWithin, All}
-use Rattle.std.specs.Borrow.{Bor}
+use Rattle.langtag_scan.specs.Prelude.{◌≡◌, ℕ, Bool, false, ◌==◌, List, [], ◌∷◌, Option, None, Some, join_with_byte, slice_split, AllWithin, All, Bor}
 
 abbrev pub is_hyphen : ℕ → Bool
 is_hyphen b = b == 45

@@ -1,7 +1,6 @@
 -- What the number of a state in the tables says about the bytes that were read. Only contracts of private functions
 -- cite this page.
-use Rattle.std.specs.Prelude.{◌≡◌, ℕ, ◌<◌, ◌==◌, ◌||◌, not, ⊤, Bool, true, List, [], length, slice_index, slice_index_or}
-use Rattle.std.specs.Option.{option_map_or, is_some}
+use Rattle.langtag_scan.specs.Prelude.{◌≡◌, ℕ, ◌<◌, ◌==◌, ◌||◌, not, ⊤, Bool, true, List, [], length, slice_index, slice_index_or, option_map_or, is_some}
 use Rattle.langtag_scan.specs.Position.{Begun, Position, position_of, possible_index}
 use Rattle.langtag_scan.specs.States.{states_of, states_along}
 use Rattle.langtag_scan.specs.declared.state.Ending.{Ending}

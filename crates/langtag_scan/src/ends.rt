@@ -1,5 +1,5 @@
 //! Where the parts of a normal tag end.
-ghost use Rattle.std.specs.Prelude.{◌≡◌};
+ghost use Rattle.langtag_scan.specs.Grammar.{◌≡◌, replicate, set, ◌<◌, ends_at};
 
 /// The end of each part of a normal tag (RFC 5646 section 2.1). Each is an offset in bytes from the start of the
 /// string, just after the part. An absent part ends where the previous part ends.
@@ -38,9 +38,6 @@ pub(crate) struct Marks {
 }
 
 impl Marks {
-    ghost use Rattle.std.specs.Prelude.{replicate, set, ◌<◌};
-    ghost use Rattle.langtag_scan.specs.Machine.{ends_at};
-
     /// Returns the marks before the first byte, when no part has ended.
     #[inline(always)]
     pub(crate) fn new() -> Self

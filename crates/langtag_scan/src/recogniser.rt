@@ -1,9 +1,6 @@
 //! The recognisers, which read a source of bytes in one pass.
 ghost use Rattle.std.specs.Prelude.{◌≡◌, ◌↔◌, ◌⊎◌, ℕ, ◌≤◌, ◌+◌, ◌^◌, max, List, length, IsTrue, MatchOption, MatchResult};
-ghost use Rattle.langtag_scan.specs.Record.{Record, IsWellFormed, spell};
-ghost use Rattle.langtag_scan.specs.Tag.{IsNormal, IsPrivate, IsIrregularAt, IsIrregular, IsTag};
-ghost use Rattle.langtag_scan.specs.Viable.{IsStop, IsViable, IsViableLength, IsIrregularPrefix, fill};
-ghost use Rattle.langtag_scan.specs.Found.{finding, IsFoundOf, is_normal};
+ghost use Rattle.langtag_scan.specs.Grammar.{Record, IsWellFormed, spell, IsNormal, IsPrivate, IsIrregularAt, IsIrregular, IsTag, IsStop, IsViable, IsViableLength, IsIrregularPrefix, fill, finding, IsFoundOf, is_normal};
 
 use crate::ends::Marks;
 use crate::finding::Finding;

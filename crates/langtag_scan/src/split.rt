@@ -1,6 +1,5 @@
 //! Splitting a string at the first byte of a given value.
-ghost use Rattle.std.specs.Prelude.{◌≡◌, ◌==◌, ◌||◌, ◌+◌, ◌<◌, ◌≤◌, IfSome, drop, length, take, unwrap_or};
-ghost use Rattle.std.specs.List.{after_first, before_first, position, position_or_len};
+ghost use Rattle.langtag_scan.specs.Prelude.{◌≡◌, ◌==◌, ◌||◌, ◌+◌, ◌<◌, ◌≤◌, IfSome, drop, length, take, unwrap_or, after_first, before_first, position, position_or_len};
 
 /// Returns the string before the first `mark` and the string after it. If there is no `mark`, returns the whole string
 /// and an empty string.

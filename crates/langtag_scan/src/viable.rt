@@ -1,6 +1,5 @@
 //! The length of the longest prefix of a string with which some tag begins.
-ghost use Rattle.std.specs.Prelude.{◌≤◌, ◌++◌, ◌∷◌, [], ◌^◌};
-ghost use Rattle.langtag_scan.specs.Viable.{IsViableLength};
+ghost use Rattle.langtag_scan.specs.Grammar.{◌≤◌, ◌++◌, ◌∷◌, [], ◌^◌, IsViableLength};
 
 use crate::metered::Metered;
 use crate::recogniser::read;

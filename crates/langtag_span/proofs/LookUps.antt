@@ -3,16 +3,16 @@
 use Rattle.langtag_keyword.proofs.Common.{filter, list_all, and_parts, take_all, ◌≡◌, ℕ, ◌+◌, ◌-◌, ◌<◌, ◌≤◌, Bool, true, false, not, nat_lt, cond, List, [], ◌∷◌, ◌++◌, map, length, take, get_or, Option, None, Some, unwrap_or, ap, refl, sym, subst, ◌∙◌, arith, rules, suc, zero, position_or_len, sum_by, AllByRecursion, option_map_or, nat_tests, length-map, take_more, common_steps, are_alike, length-slice_split, is_some, slice_get, option_map}
 use Rattle.langtag_span.proofs.FoundExtension.{nothing-in}
 use Rattle.langtag_span.specs.Negotiation.{filled_items}
-use Rattle.langtag_range.proofs.Definitions.{element, from_first, is_ows, is_space, Element, is_comma, items, fallbacks, digits_behind, wanted, wanted_elements, wanted_items}
-use Rattle.langtag_match.specs.AcceptLanguage.{are_good, elements, IsByWeight, StandsAt, acceptable, bad_part, is_good, weight_in}
+use Rattle.langtag_range.specs.Definitions.{element, from_first, is_ows, is_space, Element, is_comma, items, fallbacks, digits_behind, wanted, wanted_elements, wanted_items}
+use Rattle.langtag_header.specs.AcceptLanguage.{are_good, elements, IsByWeight, StandsAt, acceptable, bad_part, is_good, weight_in}
 use Rattle.langtag_scan.proofs.Prelude.{position, slice_range, cons_option, eqb, length-append, IfSome, drop-append_seam, take-append_seam, list_all-append, list_all_at, position-Some, sum_by-append, get_or_from_slice_get, slice_get_read, slice_get_within, slice_split-cons_no, slice_split-cons_yes}
 use Rattle.std.specs.List.{filter_map, prefix_len}
 use Rattle.std.proofs.Common.{if◌then◌else◌}
 use Rattle.std.proofs.lemmas.List.Sums.{sum_by_more_le}
 use Rattle.langtag.specs.declared.lang_tag.LangTag.{LangTag}
 use Rattle.langtag.specs.Text.{lang_tag_text}
-use Rattle.langtag_match.specs.Stable.{with_key}
-use Rattle.langtag_match.specs.declared.accept_language_error.ElementPart.{ElementPart}
+use Rattle.langtag_header.specs.Stable.{with_key}
+use Rattle.langtag_header.specs.declared.accept_language_error.ElementPart.{ElementPart}
 use Rattle.langtag_span.proofs.TagsAt.{item_stands, sum_by-slice_split, width, are_tags_at, is_tag_at, one_tag_at}
 use Rattle.langtag_span.specs.Spanned.{IsTagAt}
 use Rattle.langtag_span.specs.Heaviest.{heaviest}
@@ -20,7 +20,7 @@ use Rattle.langtag_span.specs.LookUp.{IsBadAt, IsLookedUp, first_index_alike, fi
 use Rattle.langtag_span.specs.Spans.{HasBytes, span_text}
 use Rattle.langtag_span.specs.TagsAt.{tag_at, tags_at}
 use Rattle.langtag_span.specs.declared.span.Span.{Span}
-use Rattle.langtag_match.proofs.Readings.{AtMost, IsFalling, AtMost-weaker}
+use Rattle.langtag_header.proofs.Readings.{AtMost, IsFalling, AtMost-weaker}
 use Rattle.langtag_span.specs.RangePlaces.{IsRangeAt, has_range, range_count, spaces_before}
 
 -- ---- the elements by descending weight

@@ -4,7 +4,7 @@ use Rattle.langtag_span.specs.Spans.{end_of, span_text}
 use Rattle.langtag_span.specs.declared.span.Span.{Span}
 use Rattle.std.specs.List.{scan}
 use Rattle.langtag_scan.proofs.Prelude.{option_and_then}
-use Rattle.langtag_scan.proofs.Grammar.{to_region, extensions_part}
+use Rattle.langtag_scan.specs.Grammar.{to_region, extensions_part}
 use Rattle.std.proofs.lemmas.List.Concat.{length-flat_map}
 use Rattle.langtag_scan.proofs.Joins.{hyphenated-append, join-hyphenated, length-join-append}
 use Rattle.langtag_span.specs.Members.{member_span}

@@ -1,9 +1,9 @@
 -- What spans of a text are: tags, where the test says so.
 use Rattle.langtag_keyword.proofs.Common.{◌≡◌, ℕ, zero, suc, ◌+◌, ◌<◌, Bool, true, false, List, [], ◌∷◌, Some, length, take, refl, cond, arith, ◌&&◌, get_or, Option, None, ◌≤◌, sum_by, length-map, length-slice_split, common_steps, and_parts, false_from_ne_true, nat_tests}
 use Rattle.langtag_scan.proofs.Prelude.{ltb, onto_first, slice_get, slice_split, nil_from_length, get_or-map, slice_split-cons_yes, slice_split-cons_no, sum_by-cons, ForSome, both_ways, and_from, or_cases, or_right, ltb-true}
-use Rattle.langtag_scan.proofs.Grammar.{IsTag}
-use Rattle.langtag_match.specs.AcceptLanguage.{StandsAt}
-use Rattle.langtag_range.proofs.Definitions.{is_comma, items, listed}
+use Rattle.langtag_scan.specs.Grammar.{IsTag}
+use Rattle.langtag_header.specs.AcceptLanguage.{StandsAt}
+use Rattle.langtag_range.specs.Definitions.{is_comma, items, listed}
 use Rattle.std.proofs.lemmas.Bool.{or_left}
 use Rattle.langtag_scan.proofs.Laws.{normal_from_runs, runs_from_normal, tag_normal, tag_private, tag_of_irregular}
 use Rattle.langtag_private.proofs.Rules.{IsPrivate-from_test, is_private_use-from_rule}

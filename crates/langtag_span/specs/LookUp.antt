@@ -1,13 +1,9 @@
 -- The tag that lookup finds for an Accept-Language header (RFC 9110 section 12.5.4, RFC 4647 section 3.4), and why a
 -- header is refused.
-use Rattle.std.specs.Prelude.{◌≡◌, ℕ, false, List, [], ◌∷◌, Option, None, length, unwrap_or}
-use Rattle.std.specs.List.{position}
-use Rattle.std.specs.Option.{option_map_or, option_or}
-use Rattle.langtag_scan.specs.Case.{are_alike}
-use Rattle.langtag_match.specs.AcceptLanguage.{IsByWeight, IsFirstBad, acceptable, elements}
-use Rattle.langtag_range.specs.Element.{Element, items}
-use Rattle.langtag_range.specs.Fallback.{fallbacks}
-use Rattle.langtag_match.specs.declared.accept_language_error.ElementPart.{ElementPart}
+use Rattle.langtag_scan.specs.Grammar.{◌≡◌, ℕ, false, List, [], ◌∷◌, Option, None, length, unwrap_or, position, option_map_or, option_or, are_alike}
+use Rattle.langtag_header.specs.AcceptLanguage.{IsByWeight, IsFirstBad, acceptable, elements}
+use Rattle.langtag_range.specs.Definitions.{Element, items, fallbacks}
+use Rattle.langtag_header.specs.declared.accept_language_error.ElementPart.{ElementPart}
 use Rattle.langtag_span.specs.Spanned.{AreTagsAt}
 use Rattle.langtag_span.specs.Spans.{IsWithin, span_text}
 use Rattle.langtag_span.specs.declared.span.Span.{Span}

@@ -1,11 +1,9 @@
 -- What a step removes from a language range (RFC 4647 section 3.4) and from an Accept-Language header (RFC 9110 section
 -- 12.5.4).
-use Rattle.std.specs.Prelude.{◌≡◌, ℕ, ◌≤◌, IsTrue, Bool, not, List, [], ◌∷◌, Some, None, filter, if◌then◌else◌}
-use Rattle.std.specs.List.{slice_range}
-use Rattle.langtag_match.specs.AcceptLanguage.{bad_part}
-use Rattle.langtag_range.specs.Element.{element, is_ows, items}
-use Rattle.langtag_range.specs.Fallback.{fallbacks}
-use Rattle.langtag_match.specs.declared.accept_language_error.ElementPart.{ElementPart}
+use Rattle.std.specs.Prelude.{◌≡◌, ℕ, ◌≤◌, IsTrue, Bool, not, List, [], ◌∷◌, Some, None, filter, if◌then◌else◌, slice_range}
+use Rattle.langtag_header.specs.AcceptLanguage.{bad_part}
+use Rattle.langtag_range.specs.Definitions.{element, is_ows, items, fallbacks}
+use Rattle.langtag_header.specs.declared.accept_language_error.ElementPart.{ElementPart}
 use Rattle.langtag_span.specs.Spans.{HasBytes, end_of, span_between, span_text}
 use Rattle.langtag_span.specs.declared.span.Span.{Span}
 

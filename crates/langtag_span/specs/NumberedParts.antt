@@ -1,13 +1,7 @@
 -- Parts by number, and setting a part of a normal tag to a text, or removing it (RFC 5646 sections 2.2.1 to 2.2.7).
-use Rattle.std.specs.Prelude.{◌≡◌, ℕ, List, [], ◌∷◌, slice_get, Option, IfSome, MatchOption, IsTrue}
-use Rattle.langtag_scan.specs.Class.{is_script, is_region}
-use Rattle.langtag_language.specs.Language.{IsLanguage}
-use Rattle.langtag_place.specs.Variants.{IsVariants}
-use Rattle.langtag_extension.specs.Spelling.{IsExtensions}
-use Rattle.langtag_private.specs.PrivateUse.{IsPrivateUse}
+use Rattle.langtag_scan.specs.Grammar.{◌≡◌, ℕ, List, [], ◌∷◌, slice_get, Option, IfSome, MatchOption, IsTrue, is_script, is_region}
+use Rattle.langtag.specs.Definitions.{IsLanguage, IsVariants, IsExtensions, IsPrivateUse, SetsLanguage, SetsScript, SetsRegion, SetsVariants, SetsExtensions, SetsPrivateUse, part_text}
 use Rattle.langtag_keyword.specs.Transform.{some_text}
-use Rattle.langtag.specs.Edit.{SetsLanguage, SetsScript, SetsRegion, SetsVariants, SetsExtensions, SetsPrivateUse}
-use Rattle.langtag.specs.Text.{part_text}
 use Rattle.langtag.specs.declared.part.Part.{Part}
 use Rattle.langtag.specs.declared.part.Part.TheVariants.{Language, Script, Region, Variants, Extensions, PrivateUse}
 

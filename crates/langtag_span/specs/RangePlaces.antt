@@ -1,9 +1,7 @@
 -- Where the ranges of an Accept-Language header are.
-use Rattle.std.specs.Prelude.{◌≡◌, ◌+◌, ℕ, Bool, not, List, [], Some, count_by, is_some, length, slice_get, take, unwrap_or}
-use Rattle.std.specs.List.{position}
-use Rattle.langtag_match.specs.AcceptLanguage.{StandsAt}
-use Rattle.langtag_range.specs.Element.{Element, is_space, items}
-use Rattle.langtag_range.specs.Wanted.{wanted}
+use Rattle.std.specs.Prelude.{◌≡◌, ◌+◌, ℕ, Bool, not, List, [], Some, count_by, is_some, length, slice_get, take, unwrap_or, position}
+use Rattle.langtag_header.specs.AcceptLanguage.{StandsAt}
+use Rattle.langtag_range.specs.Definitions.{Element, is_space, items, wanted}
 use Rattle.langtag_span.specs.declared.span.Span.{Span}
 
 -- whether an item of a header has a range

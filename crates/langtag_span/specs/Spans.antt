@@ -1,6 +1,5 @@
 -- Spans of a text: each an offset and a length.
-use Rattle.std.specs.Prelude.{ℕ, ◌+◌, ◌-◌, ◌<◌, ◌≤◌, ◌==◌, ◌&&◌, Bool, if◌then◌else◌, List, length, nat_lt}
-use Rattle.std.specs.List.{slice_range}
+use Rattle.std.specs.Prelude.{ℕ, ◌+◌, ◌-◌, ◌<◌, ◌≤◌, ◌==◌, ◌&&◌, Bool, if◌then◌else◌, List, length, nat_lt, slice_range}
 use Rattle.langtag_span.specs.declared.span.Span.{Span}
 
 -- the bytes of a span

@@ -1,14 +1,6 @@
 //! Where the subtags of an extension are in a tag (RFC 5646 section 2.2.6).
-ghost use Rattle.std.specs.Prelude.{◌≡◌, ◌∷◌, ◌+◌, ◌<◌, List, [], None, MatchOption, IfSome, drop, take};
-ghost use Rattle.std.specs.List.{list_any};
-ghost use Rattle.std.specs.Option.{option_map, option_map_or};
-ghost use Rattle.langtag.specs.Part.{PartOf};
-ghost use Rattle.langtag_scan.specs.Case.{are_alike};
-ghost use Rattle.langtag_extension.specs.Spelling.{IsExtensions, SpellsExtensions, find_extension};
-ghost use Rattle.langtag_scan.specs.Parts.{extensions_part};
-ghost use Rattle.langtag_scan.specs.Record.{EachRecord, Extension};
-ghost use Rattle.langtag_scan.specs.Subtags.{join};
-ghost use Rattle.langtag_scan.specs.Tag.{IsNormal};
+ghost use Rattle.langtag_scan.specs.Grammar.{◌≡◌, ◌∷◌, ◌+◌, ◌<◌, List, [], None, MatchOption, IfSome, option_map, option_map_or, extensions_part, EachRecord, Extension, join, IsNormal};
+ghost use Rattle.langtag.specs.Definitions.{PartOf, IsExtensions, SpellsExtensions, find_extension};
 ghost use Rattle.langtag_keyword.specs.Keys.{length_with_hyphens, opens_keyword};
 ghost use Rattle.langtag_keyword.specs.Keywords as spec;
 ghost use Rattle.langtag_span.specs.Keywords.{HasSubtags, keywords_from, subtags_in};

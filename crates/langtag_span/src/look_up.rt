@@ -1,13 +1,9 @@
 //! The tag that lookup finds for an Accept-Language header (RFC 9110 section 12.5.4, RFC 4647 section 3.4), without
 //! allocating.
-ghost use Rattle.std.specs.Prelude.{◌≡◌, ◌≤◌, true, false, IsTrue, None, MatchOption, length};
-ghost use Rattle.std.specs.List.{position};
-ghost use Rattle.std.specs.Option.{option_map_or};
-ghost use Rattle.langtag_scan.specs.Case.{are_alike};
-ghost use Rattle.langtag_match.specs.AcceptLanguage.{are_good, bad_part, elements, is_good};
-ghost use Rattle.langtag_range.specs.Element.{is_comma, items};
-ghost use Rattle.langtag_range.specs.Fallback.{fallbacks};
-ghost use Rattle.langtag_match.specs.Text.{language_range_text};
+ghost use Rattle.langtag_scan.specs.Grammar.{◌≡◌, ◌≤◌, true, false, IsTrue, None, MatchOption, length, position, option_map_or, are_alike};
+ghost use Rattle.langtag_header.specs.AcceptLanguage.{are_good, bad_part, elements, is_good};
+ghost use Rattle.langtag_range.specs.Definitions.{is_comma, items, fallbacks};
+ghost use Rattle.langtag_header.specs.Text.{language_range_text};
 ghost use Rattle.langtag_span.specs.LookUp.{IsBadAt, IsLookedUp, first_index_alike, index_alike};
 ghost use Rattle.langtag_span.specs.TagsAt.{tag_at, tags_at};
 ghost use Rattle.langtag_span.specs.Heaviest.{heaviest};
@@ -15,7 +11,7 @@ ghost use Rattle.langtag_span.specs.Heaviest.{heaviest};
 use crate::items::{is_comma, next_item};
 use crate::span::Span;
 use crate::spanned::{bytes_in, tag_in};
-use langtag_match::{ElementPart, LanguageRange, element_at};
+use langtag_header::{ElementPart, LanguageRange, element_at};
 use langtag_range::is_empty_element;
 use langtag_scan::case_insensitive_eq;
 

@@ -1,7 +1,6 @@
 //! Where a range is in an Accept-Language header (RFC 9110 section 12.5.4), by the ranges before it.
-ghost use Rattle.std.specs.Prelude.{◌≡◌, ◌≤◌, None, IfSome, not};
-ghost use Rattle.std.specs.List.{position};
-ghost use Rattle.langtag_range.specs.Element.{is_comma, is_space, items};
+ghost use Rattle.std.specs.Prelude.{◌≡◌, ◌≤◌, None, IfSome, not, position};
+ghost use Rattle.langtag_range.specs.Definitions.{is_comma, is_space, items};
 ghost use Rattle.langtag_span.specs.RangePlaces.{IsRangeAt, range_count, spaces_before};
 
 use crate::items::is_comma;

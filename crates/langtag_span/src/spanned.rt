@@ -1,10 +1,7 @@
 //! Spans of a string as tags and as language ranges.
-ghost use Rattle.std.specs.Prelude.{◌≡◌, IfSome, IsTrue};
-ghost use Rattle.std.specs.Option.{option_map};
-ghost use Rattle.langtag.specs.Text.{lang_tag_text};
-ghost use Rattle.langtag_range.specs.Listed.{listed_element};
-ghost use Rattle.langtag_range.specs.Range.{is_language_range};
-ghost use Rattle.langtag_range.specs.Wanted.{hyphened};
+ghost use Rattle.std.specs.Prelude.{◌≡◌, IfSome, IsTrue, option_map};
+ghost use Rattle.langtag.specs.Definitions.{lang_tag_text};
+ghost use Rattle.langtag_range.specs.Definitions.{listed_element, is_language_range, hyphened};
 ghost use Rattle.langtag_span.specs.Spanned.{IsTagAt, range_at};
 ghost use Rattle.langtag_span.specs.Spans.{HasBytes, span_text};
 

@@ -1,6 +1,6 @@
 -- The numbers of texts of letters tell them apart but for case.
 use Rattle.langtag_scan.proofs.Prelude.{◌≡◌, ℕ, zero, suc, ◌+◌, ◌*◌, ◌-◌, ◌<◌, ◌≤◌, true, ◌==◌, List, [], ◌∷◌, length, get_or, map, refl, ap, sym, ◌∙◌, arith, AllByRecursion, and_parts, false_from_ne_true, eqb_tells, nat_tests, fold-map, fold}
-use Rattle.langtag_scan.proofs.Grammar.{fold_byte, fold_text, are_alike, are_alike-decides, is_letter, are_letters, has_length, is_primary, is_extended}
+use Rattle.langtag_scan.specs.Grammar.{fold_byte, fold_text, are_alike, are_alike-decides, is_letter, are_letters, has_length, is_primary, is_extended}
 use Rattle.langtag_tables.specs.Numbers.{letter, letter_number}
 use Rattle.langtag_scan.proofs.Digits.{IsBase, digits-same}
 

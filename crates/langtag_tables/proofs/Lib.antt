@@ -1,3 +1,5 @@
+pub mod Alike
+pub mod Elements
+pub mod FieldClasses
 pub mod Letters
 pub mod Rising
-pub mod Elements

@@ -1,2 +1,4 @@
+pub mod FieldClasses
+pub mod Fields
 pub mod Numbers
 pub mod Words

@@ -1,8 +1,9 @@
 //! Calls that return a new tag or read a header. Each call succeeds if no allocation fails.
 use crate::support::{are_answered, cut};
 use langtag::{GrandfatheredLangTag, LangTag, NormalLangTagBuf};
-use langtag_likely::{PosixError, from_posix, maximized, minimized};
+use langtag_likely::{maximized, minimized};
 use langtag_match::{AcceptLanguage, AcceptLanguageError, tag_for_header};
+use langtag_posix::{PosixError, from_posix};
 use langtag_registry::{canonical, extlang_form};
 use std::alloc::{AllocError, Global};
 

@@ -1,6 +1,5 @@
 pub mod ExtensionsForm
 pub mod FormLaws
-pub mod Identifier
 pub mod Text
 -- the pages that are cited by the contracts of this crate and of what it exports. So callers need to name only this crate
 pub use Rattle.langtag_keyword.specs.Edit

@@ -1,11 +1,7 @@
 //! The subtags of an extension of a tag, as one string.
-ghost use Rattle.std.specs.Prelude.{[], IsTrue};
-ghost use Rattle.langtag.specs.Part.{PartOf};
-ghost use Rattle.langtag.specs.Text.{lang_tag_text};
-ghost use Rattle.langtag_extension.specs.Decided.{are_extension_subtags};
-ghost use Rattle.langtag_extension.specs.Text.{singleton_byte};
+ghost use Rattle.langtag_scan.specs.Grammar.{[], IsTrue, subtags};
+ghost use Rattle.langtag.specs.Definitions.{PartOf, lang_tag_text, are_extension_subtags, singleton_byte};
 ghost use Rattle.langtag_keyword.specs.Keywords as spec;
-ghost use Rattle.langtag_scan.specs.Subtags.{subtags};
 
 use langtag::{LangTag, Singleton};
 

@@ -1,13 +1,9 @@
 //! The canonical form of a tag's extensions `u` and `t` (UTS #35, part 1, Annex C).
-ghost use Rattle.std.specs.Prelude.{◌≡◌, [], IfOk, None};
-ghost use Rattle.langtag.specs.Text.{lang_tag_buf_text, lang_tag_text, normal_lang_tag_text};
-ghost use Rattle.langtag.specs.Form.{IsOnlyForm, IsAlikeForm};
-ghost use Rattle.langtag_output.specs.Output.{IsCounted, Pushes};
-ghost use Rattle.langtag_output.specs.WritesWhole.{WritesWhole};
+ghost use Rattle.langtag_scan.specs.Grammar.{◌≡◌, [], IfOk, None, to_variants};
+ghost use Rattle.langtag.specs.Definitions.{lang_tag_buf_text, lang_tag_text, normal_lang_tag_text, IsOnlyForm, IsAlikeForm, IsCounted, Pushes, WritesWhole};
 ghost use Rattle.langtag_scan.specs.Record as model;
 ghost use Rattle.langtag_keyword.specs.Form as spec;
 ghost use Rattle.langtag_unicode.specs.ExtensionsForm.{IsExtensionsForm};
-ghost use Rattle.langtag_scan.specs.Ends.{to_variants};
 
 use langtag::{LangTag, LangTagBuf, NormalLangTag, push_private_use, tag_of};
 use langtag_keyword::push_extensions;

@@ -1,12 +1,7 @@
 //! Setting and removing keywords (RFC 6067 section 2.1).
-ghost use Rattle.std.specs.Prelude.{◌≡◌, ◌↔◌, ◌<◌, ◌≤◌, ◌+◌, ◌^◌, ℕ, List, [], None, Some, IfOk, IsErrOf, IsTrue, OnErr, is_ok, length};
-ghost use Rattle.langtag.specs.Text.{lang_tag_text, normal_lang_tag_text};
-ghost use Rattle.langtag.specs.Form.{IsForm};
-ghost use Rattle.langtag_output.specs.Output.{IsCounted};
-ghost use Rattle.langtag_output.specs.Writes.{Writes};
+ghost use Rattle.langtag_scan.specs.Grammar.{◌≡◌, ◌↔◌, ◌<◌, ◌≤◌, ◌+◌, ◌^◌, ℕ, List, [], None, Some, IfOk, IsErrOf, IsTrue, OnErr, is_ok, length, subtags, IsNormal};
+ghost use Rattle.langtag.specs.Definitions.{lang_tag_text, normal_lang_tag_text, IsForm, IsCounted, Writes};
 ghost use Rattle.langtag_scan.specs.Record as model;
-ghost use Rattle.langtag_scan.specs.Subtags.{subtags};
-ghost use Rattle.langtag_scan.specs.Tag.{IsNormal};
 ghost use Rattle.langtag_keyword.specs.Edit as spec;
 ghost use Rattle.langtag_keyword.specs.EditText.{edited_record_by};
 

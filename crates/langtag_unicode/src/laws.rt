@@ -1,13 +1,10 @@
 //! Laws of keywords and fields (RFC 6067, RFC 6497). The toolchain checks only contracts, so each law is the clause of a
 //! function that does nothing.
-ghost use Rattle.std.specs.Prelude.{◌≡◌, ℕ, List, [], None, Some, false, IsTrue};
-ghost use Rattle.std.specs.List.{AllByRecursion};
+ghost use Rattle.langtag_scan.specs.Grammar.{◌≡◌, ℕ, List, [], None, Some, false, IsTrue, AllByRecursion, are_alike, is_extension_subtag};
 ghost use Rattle.langtag_keyword.specs.Edit as spec;
 ghost use Rattle.langtag_keyword.specs.Form.{extensions_record, transform_form, unicode_form};
 ghost use Rattle.langtag_keyword.specs.Keywords.{is_key, value_of};
 ghost use Rattle.langtag_keyword.specs.Transform.{is_field_key};
-ghost use Rattle.langtag_scan.specs.Case.{are_alike};
-ghost use Rattle.langtag_scan.specs.Class.{is_extension_subtag};
 ghost use Rattle.langtag_scan.specs.Record as model;
 ghost use Rattle.langtag_unicode.specs.FormLaws.{OrderChangesNothing};
 
@@ -35,7 +32,7 @@ fn set_twice()
 {}
 
 /// A record whose extensions are in canonical form stays so when a canonical keyword is set.
-#[tactic(auto, using(crate::proofs::CanonicalKeywords::canonical_tag))]
+#[tactic(auto, using(langtag_keyword::proofs::CanonicalKeywords::canonical_tag))]
 fn canonical_after_set()
     // law: a tag whose extensions are in canonical form stays so when a canonical keyword is set
     ensures canonical { (k : List ℕ) (v : List (List ℕ)) (r : model.Record) → spec.keyword_error k v ≡ None → spec.IsCanonicalKeyword k v → model.IsWellFormed r → extensions_record r ≡ r
@@ -58,7 +55,7 @@ fn others_stay_after_removal()
 {}
 
 /// A `u` in canonical form stays so when a key is removed.
-#[tactic(auto, using(crate::proofs::CanonicalKeywords::canonical_removal))]
+#[tactic(auto, using(langtag_keyword::proofs::CanonicalKeywords::canonical_removal))]
 fn canonical_after_removal()
     // law: a `u` in canonical form stays so when a key is removed
     ensures canonical { (k : List ℕ) (ss : List (List ℕ)) → spec.keyword_error k [] ≡ None → AllByRecursion (λ s. IsTrue (is_extension_subtag s)) ss → unicode_form ss ≡ ss

@@ -1,11 +1,7 @@
 //! Setting and removing keywords of a tag that owns its text (RFC 6067 section 2.1).
-ghost use Rattle.std.specs.Prelude.{◌≡◌, ◌↔◌, [], None, Some, IfOk, IsErrOf, OnErr, OnOk, alloc_error};
-ghost use Rattle.std.specs.Result.{IsOkUnless};
-ghost use Rattle.langtag.specs.Text.{lang_tag_buf_text, normal_lang_tag_text};
-ghost use Rattle.langtag.specs.Form.{IsForm};
+ghost use Rattle.langtag_scan.specs.Grammar.{◌≡◌, ◌↔◌, [], None, Some, IfOk, IsErrOf, OnErr, OnOk, alloc_error, IsOkUnless, subtags, IsNormal};
+ghost use Rattle.langtag.specs.Definitions.{lang_tag_buf_text, normal_lang_tag_text, IsForm};
 ghost use Rattle.langtag_scan.specs.Record as model;
-ghost use Rattle.langtag_scan.specs.Subtags.{subtags};
-ghost use Rattle.langtag_scan.specs.Tag.{IsNormal};
 ghost use Rattle.langtag_keyword.specs.Edit as spec;
 ghost use Rattle.langtag_keyword.specs.EditText.{edited_record_by, is_allowed};
 

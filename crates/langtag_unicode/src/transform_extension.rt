@@ -1,9 +1,6 @@
 //! The extension `t` of a tag, which says how a string was transformed.
-ghost use Rattle.std.specs.Prelude.{◌≡◌, None};
-ghost use Rattle.std.specs.Option.{option_map};
-ghost use Rattle.langtag.specs.Part.{PartOf};
-ghost use Rattle.langtag.specs.Text.{lang_tag_text};
-ghost use Rattle.langtag_extension.specs.Spelling.{find_extension};
+ghost use Rattle.std.specs.Prelude.{◌≡◌, None, option_map};
+ghost use Rattle.langtag.specs.Definitions.{PartOf, lang_tag_text, find_extension};
 ghost use Rattle.langtag_unicode.specs.Text.{transformation_subtags};
 
 use crate::extension_text::extension_text;

@@ -1,9 +1,6 @@
 //! The parts of the extension `t`.
-ghost use Rattle.std.specs.Prelude.{◌≡◌, ℕ, List, IsTrue};
-ghost use Rattle.std.specs.Option.{option_map};
-ghost use Rattle.langtag_extension.specs.Decided.{are_extension_subtags};
-ghost use Rattle.langtag_scan.specs.Case.{Alike};
-ghost use Rattle.langtag_scan.specs.Subtags.{join, subtags};
+ghost use Rattle.langtag_scan.specs.Grammar.{◌≡◌, ℕ, List, IsTrue, option_map, Alike, join, subtags};
+ghost use Rattle.langtag.specs.Definitions.{are_extension_subtags};
 ghost use Rattle.langtag_keyword.specs.Keywords as keywords;
 ghost use Rattle.langtag_keyword.specs.Transform as spec;
 
@@ -69,7 +66,7 @@ impl<'a> Transformation<'a> {
     /// let found = transform(LangTag::new("und-t-ja-m0-hepburn")?);
     /// found.and_then(|it| it.field("m0")); // Some("hepburn")
     /// ```
-    #[tactic(auto, using(crate::proofs::WalkLaws::keyword_laws))]
+    #[tactic(auto, using(langtag_keyword::proofs::WalkLaws::keyword_laws))]
     pub fn field(&self, key: &str) -> Option<&'a str>
         ensures value { option_map (λ text. text.now) result ≡ option_map join (keywords.value_of spec.is_field_key key.now (transformation_subtags self.now)) }
         // law: the case of a key changes nothing
@@ -88,7 +85,7 @@ impl<'a> Transformation<'a> {
     /// let first = found.and_then(|it| it.fields().next());
     /// first.map(|field| (field.key, field.value)); // Some(("m0", "hepburn"))
     /// ```
-    #[tactic(auto, using(crate::proofs::WalkLaws::keyword_laws))]
+    #[tactic(auto, using(langtag_keyword::proofs::WalkLaws::keyword_laws))]
     pub fn fields(&self) -> KeywordsIter<'a>
         ensures list { keywords_left result ≡ keywords.keywords_of spec.is_field_key (transformation_subtags self.now) }
         // law: the value of a listed key is the one that `keyword`, or `field`, returns

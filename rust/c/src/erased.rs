@@ -2,14 +2,22 @@
 
 //! The modules of the Rust crate.
 
+#[path = "../../src/erased/canonical/mod.rs"]
+pub mod canonical;
 #[path = "../../src/erased/case/mod.rs"]
 pub mod case;
 #[path = "../../src/erased/choice/mod.rs"]
 pub mod choice;
+#[path = "../../src/erased/cldr/mod.rs"]
+pub mod cldr;
+#[path = "../../src/erased/distance/mod.rs"]
+pub mod distance;
 #[path = "../../src/erased/extension/mod.rs"]
 pub mod extension;
 #[path = "../../src/erased/fields/mod.rs"]
 pub mod fields;
+#[path = "../../src/erased/header/mod.rs"]
+pub mod header;
 #[path = "../../src/erased/keyword/mod.rs"]
 pub mod keyword;
 #[path = "../../src/erased/language/mod.rs"]
@@ -26,6 +34,8 @@ pub mod output;
 pub mod parent;
 #[path = "../../src/erased/place/mod.rs"]
 pub mod place;
+#[path = "../../src/erased/posix/mod.rs"]
+pub mod posix;
 #[path = "../../src/erased/private/mod.rs"]
 pub mod private;
 #[path = "../../src/erased/range/mod.rs"]
@@ -40,3 +50,5 @@ pub mod tables;
 pub mod tag;
 #[path = "../../src/erased/unicode/mod.rs"]
 pub mod unicode;
+#[path = "../../src/erased/validity/mod.rs"]
+pub mod validity;

@@ -2,12 +2,19 @@
 //! only for the examples of their own documentation, which run as tests. Programs use the modules
 //! of the root, which are the API.
 
+#[cfg(feature = "data")]
+pub mod canonical;
 pub mod case;
 #[cfg(feature = "data")]
 pub mod choice;
+#[cfg(feature = "data")]
+pub mod cldr;
+#[cfg(feature = "data")]
+pub mod distance;
 pub mod extension;
 #[cfg(feature = "data")]
 pub mod fields;
+pub mod header;
 #[cfg(feature = "data")]
 pub mod keyword;
 pub mod language;
@@ -20,6 +27,8 @@ pub mod output;
 #[cfg(feature = "data")]
 pub mod parent;
 pub mod place;
+#[cfg(feature = "data")]
+pub mod posix;
 pub mod private;
 pub mod range;
 #[cfg(feature = "data")]
@@ -29,3 +38,5 @@ pub mod tables;
 pub mod tag;
 #[cfg(feature = "data")]
 pub mod unicode;
+#[cfg(feature = "data")]
+pub mod validity;

@@ -3,7 +3,7 @@
 //! A walk over the elements of an Accept-Language header (RFC 9110 section 12.5.4), without
 //! allocating.
 
-use crate::erased::matching::element_at;
+use crate::erased::header::element_at;
 use crate::spans::{next_item, number_of, Span};
 
 /// Removes the first element from `rest`, which is the value of an Accept-Language header or the

@@ -3,7 +3,7 @@
 //! The tag for a POSIX locale name and the name for a tag, in the caller's buffer, and the unknown
 //! modifier that is dropped.
 
-use crate::erased::likely::{unknown_modifier, write_from_posix, write_to_posix};
+use crate::erased::posix::{unknown_modifier, write_from_posix, write_to_posix};
 use crate::spans::{tag_of, Span};
 
 /// Writes the tag for a POSIX locale name to `buffer` (IEEE Std 1003.1, section 8.2), and returns

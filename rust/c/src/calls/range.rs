@@ -2,7 +2,7 @@
 
 //! Language ranges, and the tags that they match (RFC 4647).
 
-use crate::erased::matching::LanguageRange;
+use crate::erased::header::LanguageRange;
 use crate::spans::tag_of;
 
 /// Returns which kind of language range a string is, as an enum `langtag_range_kind_answer`.

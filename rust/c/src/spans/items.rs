@@ -2,7 +2,7 @@
 
 //! A walk over the items of an Accept-Language header (RFC 9110 section 5.6.1.2).
 
-use crate::erased::matching::ElementPart;
+use crate::erased::header::ElementPart;
 use crate::erased::range::is_empty_element;
 use crate::erased::scan::len_before;
 use crate::spans::span::Span;

@@ -3,7 +3,7 @@
 //! The tag that lookup finds for an Accept-Language header (RFC 9110 section 12.5.4, RFC 4647
 //! section 3.4), without allocating.
 
-use crate::erased::matching::{element_at, ElementPart, LanguageRange};
+use crate::erased::header::{element_at, ElementPart, LanguageRange};
 use crate::erased::range::is_empty_element;
 use crate::erased::scan::case_insensitive_eq;
 use crate::spans::items::{is_comma, next_item};

@@ -3,12 +3,11 @@
 //! Making the choice tag by tag. Each entry is checked once: whether it is a tag, and whether it is
 //! refused.
 
-use crate::erased::choice::candidate::Candidate;
-use crate::erased::choice::improve::{improve_entry, limit};
+use crate::erased::choice::known_at::improve_entry;
 use crate::erased::choice::range_list::RangeList;
 use crate::erased::choice::refused::is_refused;
 use crate::erased::choice::tag_list::TagList;
-use crate::erased::choice::wish::Wish;
+use crate::erased::distance::{limit, Candidate, Wish};
 use crate::erased::range::WantedRange;
 
 /// The number of tags for which each range is read once.

@@ -2,7 +2,7 @@
 
 //! A tag with what the choice computes of it.
 
-use crate::erased::choice::prepared_form::PreparedForm;
+use crate::erased::distance::PreparedForm;
 use crate::erased::tag::LangTag;
 
 /// A tag with what the choice computes of it.

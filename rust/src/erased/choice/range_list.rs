@@ -2,7 +2,7 @@
 
 //! The lists of language ranges for which a tag can be chosen.
 
-use crate::erased::matching::{LanguageRange, WeightedRange};
+use crate::erased::header::{LanguageRange, WeightedRange};
 use crate::erased::range::{split_wanted, WantedRange};
 
 /// Language ranges with their weights, in the reader's order. It is implemented for an

@@ -3,8 +3,8 @@
 //! Which tags the ranges of weight 0 refuse.
 
 use crate::erased::choice::range_list::RangeList;
-use crate::erased::choice::read_range::{begins, is_star};
-use crate::erased::likely::basic_len;
+use crate::erased::cldr::basic_len;
+use crate::erased::distance::{begins, is_star};
 use crate::erased::range::WantedRange;
 
 /// Returns whether the longest range that matches a tag has the weight 0.

@@ -2,8 +2,8 @@
 
 //! The tags of a list that were not chosen yet.
 
-use crate::erased::choice::prepared_form::PreparedForm;
 use crate::erased::choice::tag_list::TagList;
+use crate::erased::distance::PreparedForm;
 use crate::erased::tag::LangTag;
 
 /// A list of tags without those at some indices. The other tags keep their indices.

@@ -4,13 +4,13 @@
 
 use crate::erased::choice::best::{best_among, match_among};
 use crate::erased::choice::best_match::BestMatch;
-use crate::erased::choice::prepared_form::PreparedForm;
 use crate::erased::choice::prepared_tag::PreparedTag;
 use crate::erased::choice::range_list::RangeList;
 use crate::erased::choice::tag_list::TagList;
+use crate::erased::distance::PreparedForm;
 #[cfg(feature = "alloc")]
-use crate::erased::matching::AcceptLanguage;
-use crate::erased::matching::LanguageRange;
+use crate::erased::header::AcceptLanguage;
+use crate::erased::header::LanguageRange;
 use crate::erased::tag::LangTag;
 
 /// The tags of a site, prepared for many choices. A choice among them is the same as among the tags

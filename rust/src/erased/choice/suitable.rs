@@ -6,7 +6,7 @@ use crate::erased::choice::best::best_among;
 use crate::erased::choice::range_list::RangeList;
 use crate::erased::choice::remaining::Remaining;
 use crate::erased::choice::tag_list::{TagList, Tags};
-use crate::erased::matching::LanguageRange;
+use crate::erased::header::LanguageRange;
 use crate::erased::tag::LangTag;
 #[cfg(feature = "alloc")]
 use crate::shim::{try_vec, AllocError};

@@ -2,9 +2,7 @@
 
 //! Whether a tag is written from right to left.
 
-use crate::erased::likely::keys::index_of;
-use crate::erased::likely::matching::matching_form;
-use crate::erased::likely::tables;
+use crate::erased::cldr::{is_right_to_left_script, matching_form};
 use crate::erased::tag::LangTag;
 
 /// Returns whether a tag's language is written from right to left: `true` for `he`, `pa-PK`,
@@ -31,15 +29,4 @@ pub fn is_right_to_left(tag: LangTag<'_>) -> bool {
         Some(form) => is_right_to_left_script(form.script),
         None => false,
     }
-}
-
-/// Returns whether a script is written from right to left.
-#[inline]
-fn is_right_to_left_script(script: &[u8]) -> bool {
-    index_of(right_to_left_keys(), script).is_some()
-}
-
-#[inline]
-fn right_to_left_keys() -> &'static [u32] {
-    &tables::RIGHT_TO_LEFT_KEYS
 }

@@ -2,9 +2,9 @@
 
 //! The maximal and minimal forms of a tag (UTS #35, part 1, section 'Likely Subtags').
 
-use crate::erased::likely::likely::{add_likely_subtags, remove_likely_subtags};
+use crate::erased::cldr::{add_likely_subtags, remove_likely_subtags};
+use crate::erased::likely::fields::fields_of;
 use crate::erased::likely::put::write_changed;
-use crate::erased::likely::tag_fields::TagFields;
 use crate::erased::output::write_text;
 use crate::erased::tag::LangTag;
 #[cfg(feature = "alloc")]
@@ -84,7 +84,7 @@ pub fn write_maximized(tag: LangTag<'_>, buffer: &mut [u8]) -> usize {
     let Some(normal) = tag.as_normal() else {
         return write_text(tag.as_bytes(), buffer);
     };
-    write_changed(normal, add_likely_subtags(TagFields::of(normal)), buffer)
+    write_changed(normal, add_likely_subtags(fields_of(normal)), buffer)
 }
 
 /// Writes a tag without its likely subtags to a buffer, as `minimized` returns it, and returns its
@@ -105,7 +105,7 @@ pub fn write_minimized(tag: LangTag<'_>, buffer: &mut [u8]) -> usize {
     let Some(normal) = tag.as_normal() else {
         return write_text(tag.as_bytes(), buffer);
     };
-    write_changed(normal, remove_likely_subtags(TagFields::of(normal)), buffer)
+    write_changed(normal, remove_likely_subtags(fields_of(normal)), buffer)
 }
 
 /// Returns a buffer that is long enough for the maximal and the minimal form of a tag.

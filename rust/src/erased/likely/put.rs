@@ -2,9 +2,8 @@
 
 //! Writes a tag with other fields.
 
+use crate::erased::cldr::{or_other, TagFields};
 use crate::erased::language::Language;
-use crate::erased::likely::fields::or_other;
-use crate::erased::likely::tag_fields::TagFields;
 use crate::erased::output::{write_pieces, write_text};
 use crate::erased::tag::NormalLangTag;
 

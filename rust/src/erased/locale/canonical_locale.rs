@@ -3,8 +3,8 @@
 //! The canonical form of a Unicode locale identifier (UTS #35, part 1, Annex C).
 
 use crate::erased::case::make_recommended_case;
+use crate::erased::cldr::TagFields;
 use crate::erased::keyword::nonempty;
-use crate::erased::likely::TagFields;
 use crate::erased::locale::locale_extensions::{push_identifier, push_locale_extensions};
 use crate::erased::locale::locale_for::locale_for;
 use crate::erased::output::Output;

@@ -2,12 +2,12 @@
 
 //! The extensions in the form of a Unicode locale identifier (UTS #35, part 1, Annex C).
 
+use crate::erased::cldr::{language_replaced, TagFields};
 use crate::erased::extension::{singletons_of, SINGLETONS};
 use crate::erased::keyword::{
     is_of, preceding, push_keywords, push_unicode, split_first, subtags_of, take_region,
     take_script, Keys,
 };
-use crate::erased::likely::{language_replaced, TagFields};
 use crate::erased::locale::locale_fields::identifier_form;
 use crate::erased::locale::locale_variants::push_variants;
 use crate::erased::output::Output;

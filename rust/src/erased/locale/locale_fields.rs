@@ -3,8 +3,8 @@
 //! Language, script and region in the form of a Unicode locale identifier (UTS #35, part 1, Annex
 //! C).
 
+use crate::erased::cldr::{add_likely, region_replacement, TagFields};
 use crate::erased::keyword::{alias_for, is_among, split_first};
-use crate::erased::likely::{add_likely, region_replacement, TagFields};
 use crate::erased::locale::locale_tables as tables;
 use crate::erased::locale::locale_variants::variant_languages;
 use crate::erased::tag::case_insensitive_eq;

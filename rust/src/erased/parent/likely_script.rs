@@ -2,8 +2,8 @@
 
 //! The scripts in which a language is written.
 
+use crate::erased::cldr::{add_likely, TagFields};
 use crate::erased::language::Language;
-use crate::erased::likely::{add_likely, TagFields};
 use crate::erased::place::{Region, Script};
 use crate::erased::tag::case_insensitive_eq;
 

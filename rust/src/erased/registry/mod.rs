@@ -29,17 +29,9 @@
 //! # }
 //! ```
 
-mod canonical_form;
-mod canonical_language;
-mod canonical_parts;
-mod canonical_variants;
-mod extension_order;
-mod extlang_forms;
-mod form;
-mod invalid_subtag;
-mod misplaced;
-mod validity;
-
+#[cfg(feature = "alloc")]
+pub use crate::erased::canonical::{canonical, extlang_form};
+pub use crate::erased::canonical::{is_canonical, write_canonical};
 pub use crate::erased::fields::{
     extlang_prefix, is_deprecated_extlang, is_deprecated_language, is_deprecated_region,
     is_deprecated_tag, is_deprecated_variant, is_registered_extlang, is_registered_language,
@@ -47,11 +39,6 @@ pub use crate::erased::fields::{
     preferred_language, preferred_region, preferred_tag, preferred_variant, suppress_script,
     FILE_DATE,
 };
-#[cfg(feature = "alloc")]
-pub use canonical_form::canonical;
-pub use canonical_form::{is_canonical, write_canonical};
-#[cfg(feature = "alloc")]
-pub use extlang_forms::extlang_form;
-pub use invalid_subtag::InvalidSubtag;
-pub use misplaced::{misplaced_extlang, misplaced_variant};
-pub use validity::{fault_at, validate};
+pub use crate::erased::validity::{
+    fault_at, misplaced_extlang, misplaced_variant, validate, InvalidSubtag,
+};

@@ -1,6 +1,6 @@
 use Rattle.langtag_scan.proofs.Prelude.{◌≡◌, ◌+◌, ◌<◌, List, drop, take, length, map, ◌^◌}
 use Rattle.langtag_scan.specs.Record.{Extension}
-use Rattle.langtag.proofs.Definitions.{SpellsExtensions, extension_spelling, extensions_left, extensions_text}
+use Rattle.langtag.specs.Definitions.{SpellsExtensions, extension_spelling, extensions_left, extensions_text}
 use Rattle.langtag_place.specs.Repeat.{repeat_index, repeat_index_after, are_alike_bytes}
 use Rattle.langtag.proofs.SingletonRepeats.{AreFlagsOf, singletons}
 use Rattle.langtag.proofs.repeats.first_repeated_singleton.Given as goal

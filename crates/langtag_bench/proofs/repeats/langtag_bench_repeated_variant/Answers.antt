@@ -1,5 +1,5 @@
 use Rattle.langtag_scan.proofs.Prelude.{inl, true≢false, sym, subst}
-use Rattle.langtag_scan.proofs.Grammar.{Spells, IsTag, IsNormal}
+use Rattle.langtag_scan.specs.Grammar.{Spells, IsTag, IsNormal}
 use Rattle.langtag_scan.proofs.Ascii.{IsUtf8-tag}
 use Rattle.langtag_bench.proofs.repeats.langtag_bench_repeated_variant.Goals as goal
 

@@ -1,6 +1,6 @@
 use Rattle.langtag_scan.proofs.Prelude.{◌≡◌, ◌+◌, ◌-◌, ◌≤◌, Some, length, length-take, drop, ap, sym, ◌∙◌, arith, slice_range}
 use Rattle.langtag_range.specs.Element.{is_ows}
-use Rattle.langtag_match.specs.Text.{weighted_range_text}
+use Rattle.langtag_header.specs.Text.{weighted_range_text}
 use Rattle.langtag_span.specs.Spans.{end_of, span_text}
 use Rattle.langtag_span.specs.declared.span.Span.{Span}
 use Rattle.langtag_span.proofs.PlaceLaws.{begin_text, inner_text}

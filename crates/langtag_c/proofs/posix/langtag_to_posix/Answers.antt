@@ -1,6 +1,6 @@
 use Rattle.std.proofs.Common.{inl, refl}
 use Rattle.langtag_scan.specs.Tag.{IsTag}
-use Rattle.langtag_likely.proofs.PosixNameRead.{other_name}
+use Rattle.langtag_posix.proofs.PosixNameRead.{other_name}
 use Rattle.langtag_c.proofs.WrittenTexts.{posix_none}
 use Rattle.langtag_c.proofs.posix.langtag_to_posix.Goals as goal
 

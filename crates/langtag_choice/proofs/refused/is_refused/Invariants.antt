@@ -1,5 +1,6 @@
 use Rattle.std.proofs.Common.{◌≡◌, length, max}
-use Rattle.langtag_choice.specs.Best.{is_wish, is_excluded, longest}
+use Rattle.langtag_distance.specs.Serves.{is_wish, is_excluded}
+use Rattle.langtag_choice.specs.Best.{longest}
 use Rattle.langtag_choice.proofs.refused.is_refused.Given as goal
 
 abbrev pub invariant-loop-range : goal.invariant-loop-range

@@ -1,5 +1,5 @@
 use Rattle.langtag_keyword.proofs.Common.{arith, nat_tests}
-use Rattle.langtag_scan.proofs.Grammar.{fold_byte, is_digit, is_letter}
+use Rattle.langtag_scan.specs.Grammar.{fold_byte, is_digit, is_letter}
 use Rattle.langtag_keyword.proofs.key_set.place_of.Goals as goal
 
 pub returns-then-is_ascii_digit-clause-place : goal.returns-then-is_ascii_digit-clause-place

@@ -1,5 +1,5 @@
 use Rattle.std.proofs.Common.{◌≤◌, sym, subst, arith}
-use Rattle.langtag.proofs.Definitions.{lang_tag_text, IsForm}
+use Rattle.langtag.specs.Definitions.{lang_tag_text, IsForm}
 use Rattle.langtag_output.proofs.Taken.{written_taken}
 use Rattle.langtag_likely.specs.Maximal.{minimal_record}
 use Rattle.langtag_likely.proofs.GoodForms.{form_bounded, minimal_length}

@@ -1,6 +1,7 @@
 use Rattle.langtag_scan.proofs.Prelude.{refl, sym, ap, ◌∙◌, option_map_or}
-use Rattle.langtag_scan.proofs.Grammar.{spell, IsNormal}
-use Rattle.langtag_likely.specs.Maximal.{minimal_record, put_fields, remove_likely_subtags}
+use Rattle.langtag_scan.specs.Grammar.{spell, IsNormal}
+use Rattle.langtag_cldr.specs.LikelyFields.{remove_likely_subtags}
+use Rattle.langtag_likely.specs.Maximal.{minimal_record, put_fields}
 use Rattle.langtag.proofs.FormLaws.{kept_written, record_written}
 use Rattle.langtag_likely.proofs.forms.write_minimized.Goals as goal
 
@@ -12,5 +13,5 @@ unfolding IsNormal minimal_record
 returns c =
     let (r, spells) = c.in-Some.ensures.kind.0 refl in
     record_written minimal_record _ _ _ _ _ r spells
-    (ap (λ o. spell (option_map_or (put_fields r) o r)) (c.remove_likely_subtags.ensures ∙ ap remove_likely_subtags (c.of.ensures r (spells.0, spells.1 ∙ sym c.in-Some.ensures.same_text))))
+    (ap (λ o. spell (option_map_or (put_fields r) o r)) (c.remove_likely_subtags.ensures ∙ ap remove_likely_subtags (c.fields_of.ensures r (spells.0, spells.1 ∙ sym c.in-Some.ensures.same_text))))
     (c.write_changed.ensures r (spells.0, spells.1 ∙ sym c.in-Some.ensures.same_text))

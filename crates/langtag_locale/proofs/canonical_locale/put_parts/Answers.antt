@@ -1,11 +1,11 @@
 use Rattle.std.proofs.lemmas.Grind.{common_steps}
 use Rattle.std.proofs.Common.{arith}
 use Rattle.langtag_keyword.proofs.Common.{◌++◌, [], sym, ap, subst, ◌∙◌, rules, flat_map, HasText, pushes_both, pushes_same, extension_flat, private_part_flat, each_from_test}
-use Rattle.langtag.proofs.Definitions.{normal_lang_tag_text}
-use Rattle.langtag_likely.specs.Texts.{field_texts}
+use Rattle.langtag.specs.Definitions.{normal_lang_tag_text}
+use Rattle.langtag_cldr.specs.Texts.{field_texts}
 use Rattle.langtag.proofs.PartRules.{variants_listed}
 use Rattle.langtag_locale.specs.LocaleForm.{extensions_in_order, identifier_form, new_variants, record_fields}
-use Rattle.langtag_unicode.specs.Identifier.{identifier_flat}
+use Rattle.langtag_keyword.specs.Identifier.{identifier_flat}
 use Rattle.langtag_locale.proofs.IdentifierForms.{locale_joined}
 use Rattle.langtag_locale.proofs.WholeLaws.{spelled_locale}
 use Rattle.langtag_locale.proofs.canonical_locale.put_parts.Goals as goal

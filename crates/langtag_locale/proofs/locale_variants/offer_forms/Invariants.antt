@@ -1,5 +1,5 @@
 use Rattle.langtag_keyword.proofs.Common.{length, map, segments_left, IsOffered, Least, order_number}
-use Rattle.langtag_unicode.proofs.IdentifierParts.{AreVariants}
+use Rattle.langtag_keyword.proofs.IdentifierParts.{AreVariants}
 use Rattle.langtag_locale.specs.LocaleForm.{forms}
 use Rattle.langtag_locale.proofs.locale_variants.offer_forms.Given as goal
 

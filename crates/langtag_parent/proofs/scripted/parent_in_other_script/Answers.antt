@@ -1,5 +1,5 @@
 use Rattle.std.proofs.Common.{◌≡◌, [], None, Some, option_map, length-append, sym, ap, subst, ◌∙◌, arith}
-use Rattle.langtag.proofs.Definitions.{lang_tag_text, language_text, region_text}
+use Rattle.langtag.specs.Definitions.{lang_tag_text, language_text, region_text}
 use Rattle.langtag_language.proofs.Rules.{IsLanguage-from_test}
 use Rattle.langtag_scan.specs.Tag.{IsTag}
 use Rattle.langtag_scan.proofs.Disjoint.{region_short}

@@ -1,5 +1,5 @@
 use Rattle.std.proofs.Common.{◌+◌, ◌-◌, length, take, subst, sym, ap, ◌∙◌}
-use Rattle.langtag.proofs.Definitions.{normal_lang_tag_text, variant_text, variants_text}
+use Rattle.langtag.specs.Definitions.{normal_lang_tag_text, variant_text, variants_text}
 use Rattle.langtag_parent.specs.Plain.{IsLonger}
 use Rattle.langtag_parent.proofs.Cuts.{plain_is, plain_record, variant_longer, variant_parent}
 use Rattle.langtag_parent.proofs.tag_parent.parent_of_normal.Goals as goal

@@ -1,5 +1,5 @@
 use Rattle.std.proofs.Common.{option_map, sym, ap, ◌∙◌}
-use Rattle.langtag.proofs.Definitions.{lang_tag_text, region_text}
+use Rattle.langtag.specs.Definitions.{lang_tag_text, region_text}
 use Rattle.langtag_parent.specs.Parent.{plain_parent, stated, usual_parent}
 use Rattle.langtag_parent.specs.ParentLocales.{parent_locales}
 use Rattle.langtag_parent.specs.Rows.{row_for}

@@ -1,5 +1,5 @@
 use Rattle.std.proofs.Common.{ℕ, List, true, false, not, is_some, ◌≡◌, ◌+◌, ◌-◌, Option, None, Some, option_map, length, take, subst, sym, ap, ◌∙◌, is_none}
-use Rattle.langtag.proofs.Definitions.{lang_tag_text, normal_lang_tag_text, region_text, script_text}
+use Rattle.langtag.specs.Definitions.{lang_tag_text, normal_lang_tag_text, region_text, script_text}
 use Rattle.langtag_place.specs.declared.script.Script.{Script}
 use Rattle.langtag_parent.specs.Plain.{IsLonger}
 use Rattle.langtag_parent.proofs.Cuts.{region_longer, region_parent, scripted_region_parent}

@@ -1,5 +1,5 @@
 use Rattle.std.proofs.Common.{◌+◌, ◌-◌, length, take, subst, sym, ap, ◌∙◌}
-use Rattle.langtag.proofs.Definitions.{normal_lang_tag_text, script_text}
+use Rattle.langtag.specs.Definitions.{normal_lang_tag_text, script_text}
 use Rattle.langtag_parent.specs.Plain.{IsLonger}
 use Rattle.langtag_parent.proofs.Cuts.{script_longer, without_script}
 use Rattle.langtag_parent.proofs.tag_parent.parent_of_script.Goals as goal

@@ -1,5 +1,5 @@
 use Rattle.langtag_scan.proofs.Prelude.{◌≡◌, ◌+◌, ◌<◌, take, drop, ◌^◌}
-use Rattle.langtag_scan.proofs.Grammar.{are_alike, subtags}
+use Rattle.langtag_scan.specs.Grammar.{are_alike, subtags}
 use Rattle.langtag_place.specs.Text.{variants_text, variants_left}
 use Rattle.langtag_place.specs.Repeat.{repeat_index, repeat_index_after}
 use Rattle.langtag_place.proofs.repeats.first_repeated_of_few.Given as goal

@@ -1,7 +1,7 @@
 use Rattle.langtag_scan.proofs.Prelude.{rules, YieldsList-from_first, YieldsList-at}
 use Rattle.std.proofs.lemmas.Iterator.{YieldsList-from_take}
 use Rattle.std.proofs.lemmas.Iterator.Search.{any_from_yields_List}
-use Rattle.langtag_scan.proofs.Grammar.{are_alike, subtags}
+use Rattle.langtag_scan.specs.Grammar.{are_alike, subtags}
 use Rattle.langtag_place.specs.Text.{variant_text, variants_text, variants_left}
 use Rattle.langtag_place.proofs.repeats.is_among_first.Goals as goal
 

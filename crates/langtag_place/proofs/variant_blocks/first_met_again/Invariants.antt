@@ -1,5 +1,5 @@
 use Rattle.langtag_scan.proofs.Prelude.{◌≡◌, ◌+◌, ◌<◌, ◌≤◌, length, take, drop, map, ◌^◌}
-use Rattle.langtag_scan.proofs.Grammar.{subtags, folded_number}
+use Rattle.langtag_scan.specs.Grammar.{subtags, folded_number}
 use Rattle.langtag_place.specs.Text.{variants_text, variants_left}
 use Rattle.langtag_place.specs.VariantBlocks.{HasNoRepeatBefore, AreMet}
 use Rattle.langtag_place.proofs.variant_blocks.first_met_again.Given as goal

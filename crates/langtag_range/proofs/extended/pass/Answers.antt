@@ -1,5 +1,5 @@
 use Rattle.std.proofs.Common.{◌≡◌, true, false, rules, tests}
-use Rattle.langtag_scan.proofs.Grammar.{are_alike, is_single}
+use Rattle.langtag_scan.specs.Grammar.{are_alike, is_single}
 use Rattle.langtag_range.proofs.Among.{walk_found, walk_left, walk_blocked, walk_ended}
 use Rattle.langtag_range.proofs.extended.pass.Goals as goal
 

@@ -1,5 +1,5 @@
 use Rattle.std.proofs.Common.{◌≡◌, ◌≤◌, IsTrue, length, filter, not, take}
-use Rattle.langtag_range.proofs.Definitions.{before_hyphens, ends_in_single, is_language_range}
+use Rattle.langtag_range.specs.Definitions.{before_hyphens, ends_in_single, is_language_range}
 use Rattle.langtag_range.proofs.fallback.shortened_len.Given as goal
 
 -- what was taken away leaves no other fallbacks

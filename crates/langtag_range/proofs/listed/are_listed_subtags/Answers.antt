@@ -1,5 +1,5 @@
 use Rattle.langtag_scan.proofs.Prelude.{rules, tests, all_from_yields_List, YieldsList-from_slice_split}
-use Rattle.langtag_range.proofs.Definitions.{is_range_subtag, is_separator}
+use Rattle.langtag_range.specs.Definitions.{is_range_subtag, is_separator}
 use Rattle.langtag_range.proofs.listed.are_listed_subtags.Goals as goal
 
 pub returns : goal.returns

@@ -1,5 +1,5 @@
 use Rattle.langtag_scan.proofs.Prelude.{◌≡◌, length, slice_split}
-use Rattle.langtag_range.proofs.Definitions.{is_semicolon, items, digits_behind, wanted_weight}
+use Rattle.langtag_range.specs.Definitions.{is_semicolon, items, digits_behind, wanted_weight}
 use Rattle.langtag_range.proofs.wanted_element.wanted_weight.Given as goal
 
 abbrev pub invariant-loop-left : goal.invariant-loop-left

@@ -3,7 +3,7 @@ use Rattle.langtag_scan.specs.declared.finding.Finding.TheVariants as finding
 use Rattle.langtag_scan.proofs.PositionLaws.{tracks_nothing, Tracks, viable_nothing, alive_viable, next_prefix, tracks_first, tracks_next, dead_next, text_ended, whole_stop}
 use Rattle.langtag_scan.proofs.TagLaws.{viable_whole}
 use Rattle.langtag_scan.proofs.StateTables.{stands_nothing, stands_ending}
-use Rattle.langtag_scan.proofs.Grammar.{ends_at, IsFoundOf, position_of, is_dead, Stands}
+use Rattle.langtag_scan.specs.Grammar.{ends_at, IsFoundOf, position_of, is_dead, Stands}
 use Rattle.langtag_scan.specs.declared.state.Ending.TheVariants.{NoTag, Normal, PrivateUse, Irregular}
 use Rattle.langtag_scan.proofs.recogniser.read.Goals as goal
 

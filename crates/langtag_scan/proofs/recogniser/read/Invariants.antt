@@ -1,5 +1,5 @@
 use Rattle.std.proofs.Common.{◌≡◌, ◌+◌, ◌-◌, ◌≤◌, take, max}
-use Rattle.langtag_scan.proofs.Grammar.{position_of, Stands, IsViable}
+use Rattle.langtag_scan.specs.Grammar.{position_of, Stands, IsViable}
 use Rattle.langtag_scan.proofs.PositionLaws.{Tracks}
 use Rattle.langtag_scan.proofs.recogniser.read.Given as goal
 

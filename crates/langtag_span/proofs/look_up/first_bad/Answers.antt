@@ -1,5 +1,5 @@
 use Rattle.langtag_scan.proofs.Prelude.{◌≡◌, subst, true, length, rules, tests, arith, YieldsList-from_slice_split, YieldsList-at, YieldsList-turn, YieldsList-end, take_all}
-use Rattle.langtag_match.specs.AcceptLanguage.{are_good}
+use Rattle.langtag_header.specs.AcceptLanguage.{are_good}
 use Rattle.langtag_range.specs.Element.{is_comma, items}
 use Rattle.langtag_span.proofs.LookUps.{good-next, is_bad_at, width-next, width_fits}
 use Rattle.langtag_span.proofs.look_up.first_bad.Goals as goal

@@ -1,6 +1,6 @@
 use Rattle.langtag_keyword.proofs.Common.{◌+◌, ◌<◌, ◌^◌, arith, length, map, take, slice_get, sym, ap, ◌∙◌, rules, sum_by, YieldsList-at, slice_get-map, ends_of, hyphenated, offsets_kept, extension_spelling, extension_text, extensions_left, option_map}
 use Rattle.langtag_scan.proofs.Prelude.{option_map_id, serves_from_total, YieldsList-from_first, YieldsList-from_scan, nth_from_yields_List, take-map}
-use Rattle.langtag_scan.proofs.Grammar.{IsNormal}
+use Rattle.langtag_scan.specs.Grammar.{IsNormal}
 use Rattle.langtag_span.proofs.PlaceLaws.{after, extensions_end, extensions_spelled, length-extensions, option_map-same, spans_after-at, width}
 use Rattle.langtag_span.specs.declared.span.Span.{Span}
 use Rattle.langtag_span.proofs.members.singleton_at.Goals as goal

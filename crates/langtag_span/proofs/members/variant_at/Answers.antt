@@ -1,6 +1,6 @@
 use Rattle.langtag_keyword.proofs.Common.{◌+◌, ◌<◌, ◌^◌, arith, length, take, slice_get, sym, ap, ◌∙◌, rules, sum_by, YieldsList-at, ends_of, offsets_kept, option_map}
 use Rattle.langtag_scan.proofs.Prelude.{option_map_id, serves_from_total, YieldsList-from_first, YieldsList-from_scan, nth_from_yields_List}
-use Rattle.langtag_scan.proofs.Grammar.{IsNormal}
+use Rattle.langtag_scan.specs.Grammar.{IsNormal}
 use Rattle.langtag_place.specs.Text.{variant_text, variants_left}
 use Rattle.langtag_span.proofs.PlaceLaws.{after, length-variants, spans_after-at, variants_end, width}
 use Rattle.langtag.proofs.PartRules.{variants_listed}

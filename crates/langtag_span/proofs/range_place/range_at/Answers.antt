@@ -1,5 +1,5 @@
 use Rattle.langtag_scan.proofs.Prelude.{◌+◌, arith, length, refl, rules, sym, tests, ap, YieldsList-from_slice_split, YieldsList-at, YieldsList-turn, YieldsList-end, length-map, take_all}
-use Rattle.langtag_range.proofs.Definitions.{is_comma, items, hyphened_byte, wanted_element}
+use Rattle.langtag_range.specs.Definitions.{is_comma, items, hyphened_byte, wanted_element}
 use Rattle.langtag_span.specs.RangePlaces.{range_count}
 use Rattle.langtag_span.proofs.LookUps.{is_range_at, no_more, one_more, spaces_within, width-next, width_fits}
 use Rattle.langtag_span.proofs.range_place.range_at.Goals.{in-Some-split_wanted+else-left-eq0, in_default}

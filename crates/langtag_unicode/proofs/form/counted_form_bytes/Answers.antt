@@ -1,6 +1,6 @@
 use Rattle.langtag_keyword.proofs.Common.{◌≡◌, ◌++◌, [], append-nil, drop, length, sym, ap, subst, ◌∙◌, arith, drop_all, extensions_record}
 use Rattle.std.proofs.lemmas.List.{take_at}
-use Rattle.langtag.proofs.Definitions.{lang_tag_text, IsForm}
+use Rattle.langtag.specs.Definitions.{lang_tag_text, IsForm}
 use Rattle.langtag.proofs.FormLaws.{one_form}
 use Rattle.langtag_unicode.proofs.form.counted_form_bytes.Goals as goal
 

@@ -1,10 +1,9 @@
 use Rattle.langtag_keyword.proofs.Common.{sym, subst, extensions_record}
 use Rattle.langtag.proofs.KeptFound.{found_kept}
-use Rattle.langtag.proofs.Definitions.{lang_tag_text, IsForm}
+use Rattle.langtag.specs.Definitions.{lang_tag_text, IsForm}
 use Rattle.langtag.proofs.FormLaws.{form_is_tag, one_form}
-use Rattle.langtag_unicode.proofs.ExtensionCase.{extensions_form-alike}
-use Rattle.langtag_unicode.proofs.FormTwice.{extensions_settled}
-use Rattle.langtag_unicode.proofs.FormRecords.{form_well_formed}
+use Rattle.langtag_unicode.proofs.FormsOfTags.{extensions_form-alike, extensions_settled}
+use Rattle.langtag_keyword.proofs.FormRecords.{form_well_formed}
 use Rattle.langtag_unicode.proofs.form.extensions_form.Goals as goal
 
 pub tag_of-requires : goal.tag_of-requires

@@ -1,7 +1,7 @@
 use Rattle.langtag_keyword.proofs.Common.{inl, sym, offsets_kept}
 use Rattle.langtag_scan.specs.Tag.{IsNormal, IsTag}
 use Rattle.langtag_keyword.specs.EditText.{edited_record_by, value_subtags}
-use Rattle.langtag_unicode.proofs.FormRecords.{edited_well_formed}
+use Rattle.langtag_keyword.proofs.FormRecords.{edited_well_formed}
 use Rattle.langtag_unicode.proofs.owned_keywords.edited.Goals as goal
 
 -- the record of the tag, with the edit, is that of the new text

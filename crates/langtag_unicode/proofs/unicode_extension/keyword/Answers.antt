@@ -1,5 +1,5 @@
 use Rattle.langtag_keyword.proofs.Common.{common_steps, arith, is_key}
-use Rattle.langtag_unicode.proofs.WalkLaws.{value_of-alike}
+use Rattle.langtag_keyword.proofs.WalkLaws.{value_of-alike}
 use Rattle.langtag_unicode.proofs.unicode_extension.keyword.Goals as goal
 
 pub returns-clause-value : goal.returns-clause-value

@@ -1,4 +1,4 @@
-use Rattle.langtag_unicode.proofs.WalkLaws.{keyword-listed}
+use Rattle.langtag_keyword.proofs.WalkLaws.{keyword-listed}
 use Rattle.langtag_unicode.proofs.unicode_extension.keywords.Goals as goal
 
 pub returns-clause-listed : goal.returns-clause-listed

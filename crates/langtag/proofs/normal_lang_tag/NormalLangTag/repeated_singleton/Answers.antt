@@ -1,6 +1,6 @@
 use Rattle.langtag_scan.proofs.Prelude.{None, Some, map, slice_get, sym, ap, ◌∙◌, option_and_then, option_map, YieldsList-from_first, nth_from_yields_List}
 use Rattle.langtag_place.specs.Repeat.{are_alike_bytes}
-use Rattle.langtag.proofs.Definitions.{extension_spelling, extension_text, extensions_left, singleton_byte}
+use Rattle.langtag.specs.Definitions.{extension_spelling, extension_text, extensions_left, singleton_byte}
 use Rattle.langtag_place.proofs.RepeatLaws.{repeat-first}
 use Rattle.langtag.proofs.SingletonRepeats.{singleton_at, singletons}
 use Rattle.langtag.proofs.normal_lang_tag.NormalLangTag.repeated_singleton.Goals as goal

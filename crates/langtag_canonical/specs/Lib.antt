@@ -1,0 +1,3 @@
+pub mod Canonical
+pub mod CanonicalLaws
+pub mod Form

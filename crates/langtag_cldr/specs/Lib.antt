@@ -1,0 +1,15 @@
+pub mod Aliases
+pub mod Definitions
+pub mod Direction
+pub mod Likely
+pub mod LikelyFields
+pub mod LikelySubtags
+pub mod Matching
+pub mod Numbers
+pub mod Ranges
+pub mod RightToLeft
+pub mod Rows
+pub mod Scripts
+pub mod Suggestion
+pub mod TextFields
+pub mod Texts

@@ -1,0 +1,41 @@
+//! Likely subtags and aliases of Unicode's CLDR for the fields of a tag: its language, its script and its region. The
+//! fields need not be those of a tag. The forms of tags are in `langtag_likely`.
+#![tactic(auto)]
+
+mod alias_tables;
+mod aliases;
+mod direction;
+mod fields;
+mod keys;
+mod likely;
+mod matching;
+mod names;
+mod read_text;
+mod rows;
+mod suggestion;
+mod tables;
+mod tag_fields;
+mod text_fields;
+
+// langtag_likely exports these items.
+pub use suggestion::{suggested_language, suggested_region};
+pub use tables::CLDR_VERSION;
+
+// For langtag_likely and langtag_posix.
+pub use direction::is_right_to_left_script;
+pub use fields::{known, or_other};
+pub use likely::{add_likely_subtags, remove_likely_subtags};
+pub use names::script_codes;
+pub use tag_fields::TagFields;
+
+// For langtag_choice.
+pub use keys::index_of;
+pub use likely::suffices;
+pub use matching::{completed, matching_form, replaced_form};
+pub use read_text::{after_common, are_alike, basic_len};
+pub use rows::{key_number, language_number};
+
+// For langtag_locale and langtag_parent.
+pub use aliases::language_replaced;
+pub use likely::add_likely;
+pub use suggestion::region_replacement;

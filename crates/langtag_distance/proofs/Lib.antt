@@ -1,0 +1,5 @@
+pub mod AlikeDistances
+pub mod FarTags
+pub mod MatchingTables
+pub mod PreparedForms
+pub mod RankLaws

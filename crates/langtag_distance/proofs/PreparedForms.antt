@@ -1,0 +1,78 @@
+-- What a prepared form says of the tag for which it was prepared.
+use Rattle.langtag_scan.proofs.Prelude.{◌≡◌, ℕ, true, List, Option, Some, sym, ap, ◌∙◌, get_or, arith, bytes_eq, ◌≤◌, length, ◌<◌, false, nat_tests, and_parts, eqb-true, or_cases, false_from_ne_true, bytes_eq-Decides, ForSome, MatchOption}
+use Rattle.std.proofs.lemmas.Grind.{same_number_lists}
+use Rattle.langtag_distance.specs.Distance.{distance_of_texts, fields_distance}
+use Rattle.langtag_distance.specs.Near.{IsNearer}
+use Rattle.langtag_distance.specs.declared.nearness.Nearness.{Nearness}
+use Rattle.langtag_tables.specs.Fields.{Fields}
+use Rattle.langtag_distance.specs.FirstLetters.{first_two}
+use Rattle.langtag_distance.specs.NearLanguages.{HasNumber}
+use Rattle.langtag_distance.specs.Prepared.{has_fields, has_head, is_prepared_for}
+use Rattle.langtag_distance.specs.declared.prepared_form.PreparedForm.{PreparedForm}
+use Rattle.langtag_cldr.specs.Matching.{matching_form}
+use Rattle.langtag_cldr.specs.Numbers.{name_text}
+use Rattle.langtag_tables.proofs.Alike.{same_fields}
+
+pub record Kept (tag : List ℕ) (p : PreparedForm) : Type 0 where
+  pub form : Fields
+  pub letters : ℕ × ℕ
+  pub form_is : matching_form tag ≡ Some form
+  pub letters_are : first_two tag ≡ Some letters
+  pub head : has_head form letters p ≡ true
+  pub fields : has_fields form p ≡ true
+
+letters_are : (f : Fields) (letters : ℕ × ℕ) (p : PreparedForm) → has_head f letters p ≡ true → Some letters ≡ Some (get_or p.letters 0 0, get_or p.letters 1 0)
+letters_are f letters p is = grind (arith, nat_tests, and_parts, eqb-true)
+
+kept_of : (tag : List ℕ) (p : PreparedForm) → is_prepared_for tag p ≡ true → (p.number ≡ 0 → ⊥) → Kept tag p
+unfolding is_prepared_for
+kept_of tag p is some = grind (arith, letters_are, eqb-true, or_cases, and_parts)
+
+abbrev fields_of : List ℕ → List ℕ → List ℕ → Fields
+fields_of l s r = record { language = l; script = s; region = r }
+
+-- the form that is kept is the form of the tag
+pub form_kept :
+    (tag : List ℕ) (p : PreparedForm) (fields : Fields) → is_prepared_for tag p ≡ true → (p.number ≡ 0 → ⊥) →
+    fields.language ≡ name_text p.language → fields.script ≡ name_text p.script → fields.region ≡ name_text p.region → matching_form tag ≡ Some fields
+form_kept tag p fields is some language script region =
+    let kept = kept_of tag p is some in
+    let parts = and_parts (bytes_eq (name_text p.language) kept.form.language) _ kept.fields in
+    let more = and_parts (bytes_eq (name_text p.script) kept.form.script) (bytes_eq (name_text p.region) kept.form.region) parts.1 in
+    kept.form_is ∙ ap Some (same_fields kept.form fields
+    (sym ((bytes_eq-Decides (name_text p.language) kept.form.language).0 parts.0) ∙ sym language)
+    (sym ((bytes_eq-Decides (name_text p.script) kept.form.script).0 more.0) ∙ sym script)
+    (sym ((bytes_eq-Decides (name_text p.region) kept.form.region).0 more.1) ∙ sym region))
+
+-- the number that is kept is the number of the tag's language
+pub number_kept : (tag : List ℕ) (p : PreparedForm) (number : ℕ) → is_prepared_for tag p ≡ true → (p.number ≡ 0 → ⊥) → number ≡ p.number → ForSome (matching_form tag) (HasNumber number)
+number_kept tag p number is some same =
+    let kept = kept_of tag p is some in
+    grind (arith, nat_tests, and_parts, eqb-true)
+
+-- the letters that are kept are the first letters of the tag
+pub letters_kept : (tag : List ℕ) (p : PreparedForm) → is_prepared_for tag p ≡ true → (p.number ≡ 0 → ⊥) → first_two tag ≡ Some (get_or p.letters 0 0, get_or p.letters 1 0)
+letters_kept tag p is some =
+    let kept = kept_of tag p is some in
+    kept.letters_are ∙ letters_are kept.form kept.letters p kept.head
+
+-- ---- how near it is
+
+-- the nearness of forms is the nearness of their texts
+pub near_forms :
+    (result : Option Nearness) (limit : ℕ) (range tag : List ℕ) (d s : Fields) → matching_form range ≡ Some d → matching_form tag ≡ Some s →
+    MatchOption result (limit ≤ fields_distance d s) (IsNearer limit (fields_distance d s) (Some s)) →
+    MatchOption result (limit ≤ distance_of_texts range tag) (IsNearer limit (distance_of_texts range tag) (matching_form tag))
+unfolding distance_of_texts
+near_forms result limit range tag d s range_is tag_is near = grind arith
+
+-- ---- equal strings
+
+pub unequal_lengths : (a b : List ℕ) → (length a ≡ length b → ⊥) → false ≡ bytes_eq a b
+unequal_lengths a b other = sym (false_from_ne_true (bytes_eq a b) (λ yes. other (ap length ((bytes_eq-Decides a b).0 yes))))
+
+pub unequal_at : (a b : List ℕ) (k : ℕ) → (get_or a k 0 ≡ get_or b k 0 → ⊥) → false ≡ bytes_eq a b
+unequal_at a b k other = sym (false_from_ne_true (bytes_eq a b) (λ yes. other (ap (λ t. get_or t k 0) ((bytes_eq-Decides a b).0 yes))))
+
+pub equal_lists : (a b : List ℕ) → length a ≡ length b → ((k : ℕ) → k < length a → get_or a k 0 ≡ get_or b k 0) → true ≡ bytes_eq a b
+equal_lists a b same each = sym ((bytes_eq-Decides a b).1 (same_number_lists a b same each))

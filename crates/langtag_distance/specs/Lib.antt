@@ -1,0 +1,13 @@
+pub mod Candidates
+pub mod Distance
+pub mod FirstLetters
+pub mod KnownTexts
+pub mod MatchingData
+pub mod Near
+pub mod NearLanguages
+pub mod Nearness
+pub mod Pairs
+pub mod Prepared
+pub mod Rules
+pub mod Serves
+pub mod Sets

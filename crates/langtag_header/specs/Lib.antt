@@ -1,0 +1,5 @@
+pub mod AcceptLanguage
+pub mod Compared
+pub mod LookUp
+pub mod Stable
+pub mod Text

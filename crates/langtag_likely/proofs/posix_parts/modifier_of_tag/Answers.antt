@@ -1,6 +1,0 @@
-use Rattle.langtag_likely.specs.Texts.{field_texts}
-use Rattle.langtag_likely.proofs.PosixNameRead.{modifier_few}
-use Rattle.langtag_likely.proofs.posix_parts.modifier_of_tag.Goals as goal
-
-pub returns-clause-few : goal.returns-clause-few
-returns-clause-few c = modifier_few (field_texts c.of.result) _ _ _ c.name_modifier.ensures

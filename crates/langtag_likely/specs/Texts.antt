@@ -1,6 +1,0 @@
--- The texts of fields.
-use Rattle.langtag_likely.specs.declared.tag_fields.TagFields.{TagFields}
-use Rattle.langtag.specs.Fields.{Fields}
-
-abbrev pub field_texts : TagFields → Fields
-field_texts fields = record { language = fields.language.now; script = fields.script.now; region = fields.region.now }

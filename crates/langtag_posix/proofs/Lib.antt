@@ -1,0 +1,4 @@
+pub mod Definitions
+pub mod PosixLaws
+pub mod PosixNameLaws
+pub mod PosixNameRead

@@ -1,0 +1,202 @@
+-- The text of a name, and that it is read as it stands: neither Android nor .NET writes a tag so.
+use Rattle.langtag_scan.proofs.Prelude.{◌≡◌, ℕ, ◌≤◌, not, true, false, Bool, cond, suc, List, [], ◌∷◌, ◌++◌, length, IfSome, refl, sym, ap, ◌∙◌, arith, flat_map, append_assoc, append-nil, unwrap_or, ◌<◌, ◌==◌, inl, inr, None, subst, ◌⊎◌, codes, length-append, AllByRecursion, after_first, before_first, list_any, and_parts, or_parts, false_from_ne_true, nat_tests, map-append, list_any-append, take_while-cons}
+use Rattle.langtag_scan.specs.Grammar.{Alike, fold_byte, are_alike, are_alphanumeric, is_alphanumeric, is_digit, is_letter, is_region, is_script, Record, extension_flat, one_flat, private_part_flat, spell, join, is_hyphen, are_alike-decides}
+use Rattle.langtag_scan.proofs.Laws.{drop-join, hyphenated, hyphenated-append, join-hyphenated, alike_region, region_short, script_four, of_region}
+use Rattle.langtag_range.specs.Wanted.{hyphened, hyphened_byte}
+use Rattle.langtag_posix.proofs.Definitions.{is_empty, is_script_code, after_variants, marked, is_plus, marked_region, platform_behind, platform_read, read_place, region_now}
+use Rattle.langtag_tables.proofs.Alike.{alike_is, alike_length}
+
+-- ---- marks
+
+-- a mark that is written unless the text after it is empty
+pub marked_cut : (mark : ℕ) (text rest : List ℕ) → cond (is_empty text) [] (mark ∷ []) ++ (text ++ rest) ≡ marked mark text ++ rest
+marked_cut mark text rest = grind (arith, nat_tests)
+
+-- ---- the text of a record
+
+-- a record without extended subtags, whose subtags are not empty
+abbrev pub IsPlain : Record → Type 0
+IsPlain r = (r.extended ≡ []) × IfSome r.script (λ s. 1 ≤ length s) × IfSome r.region (λ s. 1 ≤ length s) × AllByRecursion (λ s. 1 ≤ length s) r.variants
+
+-- the extensions and the private use part, with a hyphen before each subtag
+abbrev pub others : Record → List ℕ
+others r = hyphenated (flat_map extension_flat r.extensions ++ private_part_flat r.private_use)
+
+abbrev pub tag_text : List ℕ → List ℕ → List ℕ → List ℕ → List ℕ → List ℕ
+tag_text primary script region variants rest = primary ++ (marked 45 script ++ (marked 45 region ++ (marked 45 variants ++ rest)))
+
+hyphenated-list : (ss : List (List ℕ)) → AllByRecursion (λ s. 1 ≤ length s) ss → hyphenated ss ≡ marked 45 (join ss)
+hyphenated-list [] all = refl
+hyphenated-list ([] ∷ ss) all = absurd (let some = all.0 in omega (arith, some))
+hyphenated-list ((b ∷ s) ∷ ss) all = ap (marked 45) (sym (join-hyphenated (b ∷ s) ss))
+
+pub spelled_text : (r : Record) → IsPlain r → spell r ≡ tag_text r.primary (unwrap_or r.script []) (unwrap_or r.region []) (join r.variants) (others r)
+spelled_text r plain = grind (arith, nat_tests, join-hyphenated, hyphenated, hyphenated-append, append-nil, hyphenated-list)
+
+pub after_others : (r : Record) → after_variants r ≡ others r
+after_others r =
+    let cut = drop-join r.primary (r.extended ++ (one_flat r.script ++ (one_flat r.region ++ r.variants))) (flat_map extension_flat r.extensions ++ private_part_flat r.private_use) in
+    simp append_assoc at cut
+
+-- ---- texts whose parts are alike
+
+pub alike_text :
+    (p s g v rest p2 s2 g2 v2 rest2 : List ℕ) → Alike p p2 → Alike s s2 → Alike g g2 → Alike v v2 → Alike rest rest2 → Alike (tag_text p s g v rest) (tag_text p2 s2 g2 v2 rest2)
+unfolding fold_byte
+alike_text p s g v rest p2 s2 g2 v2 rest2 a b c d e = grind (arith, nat_tests, map-append)
+
+-- ---- a language, a territory and a variant, joined by underscores
+
+abbrev pub place_text : List ℕ → List ℕ → List ℕ → List ℕ
+place_text language territory variant = language ++ (marked 95 territory ++ marked 95 variant)
+
+hyphened_byte-kept : (b : ℕ) → is_alphanumeric b ≡ true → hyphened_byte b ≡ b
+unfolding is_letter is_digit
+hyphened_byte-kept b is = grind (arith, nat_tests)
+
+hyphened-kept : (text : List ℕ) → are_alphanumeric text ≡ true → hyphened text ≡ text
+hyphened-kept [] all = refl
+hyphened-kept (b ∷ text) all = let k = and_parts (is_alphanumeric b) (are_alphanumeric text) all in rw (hyphened_byte-kept b k.0, hyphened-kept text k.1) refl
+
+-- letters and digits have no byte of another class
+pub free_of : (p : ℕ → Bool) → ((byte : ℕ) → is_alphanumeric byte ≡ true → p byte ≡ false) → (text : List ℕ) → are_alphanumeric text ≡ true → list_any p text ≡ false
+free_of p other [] all = refl
+free_of p other (byte ∷ text) all = let k = and_parts (is_alphanumeric byte) (are_alphanumeric text) all in rw (other byte k.0) (free_of p other text k.1)
+
+module _ (a b c : List ℕ) (first : are_alphanumeric a ≡ true) (second : are_alphanumeric b ≡ true) (third : are_alphanumeric c ≡ true) where
+  pub place_hyphened : hyphened (place_text a b c) ≡ tag_text a [] b c []
+  place_hyphened = grind (arith, nat_tests, map-append, hyphened-kept, append-nil)
+
+  -- a byte that is neither a letter, nor a digit, nor an underscore is not in them
+  module _ (p : ℕ → Bool) (other : (byte : ℕ) → is_alphanumeric byte ≡ true → p byte ≡ false) (no_underscore : p 95 ≡ false) where
+    pub place_free : list_any p (place_text a b c) ≡ false
+    place_free = grind (arith, nat_tests, list_any-append, free_of)
+
+-- ---- a text before and after a mark
+
+module _ (p : ℕ → Bool) where
+  pub before_rest : (text rest : List ℕ) → list_any p text ≡ false → before_first p (text ++ rest) ≡ text ++ before_first p rest
+  before_rest [] rest free = refl
+  before_rest (b ∷ text) rest free =
+      let k = or_parts (p b) (list_any p text) free in
+      take_while-cons (λ byte. not (p byte)) b (text ++ rest) ∙ rw k.0 (ap (λ t. b ∷ t) (before_rest text rest k.1))
+
+  pub after_rest : (text rest : List ℕ) → list_any p text ≡ false → after_first p (text ++ rest) ≡ after_first p rest
+  after_rest [] rest free = refl
+  after_rest (b ∷ text) rest free = grind (arith, nat_tests, or_parts, suc, after_rest text rest)
+
+-- ---- the lengths of what is read
+
+pub script_code_four : (script : List ℕ) → is_script_code script ≡ true → length script ≡ 4
+script_code_four script is = (script_four script (and_parts (is_script script) _ is).0).0
+
+pub region_now_few : (language region : List ℕ) → is_region region ≡ true → length (region_now language region) ≤ 3
+region_now_few language region is = grind (arith, region_short)
+
+marked_some : (text : List ℕ) → 1 ≤ length text → marked 45 text ≡ 45 ∷ text
+marked_some text some = grind (arith, nat_tests)
+
+pub region_now_marked : (language region : List ℕ) → is_region region ≡ true → marked 45 (region_now language region) ≡ 45 ∷ region_now language region
+region_now_marked language region is = marked_some (region_now language region) (grind (arith, of_region))
+
+-- ---- the text behind a language
+
+-- it is none of .NET's and Android's forms
+record IsOrdinary (behind : List ℕ) : Type 0 where
+  simplified : are_alike (codes "CHS") behind ≡ false
+  traditional : are_alike (codes "CHT") behind ≡ false
+  unmarked : marked_region behind ≡ None
+  in_order : is_script_code (after_first is_hyphen behind) ≡ false
+
+ordinary : (language behind : List ℕ) → IsOrdinary behind → platform_behind language behind ≡ None
+ordinary language behind is = grind (arith, nat_tests)
+
+-- ---- the four texts behind the language of a name
+
+no_code_in_posix : is_script_code (codes "POSIX") ≡ false
+unfolding is_script
+no_code_in_posix = refl
+
+no_code_in_nothing : is_script_code [] ≡ false
+unfolding is_script
+no_code_in_nothing = refl
+
+-- .NET's names for Chinese are no regions, so neither is a region alike one of them
+no_regions : (is_region (codes "CHS") ≡ false) × (is_region (codes "CHT") ≡ false)
+unfolding is_region is_digit
+no_regions = (refl, refl)
+
+other_than : (text region : List ℕ) → is_region text ≡ false → is_region region ≡ true → are_alike text region ≡ false
+other_than text region other is = grind (arith, alike_is, are_alike-decides, alike_region)
+
+region_unmarked : (region : List ℕ) → is_region region ≡ true → marked_region region ≡ None
+unfolding is_region is_letter is_digit
+region_unmarked region is = grind (arith, nat_tests)
+
+-- a mark that comes before the digits is neither a letter nor a digit
+pub no_mark : (mark : ℕ) → mark < 48 → (b : ℕ) → is_alphanumeric b ≡ true → (b == mark) ≡ false
+unfolding is_letter is_digit
+no_mark mark small b is = grind (arith, nat_tests)
+
+region_behind : (region : List ℕ) → is_region region ≡ true → IsOrdinary region
+region_behind region is = record {
+  simplified = other_than (codes "CHS") region no_regions.0 is;
+  traditional = other_than (codes "CHT") region no_regions.1 is;
+  unmarked = region_unmarked region is;
+  in_order =
+      let free = free_of is_hyphen (no_mark 45 (omega arith)) region (of_region region is).alphanumeric in
+      ap is_script_code (ap (after_first is_hyphen) (sym (append-nil region)) ∙ after_rest is_hyphen region [] free) ∙ no_code_in_nothing;
+}
+
+-- a text of six bytes or more is neither .NET's name for Chinese nor a region behind a mark
+long_unmarked : (text : List ℕ) → 5 ≤ length text → marked_region text ≡ None
+unfolding is_region
+long_unmarked text long = grind (arith, nat_tests)
+
+long_other : (text other : List ℕ) → length text ≡ 3 → 5 ≤ length other → are_alike text other ≡ false
+long_other text other three long = false_from_ne_true (are_alike text other) (λ same. omega (arith, alike_length text other same))
+
+both_behind : (region : List ℕ) → is_region region ≡ true → IsOrdinary (region ++ 45 ∷ codes "POSIX")
+both_behind region is =
+    let text = region ++ 45 ∷ codes "POSIX" in
+    let long : 5 ≤ length text = omega (arith, length-append region (45 ∷ codes "POSIX")) in
+    let free = free_of is_hyphen (no_mark 45 (omega arith)) region (of_region region is).alphanumeric in
+    record {
+      simplified = long_other (codes "CHS") text refl long;
+      traditional = long_other (codes "CHT") text refl long;
+      unmarked = long_unmarked text long;
+      in_order = ap is_script_code (after_rest is_hyphen region (45 ∷ codes "POSIX") free) ∙ no_code_in_posix;
+    }
+
+-- ---- a name
+
+-- a territory and a variant of a name
+pub record IsTerritory (b c : List ℕ) : Type 0 where
+  pub territory : (b ≡ []) ⊎ (is_region b ≡ true)
+  pub variant : (c ≡ []) ⊎ (c ≡ codes "POSIX")
+
+behind_is : (b c : List ℕ) → (b ≡ []) ⊎ (is_region b ≡ true) → (c ≡ []) ⊎ (c ≡ codes "POSIX") → IsOrdinary (after_first is_hyphen (marked 45 b ++ (marked 45 c ++ [])))
+unfolding is_script fold_byte
+behind_is b c (inl none) (inl plain) = grind (arith, nat_tests)
+behind_is b c (inl none) (inr posix) = grind arith
+behind_is b c (inr is) (inl plain) = rw (plain, marked_some b (of_region b is).some) (subst IsOrdinary (sym (append-nil b)) (region_behind b is))
+behind_is b c (inr is) (inr posix) = rw (posix, marked_some b (of_region b is).some) (both_behind b is)
+
+module _ (a b c : List ℕ) (first : are_alphanumeric a ≡ true) (second : are_alphanumeric b ≡ true) (third : are_alphanumeric c ≡ true) (long : 2 ≤ length a) (is : IsTerritory b c) where
+  abbrev text : List ℕ
+  text = tag_text a [] b c []
+
+  kept : platform_read text ≡ text
+  kept = grind (arith, nat_tests, after_rest, free_of, no_mark, ordinary, behind_is)
+
+  unplussed : are_alike (codes "b") (before_first is_plus (place_text a b c)) ≡ false
+  unplussed =
+      let place = place_text a b c in
+      let whole : before_first is_plus place ≡ place =
+      ap (before_first is_plus) (sym (append-nil place)) ∙ before_rest is_plus place [] (place_free a b c first second third is_plus (no_mark 43 (omega arith)) refl) ∙ append-nil place in
+      rw whole (false_from_ne_true (are_alike (codes "b") place) (λ same. omega (arith, alike_length (codes "b") place same, length-append a (marked 95 b ++ marked 95 c))))
+
+  -- the place is read as it stands
+  pub place_kept : read_place (place_text a b c) ≡ hyphened (place_text a b c)
+  unfolding read_place
+  place_kept = rw (unplussed, place_hyphened a b c first second third) kept

@@ -1,0 +1,5 @@
+pub mod Modifiers
+pub mod PlatformNames
+pub mod Posix
+pub mod PosixNames
+pub mod ToPosix

@@ -1,0 +1,51 @@
+//! The variant `POSIX` of a locale name, which becomes the keyword `va-posix`.
+ghost use Rattle.langtag_scan.specs.Grammar.{◌≡◌, ◌≤◌, MatchOption, length, EachRecord};
+ghost use Rattle.langtag.specs.Definitions.{IsForm, lang_tag_text, normal_lang_tag_text};
+ghost use Rattle.langtag_posix.specs.Posix.{IsAroundPosix, posix_replaced};
+
+use langtag::{LangTag, NormalLangTag};
+use langtag_output::write_pieces;
+
+/// The greatest length of a language and a territory with the keyword, in bytes: `-u-va-posix` has five more than `-POSIX`.
+pub(crate) const MOST_WITH_KEYWORD: usize = 260;
+
+/// Writes a tag whose only variant is `POSIX` into `room`, with the keyword `va-posix` instead, and returns it. Any other
+/// tag, and a tag with extensions, stays.
+pub(crate) fn tag_with_keyword<'a>(
+    tag: LangTag<'a>,
+    room: &'a mut [u8; MOST_WITH_KEYWORD],
+) -> LangTag<'a>
+    requires { length (lang_tag_text tag) ≤ 255 }
+    ensures form { IsForm posix_replaced (lang_tag_text tag.entry) (lang_tag_text result) }
+    ensures few { length (lang_tag_text result) ≤ 260 }
+{
+    let Some(normal) = tag.as_normal() else {
+        return tag;
+    };
+    let Some((before, after)) = around_posix(normal) else {
+        return tag;
+    };
+    let pieces: [&[u8]; 3] = [before, b"-u-va-posix", after];
+    let len = write_pieces(&pieces, room);
+    match LangTag::from_bytes(&room[..len]) {
+        Ok(tag) => tag,
+        Err(_) => unreachable!(),
+    }
+}
+
+/// Returns the string before `-POSIX` and after it if this is the only variant, and there are no extensions.
+#[tactic(auto, unfolding(langtag_scan::specs::Tag::IsNormal), using(crate::proofs::PosixLaws::variants_inside))]
+fn around_posix<'a>(tag: NormalLangTag<'a>) -> Option<(&'a [u8], &'a [u8])>
+    ensures { EachRecord (normal_lang_tag_text tag.entry)
+        (λ r. MatchOption result (posix_replaced r ≡ r) (λ around. IsAroundPosix r around.0.now around.1.now)) }
+{
+    let text = tag.as_str().as_bytes();
+    let ends = tag.ends();
+    if ends.variants != ends.extensions {
+        return None;
+    }
+    if !tag.variants().eq_str("POSIX") {
+        return None;
+    }
+    Some((&text[..ends.variants - 6], &text[ends.variants..]))
+}

@@ -1,0 +1,28 @@
+-- The definitions of this crate, for the crates that use it: a page or a file imports them from here in one line. Declares nothing.
+pub use Rattle.langtag_scan.specs.AlikeRecords.{AlikeRecords, fold_extension, fold_record, fold_private_use, IsSpelledAlike}
+pub use Rattle.langtag_scan.specs.Case.{are_alike, fold_text, Alike, case_cmp, EndsFirst, case_writes}
+unfoldable pub use Rattle.langtag_scan.specs.Case.{fold_byte, folded_number}
+pub use Rattle.langtag_scan.specs.CaseLaws.{are_alike-decides, on_alike_equiv, on_alike_per, on_case_total, on_case_agrees, on_case_ties, on_case_partial, on_case_respects}
+pub use Rattle.langtag_scan.specs.Class.{are_letters, are_alphanumeric, is_alphanumeric, are_digits, has_length, is_single}
+unfoldable pub use Rattle.langtag_scan.specs.Class.{is_letter, is_digit, is_primary, is_script, is_region, is_variant, is_extended, is_extension_subtag, is_singleton, is_private_subtag, is_mark}
+pub use Rattle.langtag_scan.specs.Compare.{ComparesByCase}
+pub use Rattle.langtag_scan.specs.Ends.{ends_of, to_variants, to_region}
+unfoldable pub use Rattle.langtag_scan.specs.Ends.{HasEnds}
+pub use Rattle.langtag_scan.specs.Found.{IsFoundOf, is_normal, is_private_use, normal_ends, finding, irregular_index, IsOfOneKind}
+pub use Rattle.langtag_scan.specs.Grandfathered.{Grandfathered}
+unfoldable pub use Rattle.langtag_scan.specs.Grandfathered.{grandfathered_tags, irregular_texts}
+pub use Rattle.langtag_scan.specs.Irregular.{folded_at, is_prefix, is_possible}
+unfoldable pub use Rattle.langtag_scan.specs.Irregular.{folded_texts}
+pub use Rattle.langtag_scan.specs.Kind.{Kind, kind_after, kind_of, has_letters, classes_by, Empty}
+pub use Rattle.langtag_scan.specs.Machine.{end_at, index_after, all_at, IsRefused, IsBegun, outcome_of, HasStopped, ends_at, found_by}
+unfoldable pub use Rattle.langtag_scan.specs.Machine.{outcome}
+pub use Rattle.langtag_scan.specs.Parts.{language_part, text_between, variants_part, extensions_part, private_use_part, AreInOrder, private_use_subtags, parts}
+pub use Rattle.langtag_scan.specs.Position.{position_of, is_dead, Begun, nothing_read, possible_index, irregular_after, position_after, part_before, ending_of}
+pub use Rattle.langtag_scan.specs.Prelude.{◌≡◌, ◌++◌, ◌≤◌, [], length, IfOk, OnOk, OnErr, IsOk, IsAscii, string_bytes, string_capacity, replace_range, ◌↔◌, ◌<◌, ℕ, List, Some, IsTrue, IfErr, is_ok, position, slice_get, option_map, ◌^◌, ◌+◌, Option, MatchOption, ◌==◌, Bool, false, take, unwrap_or, map, slice_index_or, None, flat_map, codes, IsUtf8, ◌%◌, fold, IfSome, option_map_or, true, ◌-◌, ◌∷◌, ◌⊎◌, is_some, if◌then◌else◌, Contains, is_none, list_any, ◌&&◌, option_and_then, before_first, ForSome, drop, ◌||◌, not, nat_le, bytes_eq, slice_index, ⊤, YieldsFirstBy, item_count, YieldsFirstRef, list_all, u8, nat_cmp, Result, filter, AllByRecursion, find, nat_lt, replicate, All, is_ascii_alphabetic, IsNone, is_in_range, String, Global, option_or, YieldsLastBy, get_or, set, cons_option, ◌*◌, IsErrOf, alloc_error, IsOkUnless, AllWithin, to_ascii_uppercase, suc, slice_split, after_first, is_ascii_digit, cond, Bor, ◌/◌, range_with_len, min, bit_or, bit_at, zero, ltb, leb, w64, to_be_bytes, IsNonDecreasing, IsPermutation, AllPairs, Any, YieldsLastRef, on, as_partial_cmp}
+pub use Rattle.langtag_scan.specs.Record.{Record, extension_flat, Extension, spell, IsWellFormed, one_flat, Spells, private_part_flat, EachRecord, IsWellFormedExtension, PrivateUse, flat, private_use_flat, IsWellFormedPrivateUse}
+pub use Rattle.langtag_scan.specs.Stage.{Stage, Start, Classes, classes_of, next_stage, AfterMark, Language, InPrivate, may_end, after_stage, Extended, AfterScript, AfterRegion, AfterVariant, AfterSingleton, InExtension, AfterFirstMark, InPrivateTag, is_one, after_by}
+pub use Rattle.langtag_scan.specs.Subtags.{subtags, join, segments_left, segments, is_hyphen, NoHyphenWithin, IsHyphenFree}
+unfoldable pub use Rattle.langtag_scan.specs.Tag.{IsNormal, IsTag, IsPrivate, IsIrregular, IsIrregularAt}
+pub use Rattle.langtag_scan.specs.Tracking.{Stands, IsPlace, next_number}
+pub use Rattle.langtag_scan.specs.Viable.{IsViableLength, IsStop, filling, fill}
+unfoldable pub use Rattle.langtag_scan.specs.Viable.{IsViable, IsIrregularPrefix}

@@ -1,0 +1,4 @@
+pub mod Compared
+pub mod Fault
+pub mod Matching
+pub mod Prefix

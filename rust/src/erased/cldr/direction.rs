@@ -1,0 +1,18 @@
+// Made by rust/erase from crates/langtag_cldr/src/direction.rt. Change that file, not this one.
+
+//! Whether a script is written from right to left.
+
+use crate::erased::cldr::keys::index_of;
+use crate::erased::cldr::tables;
+
+/// Returns whether a script is written from right to left.
+#[inline]
+#[must_use]
+pub fn is_right_to_left_script(script: &[u8]) -> bool {
+    index_of(right_to_left_keys(), script).is_some()
+}
+
+#[inline]
+fn right_to_left_keys() -> &'static [u32] {
+    &tables::RIGHT_TO_LEFT_KEYS
+}

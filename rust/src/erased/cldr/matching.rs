@@ -1,0 +1,68 @@
+// Made by rust/erase from crates/langtag_cldr/src/matching.rt. Change that file, not this one.
+
+//! The fields by which two tags are compared (UTS #35, part 1, section 'Language Matching').
+
+use crate::erased::cldr::aliases::{language_replaced, letters_replaced};
+use crate::erased::cldr::likely::add_likely;
+use crate::erased::cldr::read_text::are_alike;
+use crate::erased::cldr::tag_fields::TagFields;
+
+/// Returns the matching form of a string: its fields, with deprecated subtags replaced and likely
+/// subtags added. Returns `None` for `und`, and for a string that does not begin with a language.
+#[inline]
+#[must_use]
+pub fn matching_form(text: &[u8]) -> Option<TagFields<'_>> {
+    Some(completed(replaced_form(text)?))
+}
+
+/// Returns the fields of a string, with its language replaced if CLDR replaces it.
+#[inline]
+#[must_use]
+pub fn replaced_form(text: &[u8]) -> Option<TagFields<'_>> {
+    if are_alike(text, b"und") {
+        return None;
+    }
+    Some(language_replaced(TagFields::of_text(text)?))
+}
+
+/// Returns the fields with a deprecated region of two letters replaced, and with likely subtags
+/// added.
+#[inline]
+#[must_use]
+pub fn completed<'a>(fields: TagFields<'a>) -> TagFields<'a> {
+    most_likely(letters_replaced(fields))
+}
+
+/// Returns the fields with likely subtags added. If no likely subtags of the language are known,
+/// script and region are what they would be without the language.
+fn most_likely<'a>(fields: TagFields<'a>) -> TagFields<'a> {
+    if let Some(most) = add_likely(fields) {
+        return most;
+    }
+    match add_likely(fields.without_language()) {
+        Some(likely) => fields.keeping_language(likely),
+        None => fields,
+    }
+}
+
+impl<'a> TagFields<'a> {
+    /// Returns the script and the region.
+    #[inline]
+    fn without_language(self) -> TagFields<'a> {
+        TagFields {
+            language: b"",
+            script: self.script,
+            region: self.region,
+        }
+    }
+
+    /// Returns the language of these fields, with the script and the region of `others`.
+    #[inline]
+    fn keeping_language(self, others: TagFields<'a>) -> TagFields<'a> {
+        TagFields {
+            language: self.language,
+            script: others.script,
+            region: others.region,
+        }
+    }
+}

@@ -1,0 +1,220 @@
+// Made by rust/erase from crates/langtag_header/src/accept_language.rt. Change that file, not this one.
+
+//! The language ranges in an Accept-Language header (RFC 9110 section 12.5.4).
+
+#[cfg(feature = "alloc")]
+use crate::erased::header::accept_language_error::AcceptLanguageError;
+use crate::erased::header::element::element_at;
+use crate::erased::header::lookup::tag_for;
+use crate::erased::header::weighted_range::WeightedRange;
+use crate::erased::range::is_empty_element;
+use crate::erased::scan::split_at_byte;
+use crate::erased::tag::LangTag;
+#[cfg(feature = "alloc")]
+use crate::shim::{AllocError, TryItems};
+#[cfg(feature = "alloc")]
+use alloc::vec::Vec;
+use core::cmp::Reverse;
+
+/// The ranges that a header accepts, the greatest weight first. For `fr;q=0.5, de, *;q=0` these are
+/// `de` with the weight 1000 and `fr` with 500.
+///
+/// ```
+/// # fn main() -> Result<(), Box<dyn std::error::Error>> {
+/// use langtag::matching::AcceptLanguage;
+///
+/// let accepted = AcceptLanguage::new("fr;q=0.5, de, *;q=0")?;
+/// assert_eq!(accepted.ranges().len(), 2);
+/// assert_eq!(accepted.ranges()[0].range.as_str(), "de");
+/// # Ok(())
+/// # }
+/// ```
+#[cfg(feature = "alloc")]
+#[derive(Debug, Clone, PartialEq, Eq, Hash)]
+pub struct AcceptLanguage<'a> {
+    ranges: Vec<WeightedRange<'a>>,
+}
+
+#[cfg(feature = "alloc")]
+impl<'a> AcceptLanguage<'a> {
+    /// Parses a header by RFC 9110, and leaves out the ranges of weight 0, which are not
+    /// acceptable. Ranges of equal weight keep their order. Empty elements are skipped.
+    ///
+    /// # Errors
+    ///
+    /// Returns `BadElement` if an element is neither empty nor a basic language range with an
+    /// optional weight. The error contains the whole header, and the index and offset of the first
+    /// such element. Returns `Memory` if allocation fails.
+    ///
+    /// ```
+    /// use langtag::matching::AcceptLanguage;
+    ///
+    /// assert!(AcceptLanguage::new(",de,").is_ok());
+    /// ```
+    #[inline]
+    pub fn new(header: &'a str) -> Result<AcceptLanguage<'a>, AcceptLanguageError<'a>> {
+        let read = elements(header)?;
+        Ok(AcceptLanguage::by_weight(read)?)
+    }
+
+    /// Parses a header as [`AcceptLanguage::new`] does, but skips malformed elements: `de, *-CH`
+    /// has the range `de`.
+    ///
+    /// # Errors
+    ///
+    /// Returns an error if allocation fails.
+    ///
+    /// ```
+    /// # fn main() -> Result<(), Box<dyn std::error::Error>> {
+    /// use langtag::matching::AcceptLanguage;
+    ///
+    /// let accepted = AcceptLanguage::try_lenient("de_CH, fr;q=0.5, de")?;
+    /// assert_eq!(accepted.ranges().first().map(|first| first.range.as_str()), Some("de"));
+    /// # Ok(())
+    /// # }
+    /// ```
+    #[inline]
+    pub fn try_lenient(header: &'a str) -> Result<AcceptLanguage<'a>, AllocError> {
+        let read = good_elements(header)?;
+        AcceptLanguage::by_weight(read)
+    }
+
+    /// Leaves out the elements of weight 0, and sorts the other elements by descending weight.
+    #[inline]
+    fn by_weight(elements: Vec<WeightedRange<'a>>) -> Result<AcceptLanguage<'a>, AllocError> {
+        let mut ranges = elements;
+        ranges.retain(|weighted| weighted.weight > 0);
+        ranges.try_sort_by_key(|weighted| Reverse(weighted.weight))?;
+        Ok(AcceptLanguage { ranges })
+    }
+
+    /// Returns the ranges, the greatest weight first. It is proved that ranges are equal if their
+    /// weights are equal and their strings are equal, ignoring case. It is also proved that a clone
+    /// is the same value.
+    ///
+    /// ```
+    /// # fn main() -> Result<(), Box<dyn std::error::Error>> {
+    /// use langtag::matching::AcceptLanguage;
+    ///
+    /// let accepted = AcceptLanguage::new("fr;q=0.5, de")?;
+    /// assert_eq!(accepted.ranges().first().map(|first| first.range.as_str()), Some("de"));
+    /// # Ok(())
+    /// # }
+    /// ```
+    #[inline]
+    #[must_use]
+    pub fn ranges(&self) -> &[WeightedRange<'a>] {
+        self.ranges.as_slice()
+    }
+
+    /// Returns the tag that lookup finds for the ranges, or the default, as
+    /// [`look_up`](crate::matching::look_up) does.
+    ///
+    /// ```
+    /// # fn main() -> Result<(), Box<dyn std::error::Error>> {
+    /// use langtag::LangTag;
+    /// use langtag::matching::AcceptLanguage;
+    ///
+    /// let accepted = AcceptLanguage::new("fr;q=0.3, DE-ch-1996;q=0.9")?;
+    /// let tags = [LangTag::new("de-CH")?, LangTag::new("fr")?];
+    /// assert_eq!(accepted.look_up(&tags, &LangTag::new("en")?).as_str(), "de-CH");
+    /// # Ok(())
+    /// # }
+    /// ```
+    #[inline]
+    pub(crate) fn look_up_tag<'t>(
+        &self,
+        tags: &[LangTag<'t>],
+        default: LangTag<'t>,
+    ) -> LangTag<'t> {
+        for weighted in self.ranges() {
+            if let Some(tag) = tag_for(weighted.range, tags) {
+                return tag;
+            }
+        }
+        default
+    }
+}
+
+/// Returns the tag that lookup finds for a header, or the default. It does what
+/// [`AcceptLanguage::new`] and [`AcceptLanguage::look_up`] do, in one call.
+///
+/// For `fr;q=0.3, DE-ch-1996;q=0.9` and the tags `de-CH` and `fr` it returns `de-CH`.
+///
+/// This follows RFC 4647 to the letter, so `zh-TW` does not find `zh-Hant`. Most web sites should
+/// call `langtag::choice::best_for_header` instead.
+///
+/// # Errors
+///
+/// Returns the errors of [`AcceptLanguage::new`].
+///
+/// ```
+/// # fn main() -> Result<(), Box<dyn std::error::Error>> {
+/// use langtag::erased::tag::LangTag;
+/// use langtag::erased::matching::tag_for_header;
+///
+/// let tags = [LangTag::new("de-CH")?, LangTag::new("fr")?];
+/// assert_eq!(
+///     tag_for_header("fr;q=0.3, DE-ch-1996;q=0.9", &tags, LangTag::new("en")?)?.as_str(),
+///     "de-CH"
+/// );
+/// # Ok(())
+/// # }
+/// ```
+#[cfg(feature = "alloc")]
+#[inline]
+pub fn tag_for_header<'h, 't>(
+    header: &'h str,
+    tags: &[LangTag<'t>],
+    default: LangTag<'t>,
+) -> Result<LangTag<'t>, AcceptLanguageError<'h>> {
+    let accepted = AcceptLanguage::new(header)?;
+    Ok(accepted.look_up_tag(tags, default))
+}
+
+/// Returns the elements of a header, in order.
+#[cfg(feature = "alloc")]
+#[inline]
+fn elements(header: &str) -> Result<Vec<WeightedRange<'_>>, AcceptLanguageError<'_>> {
+    let mut elements = Vec::new();
+    let mut left = header.as_bytes();
+    let mut index = 0;
+    while !left.is_empty() {
+        let (item, rest) = split_at_byte(left, b',');
+        match element_at(item) {
+            Ok(element) => elements
+                .try_push(element.weighted)
+                .map_err(AllocError::from)?,
+            Err(_) if is_empty_element(item) => {}
+            Err(part) => {
+                return Err(AcceptLanguageError::BadElement {
+                    header,
+                    index,
+                    offset: header.len() - left.len(),
+                    part,
+                });
+            }
+        }
+        index += 1;
+        left = rest;
+    }
+    Ok(elements)
+}
+
+/// Returns the elements of a header, in order, and skips malformed elements.
+#[cfg(feature = "alloc")]
+#[inline]
+fn good_elements(header: &str) -> Result<Vec<WeightedRange<'_>>, AllocError> {
+    let mut elements = Vec::new();
+    let mut left = header.as_bytes();
+    while !left.is_empty() {
+        let (item, rest) = split_at_byte(left, b',');
+        if let Ok(element) = element_at(item) {
+            elements
+                .try_push(element.weighted)
+                .map_err(AllocError::from)?;
+        }
+        left = rest;
+    }
+    Ok(elements)
+}

@@ -1,0 +1,87 @@
+// Made by rust/erase from crates/langtag_header/src/accept_language_error.rt. Change that file, not this one.
+
+//! Why an Accept-Language header was refused.
+
+#[cfg(feature = "alloc")]
+use crate::shim::AllocError;
+use core::fmt;
+
+/// The part of an element that is malformed: the language range in `de-`, the weight in `de;q=2`.
+/// If both are malformed, the value is `Range`.
+///
+/// ```
+/// use langtag::matching::ElementPart;
+///
+/// assert_eq!(format!("{}", ElementPart::Range), "language range");
+/// ```
+#[derive(Debug, Clone, Copy, PartialEq, Eq, Hash)]
+#[non_exhaustive]
+pub enum ElementPart {
+    /// The string before the `;`, or the whole element if it has no `;`, is not a basic language
+    /// range.
+    Range,
+    /// The string after the `;` is not a weight.
+    Weight,
+}
+
+impl fmt::Display for ElementPart {
+    #[inline]
+    fn fmt(&self, f: &mut fmt::Formatter<'_>) -> fmt::Result {
+        f.pad(match self {
+            ElementPart::Range => "language range",
+            ElementPart::Weight => "weight",
+        })
+    }
+}
+
+/// The error for an Accept-Language header. For `de, *-CH` it is a `BadElement` with the index 1,
+/// the offset 3 and [`ElementPart::Range`].
+///
+/// ```
+/// use langtag::matching::{AcceptLanguage, AcceptLanguageError};
+///
+/// let error = AcceptLanguage::new("de, *-CH").err();
+/// assert!(matches!(error, Some(AcceptLanguageError::BadElement { index: 1, offset: 3, .. })));
+/// ```
+#[cfg(feature = "alloc")]
+#[derive(Debug, Clone, PartialEq, Eq, Hash)]
+#[non_exhaustive]
+pub enum AcceptLanguageError<'a> {
+    /// The first malformed element.
+    BadElement {
+        /// The header.
+        header: &'a str,
+        /// The index of the element, which is the number of commas before it.
+        index: usize,
+        /// The offset in bytes just after the last of these commas, or 0 if there is none.
+        offset: usize,
+        /// The part that is malformed.
+        part: ElementPart,
+    },
+    /// Allocation failed for the list of ranges.
+    Memory(AllocError),
+}
+
+#[cfg(feature = "alloc")]
+impl fmt::Display for AcceptLanguageError<'_> {
+    #[inline]
+    fn fmt(&self, f: &mut fmt::Formatter<'_>) -> fmt::Result {
+        match self {
+            AcceptLanguageError::BadElement { index, part, .. } => {
+                write!(f, "element {index} has a bad {part}")
+            }
+            AcceptLanguageError::Memory(_) => f.write_str("out of memory"),
+        }
+    }
+}
+
+#[cfg(feature = "alloc")]
+impl core::error::Error for AcceptLanguageError<'_> {}
+
+#[cfg(feature = "alloc")]
+impl From<AllocError> for AcceptLanguageError<'_> {
+    #[inline]
+    fn from(error: AllocError) -> Self {
+        AcceptLanguageError::Memory(error)
+    }
+}

@@ -1,0 +1,183 @@
+// Made by rust/erase from crates/langtag_posix/src/posix.rt. Change that file, not this one.
+
+//! The tag for a POSIX locale name.
+
+use crate::erased::output::write_text;
+use crate::erased::place::{Script, Variants};
+use crate::erased::posix::modifiers::{modifier_script, modifier_variant, script_of};
+use crate::erased::posix::platform_names::{read_place, MOST, MOST_READ};
+#[cfg(feature = "alloc")]
+use crate::erased::posix::posix_error::PosixError;
+use crate::erased::posix::posix_variant::{tag_with_keyword, MOST_WITH_KEYWORD};
+use crate::erased::range::locale_place;
+use crate::erased::scan::{split_at_byte, split_at_either};
+#[cfg(feature = "alloc")]
+use crate::erased::tag::{tag_of, LangTagBuf};
+use crate::erased::tag::{write_part, LangTag, Part};
+#[cfg(feature = "alloc")]
+use crate::shim::{try_vec, AllocError};
+#[cfg(feature = "alloc")]
+use alloc::vec::Vec;
+
+/// The greatest length of a language and a territory with the keyword `va-posix` and a script, in
+/// bytes.
+const MOST_WITH_SCRIPT: usize = MOST_WITH_KEYWORD + 5;
+
+/// Returns the tag for a POSIX locale name (IEEE Std 1003.1, section 8.2),
+/// `language[_territory][.codeset][@modifier]`: `pt-BR` for `pt_BR.UTF-8`, `sr-Latn-RS` for
+/// `sr_RS@latin`, `ca-ES-valencia` for `ca_ES.UTF-8@valencia`.
+///
+/// The codeset is dropped. These modifiers name a script or a variant, ignoring case:
+///
+/// - `latin`, `cyrillic`, `devanagari`, `iqtelif`, and the code of a script, such as `Cyrl` and
+///   `shaw`;
+/// - `valencia`, `tarask`, `ijekavian`, and `ijekavianlatin`, which names both a script and a
+///   variant.
+///
+/// Other modifiers are dropped, such as `euro`; [`unknown_modifier`] returns a modifier whose
+/// meaning is not known.
+///
+/// These names are read, too, ignoring case:
+///
+/// - a script after `_#`, as Java and Android print it: `zh-Hant-TW` for `zh_TW_#Hant`;
+/// - a region after `r`, or subtags after `b+`, as in Android's resource folders: `zh-TW` for
+///   `zh-rTW`, and `sr-Latn` for
+///   `b+sr+Latn`;
+/// - a script after the region, as in .NET Framework: `az-Latn-AZ` for `az-AZ-Latn`, and
+///   `sr-Latn-RS` for `sr-SP-Latn`,
+///   where `SP` is Serbia;
+/// - .NET's `zh-CHS` and `zh-CHT`, which become `zh-Hans` and `zh-Hant`.
+///
+/// Each `_` is read as a hyphen. If the only variant is `POSIX`, ignoring case, it becomes the
+/// keyword `va-posix` (UTS #35): `en-US-u-va-posix` for `en_US_POSIX`. Case and deprecated subtags
+/// stay as they are.
+///
+/// [`unknown_modifier`]: crate::likely::unknown_modifier
+///
+/// # Errors
+///
+/// Returns `NoTag` with the name if its language and territory are not a tag, as in `C`, `en_` and
+/// the empty string. `NoTag` is also returned for `POSIX`, ignoring case, and for a language and
+/// territory of more than 255 bytes. Returns `Memory` if allocation fails.
+///
+/// ```
+/// # fn main() -> Result<(), Box<dyn std::error::Error>> {
+/// use langtag::likely::from_posix;
+///
+/// assert_eq!(from_posix("sr_RS@latin")?.as_str(), "sr-Latn-RS");
+/// assert_eq!(from_posix("zh-rTW")?.as_str(), "zh-TW");
+/// assert!(from_posix("C").is_err());
+/// # Ok(())
+/// # }
+/// ```
+#[cfg(feature = "alloc")]
+pub fn from_posix(name: &str) -> Result<LangTagBuf, PosixError<'_>> {
+    match bytes_of(name.as_bytes())? {
+        Some(bytes) => Ok(tag_of(bytes)),
+        None => Err(PosixError::NoTag(name)),
+    }
+}
+
+/// Returns the bytes of the tag for a name, or `None` if the name has no tag.
+#[cfg(feature = "alloc")]
+fn bytes_of(name: &[u8]) -> Result<Option<Vec<u8>>, AllocError> {
+    let Some(len) = write_from_posix(name, &mut []) else {
+        return Ok(None);
+    };
+    let mut bytes = try_vec(0, len)?;
+    write_from_posix(name, &mut bytes);
+    Ok(Some(bytes))
+}
+
+/// Writes the tag for a POSIX locale name to a buffer, as `from_posix` returns it, and returns its
+/// length in bytes, or `None` if the name has no tag. If the buffer is too short, it stays
+/// unchanged, and the length says how long a buffer must be. It does not allocate.
+///
+/// ```
+/// use langtag::erased::posix::write_from_posix;
+///
+/// let mut buffer = [0; 16];
+/// assert_eq!(write_from_posix(b"pt_BR.UTF-8", &mut buffer), Some(5));
+/// assert_eq!(buffer.get(..5), Some(&b"pt-BR"[..]));
+/// assert_eq!(write_from_posix(b"C", &mut buffer), None);
+/// ```
+pub fn write_from_posix(name: &[u8], buffer: &mut [u8]) -> Option<usize> {
+    let (mut room, mut short) = ([0; MOST], [0; MOST_READ]);
+    let tag = tag_of_place(locale_place(name), &mut room, &mut short)?;
+    let (front, modifier) = front_and_modifier(name);
+    let script = script_behind(front);
+    let mut longer = [0; MOST_WITH_KEYWORD];
+    let tag = tag_with_keyword(tag, &mut longer);
+    let mut longest = [0; MOST_WITH_SCRIPT];
+    let tag = tag_with_script(tag, modifier_script(modifier).or(script), &mut longest);
+    Some(write_with_variant(tag, modifier_variant(modifier), buffer))
+}
+
+/// Returns the string before the codeset and the modifier, and the modifier.
+#[inline]
+fn front_and_modifier(name: &[u8]) -> (&[u8], &[u8]) {
+    let (front, _codeset) = split_at_either(name, b'.', b'@');
+    let (_, modifier) = split_at_byte(name, b'@');
+    (front, modifier)
+}
+
+/// Returns the script after `#`.
+#[inline]
+fn script_behind(front: &[u8]) -> Option<Script<'_>> {
+    let (_, behind) = split_at_byte(front, b'#');
+    let (script, _extensions) = split_at_byte(behind, b'_');
+    script_of(script)
+}
+
+/// Returns the tag that a language and a territory are read as, written into `room` or `short`.
+fn tag_of_place<'a>(
+    place: &[u8],
+    room: &'a mut [u8; MOST],
+    short: &'a mut [u8; MOST_READ],
+) -> Option<LangTag<'a>> {
+    if place.len() > MOST {
+        return None;
+    }
+    let tag = LangTag::from_bytes(read_place(place, room, short)).ok()?;
+    if tag.eq_str("POSIX") {
+        return None;
+    }
+    Some(tag)
+}
+
+/// Writes a tag with a script into `room`, and returns it as a tag.
+fn tag_with_script<'a>(
+    tag: LangTag<'a>,
+    script: Option<Script<'_>>,
+    room: &'a mut [u8; MOST_WITH_SCRIPT],
+) -> LangTag<'a> {
+    let Some(script) = script else { return tag };
+    let Some(normal) = tag.as_normal() else {
+        return tag;
+    };
+    let len = write_part(normal, Part::Script(Some(script)), room);
+    match LangTag::from_bytes(&room[..len]) {
+        Ok(tag) => tag,
+        Err(_) => unreachable!(),
+    }
+}
+
+/// Writes a tag with its variants replaced by the given variant.
+fn write_with_variant(tag: LangTag<'_>, variant: Option<&'static str>, buffer: &mut [u8]) -> usize {
+    let Some(variant) = variant else {
+        return write_text(tag.as_bytes(), buffer);
+    };
+    let Some(normal) = tag.as_normal() else {
+        return write_text(tag.as_bytes(), buffer);
+    };
+    write_part(normal, variants_part(variant), buffer)
+}
+
+/// Returns variants as a part of a tag.
+#[inline]
+fn variants_part(variants: &str) -> Part<'_> {
+    match Variants::new(variants) {
+        Ok(variants) => Part::Variants(variants),
+        Err(_) => unreachable!(),
+    }
+}

@@ -1,0 +1,50 @@
+// Made by rust/erase from crates/langtag_posix/src/posix_error.rt. Change that file, not this one.
+
+//! Why a POSIX locale name has no tag.
+
+#[cfg(feature = "alloc")]
+use crate::shim::AllocError;
+use core::fmt;
+
+/// The error for a POSIX locale name: why it has no tag.
+///
+/// ```
+/// use langtag::likely::{PosixError, from_posix};
+///
+/// assert!(matches!(from_posix("POSIX"), Err(PosixError::NoTag("POSIX"))));
+/// ```
+#[cfg(feature = "alloc")]
+#[derive(Debug, Clone, PartialEq, Eq, Hash)]
+#[non_exhaustive]
+pub enum PosixError<'a> {
+    /// The name, which gives no tag: `C`, `POSIX`, the empty string, or a string that is not a tag,
+    /// such as `en_`.
+    NoTag(&'a str),
+    /// Allocation failed.
+    Memory(AllocError),
+}
+
+#[cfg(feature = "alloc")]
+impl fmt::Display for PosixError<'_> {
+    fn fmt(&self, f: &mut fmt::Formatter<'_>) -> fmt::Result {
+        match self {
+            PosixError::NoTag(value) => write!(
+                f,
+                "no language in the locale name {}",
+                crate::message::Quoted(value.as_bytes())
+            ),
+            PosixError::Memory(_) => f.write_str("out of memory"),
+        }
+    }
+}
+
+#[cfg(feature = "alloc")]
+impl core::error::Error for PosixError<'_> {}
+
+#[cfg(feature = "alloc")]
+impl<'a> From<AllocError> for PosixError<'a> {
+    #[inline]
+    fn from(error: AllocError) -> Self {
+        PosixError::Memory(error)
+    }
+}

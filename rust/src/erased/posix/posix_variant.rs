@@ -1,0 +1,44 @@
+// Made by rust/erase from crates/langtag_posix/src/posix_variant.rt. Change that file, not this one.
+
+//! The variant `POSIX` of a locale name, which becomes the keyword `va-posix`.
+
+use crate::erased::output::write_pieces;
+use crate::erased::tag::{LangTag, NormalLangTag};
+
+/// The greatest length of a language and a territory with the keyword, in bytes: `-u-va-posix` has
+/// five more than `-POSIX`.
+pub(crate) const MOST_WITH_KEYWORD: usize = 260;
+
+/// Writes a tag whose only variant is `POSIX` into `room`, with the keyword `va-posix` instead, and
+/// returns it. Any other tag, and a tag with extensions, stays.
+pub(crate) fn tag_with_keyword<'a>(
+    tag: LangTag<'a>,
+    room: &'a mut [u8; MOST_WITH_KEYWORD],
+) -> LangTag<'a> {
+    let Some(normal) = tag.as_normal() else {
+        return tag;
+    };
+    let Some((before, after)) = around_posix(normal) else {
+        return tag;
+    };
+    let pieces: [&[u8]; 3] = [before, b"-u-va-posix", after];
+    let len = write_pieces(&pieces, room);
+    match LangTag::from_bytes(&room[..len]) {
+        Ok(tag) => tag,
+        Err(_) => unreachable!(),
+    }
+}
+
+/// Returns the string before `-POSIX` and after it if this is the only variant, and there are no
+/// extensions.
+fn around_posix<'a>(tag: NormalLangTag<'a>) -> Option<(&'a [u8], &'a [u8])> {
+    let text = tag.as_str().as_bytes();
+    let ends = tag.ends();
+    if ends.variants != ends.extensions {
+        return None;
+    }
+    if !tag.variants().eq_str("POSIX") {
+        return None;
+    }
+    Some((&text[..ends.variants - 6], &text[ends.variants..]))
+}
