@@ -1,5 +1,6 @@
 -- The tag types compare and hash by their texts, ignoring the case of ASCII letters. Typed tags have only `==`.
-use Rattle.langtag_scan.specs.Grammar.{◌≡◌, ◌==◌, Bool, false, are_alike, ComparesByCase}
+use Rattle.std.specs.Prelude.{◌≡◌, ◌==◌, Bool, false}
+use Rattle.langtag_scan.specs.Grammar.{are_alike, ComparesByCase}
 use Rattle.langtag.specs.contracts.lang_tag.LangTagHash.TheImpl as lang_tag_hash
 use Rattle.langtag.specs.contracts.lang_tag.LangTagOrd.TheImpl as lang_tag_order
 use Rattle.langtag.specs.contracts.lang_tag.LangTagPartialEq.TheImpl as lang_tag_equality

@@ -1,6 +1,7 @@
 -- What the setters do to a normal tag: they replace or remove one part of its record (RFC 5646 sections 2.2.1 to
 -- 2.2.7), and the new text is what the new record spells.
-use Rattle.langtag_scan.specs.Grammar.{◌≡◌, ℕ, List, [], Option, None, IfSome, option_map, Extension, PrivateUse, Record, EachRecord, IsWellFormedPrivateUse, Spells, private_use_flat, join}
+use Rattle.std.specs.Prelude.{◌≡◌, ℕ, List, [], Option, None, IfSome, option_map}
+use Rattle.langtag_scan.specs.Grammar.{Extension, PrivateUse, Record, EachRecord, IsWellFormedPrivateUse, Spells, private_use_flat, join}
 use Rattle.langtag_language.specs.Language.{EachLanguageSpelling}
 use Rattle.langtag_place.specs.Variants.{SpellsVariants}
 use Rattle.langtag_extension.specs.Spelling.{SpellsExtensions}

@@ -1,5 +1,6 @@
 -- The text of a tag whose record becomes another record.
-use Rattle.langtag_scan.specs.Grammar.{◌≡◌, ℕ, List, Alike, Record, EachRecord, spell, IsNormal}
+use Rattle.std.specs.Prelude.{◌≡◌, ℕ, List}
+use Rattle.langtag_scan.specs.Grammar.{Alike, Record, EachRecord, spell, IsNormal}
 
 -- `new` is the text of the changed record if the tag is normal; any other tag stays unchanged
 pub record IsForm (form_of : Record → Record) (old new : List ℕ) : Type 0 where

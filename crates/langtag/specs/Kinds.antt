@@ -1,5 +1,6 @@
 -- The kinds of language tags (RFC 5646 section 2.1).
-use Rattle.langtag_scan.specs.Grammar.{◌↔◌, ℕ, List, IsNormal, IsPrivate, IsIrregularAt, IsIrregular}
+use Rattle.std.specs.Prelude.{◌↔◌, ℕ, List}
+use Rattle.langtag_scan.specs.Grammar.{IsNormal, IsPrivate, IsIrregularAt, IsIrregular}
 use Rattle.langtag.specs.declared.kind.Kind.{Kind}
 use Rattle.langtag.specs.declared.kind.Kind.TheVariants.{Normal, PrivateUse, Grandfathered}
 

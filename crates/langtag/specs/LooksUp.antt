@@ -1,5 +1,6 @@
 -- What looking up bytes among the grandfathered tags returns.
-use Rattle.langtag_scan.specs.Prelude.{◌≡◌, ◌↔◌, ℕ, List, Result, IsTrue, IfOk, IfErr, is_ok, Bor}
+use Rattle.std.specs.Prelude.{◌≡◌, ◌↔◌, ℕ, List, Result, IsTrue, IfOk, IfErr, is_ok}
+use Rattle.langtag_scan.specs.Prelude.{Bor}
 use Rattle.langtag.specs.declared.grandfathered.GrandfatheredLangTag.{GrandfatheredLangTag}
 use Rattle.langtag.specs.declared.grandfathered.InvalidGrandfatheredTag.{InvalidGrandfatheredTag}
 use Rattle.langtag.specs.Registered.{index_of, IsGrandfatheredAt, IsGrandfathered}

@@ -1,5 +1,6 @@
 -- Where the parts of a normal tag are in its text (RFC 5646 section 2.1).
-use Rattle.langtag_scan.specs.Grammar.{◌≡◌, ℕ, List, [], take, unwrap_or, ends_of, language_part, variants_part, extensions_part, private_use_part, text_between, Record}
+use Rattle.std.specs.Prelude.{◌≡◌, ℕ, List, [], take, unwrap_or}
+use Rattle.langtag_scan.specs.Grammar.{ends_of, language_part, variants_part, extensions_part, private_use_part, text_between, Record}
 
 -- the language is the text up to the language's end. Each other part begins after the hyphen that follows the previous
 -- part, and goes up to its own end

@@ -1,6 +1,7 @@
 -- Grandfathered tags and kinds compare and hash by their index in the declaration of their enum. `equality`, `order`
 -- and `fed` are what the derived `==`, `cmp` and `hash` compute.
-use Rattle.langtag_scan.specs.Prelude.{◌≡◌, ℕ, ◌==◌, Bool, HashWrites, usize, nat_cmp, Ordering}
+use Rattle.std.specs.Prelude.{◌≡◌, ℕ, ◌==◌, Bool}
+use Rattle.langtag_scan.specs.Prelude.{HashWrites, usize, nat_cmp, Ordering}
 use Rattle.langtag.specs.contracts.grandfathered.GrandfatheredLangTagHash.TheImpl as tag_hash
 use Rattle.langtag.specs.contracts.grandfathered.GrandfatheredLangTagOrd.TheImpl as tag_order
 use Rattle.langtag.specs.contracts.grandfathered.GrandfatheredLangTagPartialEq.TheImpl as tag_equality

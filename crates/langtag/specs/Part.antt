@@ -1,5 +1,6 @@
 -- What an accessor of a part returns for a tag of any kind (RFC 5646 section 2.1).
-use Rattle.langtag_scan.specs.Grammar.{◌≡◌, ℕ, List, Record, EachRecord, IsNormal}
+use Rattle.std.specs.Prelude.{◌≡◌, ℕ, List}
+use Rattle.langtag_scan.specs.Grammar.{Record, EachRecord, IsNormal}
 
 -- for a normal tag, `answer` is the part of the tag's record that `part_of` names; for a tag of another kind, `answer`
 -- is the value `none`

@@ -1,5 +1,6 @@
 -- Where the first fault is in a text that is not a tag (RFC 5646 section 2.1).
-use Rattle.langtag_scan.specs.Grammar.{◌≡◌, ℕ, ◌-◌, ◌<◌, ◌≤◌, ◌⊎◌, true, false, List, [], ◌∷◌, ◌++◌, length, take, slice_index, AllWithin, is_alphanumeric, NoHyphenWithin, IsTag, IsViable, IsIrregularPrefix}
+use Rattle.std.specs.Prelude.{◌≡◌, ℕ, ◌-◌, ◌<◌, ◌≤◌, ◌⊎◌, true, false, List, [], ◌∷◌, ◌++◌, length, take, slice_index}
+use Rattle.langtag_scan.specs.Grammar.{AllWithin, is_alphanumeric, NoHyphenWithin, IsTag, IsViable, IsIrregularPrefix}
 
 -- a tag may begin with these complete subtags: they are a tag, or some tag begins with these subtags and a hyphen
 abbrev pub MayStand : List ℕ → Type 0

@@ -1,6 +1,7 @@
 -- Which registered tag a variant of `GrandfatheredLangTag` represents (RFC 5646 section 2.2.8): the tag at the
 -- variant's index.
-use Rattle.langtag_scan.specs.Grammar.{◌≡◌, ℕ, List, [], map, slice_get, slice_index_or, Option, Some, None, Alike, Grandfathered, grandfathered_tags}
+use Rattle.std.specs.Prelude.{◌≡◌, ℕ, List, [], map, slice_get, slice_index_or, Option, Some, None}
+use Rattle.langtag_scan.specs.Grammar.{Alike, Grandfathered, grandfathered_tags}
 use Rattle.langtag.specs.declared.grandfathered.GrandfatheredLangTag.{GrandfatheredLangTag}
 use Rattle.langtag.specs.declared.grandfathered.GrandfatheredLangTag.TheVariants.{EnGbOed, IAmi, IBnn, IDefault, IEnochian, IHak, IKlingon, ILux, IMingo, INavajo, IPwn, ITao, ITay, ITsu, SgnBeFr, SgnBeNl, SgnChDe, ArtLojban, CelGaulish, NoBok, NoNyn, ZhGuoyu, ZhHakka, ZhMin, ZhMinNan, ZhXiang}
 

@@ -1,5 +1,6 @@
 -- The text of each type, as a list of bytes.
-use Rattle.langtag_scan.specs.Prelude.{ℕ, List, [], String, unwrap_or, option_map, string_bytes, Global}
+use Rattle.std.specs.Prelude.{ℕ, List, [], String, unwrap_or, option_map, string_bytes}
+use Rattle.langtag_scan.specs.Prelude.{Global}
 use Rattle.langtag_language.specs.Text.{language_text}
 use Rattle.langtag_place.specs.Text.{script_text, region_text, variants_text}
 use Rattle.langtag_extension.specs.Text.{extensions_text}

@@ -1,5 +1,6 @@
 -- Language tags as typed values, with one type for each kind (RFC 5646 section 2.1).
-use Rattle.langtag_scan.specs.Grammar.{◌≡◌, ℕ, List, Option, Some, None, option_map, language_part, EachRecord, IsIrregularAt}
+use Rattle.std.specs.Prelude.{◌≡◌, ℕ, List, Option, Some, None, option_map}
+use Rattle.langtag_scan.specs.Grammar.{language_part, EachRecord, IsIrregularAt}
 use Rattle.langtag_language.specs.Text.{language_text}
 use Rattle.langtag_language.specs.declared.language.Language.{Language}
 use Rattle.langtag_private.specs.Text.{private_use_text}

@@ -1,7 +1,8 @@
 //! How a part of a tag's string is replaced, and where the parts of the new string end.
 #![tactic(auto, using(langtag_scan::proofs::SpelledTexts::offsets_kept))]
 
-ghost use Rattle.langtag_scan.specs.Grammar.{◌≡◌, ◌++◌, ◌≤◌, [], length, IfOk, OnOk, OnErr, IsOk, IsAscii, string_bytes, string_capacity, replace_range, HasEnds};
+ghost use Rattle.std.specs.Prelude.{◌≡◌, ◌++◌, ◌≤◌, [], length, IfOk, OnOk, OnErr, IsOk, IsAscii, string_bytes, string_capacity};
+ghost use Rattle.langtag_scan.specs.Grammar.{replace_range, HasEnds};
 ghost use Rattle.langtag.specs.Edit.{SetsPart};
 ghost use Rattle.langtag.specs.Text.{part_text};
 

@@ -1,5 +1,6 @@
 //! The grandfathered tags (RFC 5646 section 2.2.8).
-ghost use Rattle.langtag_scan.specs.Grammar.{◌≡◌, ◌↔◌, ◌<◌, ℕ, List, Some, IsTrue, IfOk, IfErr, is_ok, position, slice_get, option_map, are_alike, EachRecord, IsTag};
+ghost use Rattle.std.specs.Prelude.{◌≡◌, ◌↔◌, ◌<◌, ℕ, List, Some, IsTrue, IfOk, IfErr, is_ok, position, slice_get, option_map};
+ghost use Rattle.langtag_scan.specs.Grammar.{are_alike, EachRecord, IsTag};
 ghost use Rattle.langtag.specs.Registered.{text_of};
 
 use crate::lang_tag::LangTag;

@@ -1,5 +1,6 @@
 //! How long the parts of a normal tag are.
-ghost use Rattle.langtag_scan.specs.Grammar.{◌≡◌, ◌<◌, ◌^◌, length, AreInOrder};
+ghost use Rattle.std.specs.Prelude.{◌≡◌, ◌<◌, ◌^◌, length};
+ghost use Rattle.langtag_scan.specs.Grammar.{AreInOrder};
 ghost use Rattle.langtag.specs.Lengths.{after_hyphen, lengths_of, ends_from, with_length};
 
 use crate::part::Part;

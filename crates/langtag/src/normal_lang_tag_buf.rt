@@ -1,5 +1,6 @@
 //! Normal tags that own their text.
-ghost use Rattle.langtag_scan.specs.Prelude.{◌≡◌, ◌↔◌, ℕ, List, [], Option, Some, IsTrue, IsNone, IsOk, IfOk, IfErr, OnOk, OnErr, is_ok, option_map, string_bytes, string_vec, SameBlock};
+ghost use Rattle.std.specs.Prelude.{◌≡◌, ◌↔◌, ℕ, List, [], Option, Some, IsTrue, IsNone, IsOk, IfOk, IfErr, OnOk, OnErr, is_ok, option_map, string_bytes};
+ghost use Rattle.langtag_scan.specs.Prelude.{string_vec, SameBlock};
 ghost use Rattle.langtag_case.specs.RecommendedCase.{recommended_record, recommended_text};
 ghost use Rattle.langtag_scan.specs.Grammar.{IsSpelledAlike, Alike, HasEnds, language_part, variants_part, extensions_part, private_use_part, EachRecord, Extension, Spells, spell, IsNormal};
 ghost use Rattle.langtag_scan.specs.Record as model;

@@ -1,5 +1,6 @@
 //! The parts of a normal tag (RFC 5646 section 2.1), and how a new part is put into the string of a tag.
-ghost use Rattle.langtag_scan.specs.Grammar.{◌≡◌, ◌++◌, ◌≤◌, ◌+◌, length, replace_range, IsNormal};
+ghost use Rattle.std.specs.Prelude.{◌≡◌, ◌++◌, ◌≤◌, ◌+◌, length};
+ghost use Rattle.langtag_scan.specs.Grammar.{replace_range, IsNormal};
 ghost use Rattle.langtag.specs.Edit.{SetsPart};
 ghost use Rattle.langtag.specs.PartPlaces.{part_start, part_end, put_text};
 ghost use Rattle.langtag.specs.Text.{normal_lang_tag_text, part_text};

@@ -1,5 +1,6 @@
 //! Parts of a tag that are appended to an output.
-ghost use Rattle.langtag_scan.specs.Grammar.{◌≡◌, Option, option_map, join};
+ghost use Rattle.std.specs.Prelude.{◌≡◌, Option, option_map};
+ghost use Rattle.langtag_scan.specs.Grammar.{join};
 ghost use Rattle.langtag_output.specs.Output.{Pushes};
 ghost use Rattle.langtag_private.specs.Text.{private_use_text};
 ghost use Rattle.langtag_scan.specs.Record as model;

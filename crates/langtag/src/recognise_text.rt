@@ -1,5 +1,6 @@
 //! The only file in which this crate calls a recogniser.
-ghost use Rattle.langtag_scan.specs.Grammar.{MatchOption, HasEnds, IsFoundOf, finding, IsNormal, IsTag};
+ghost use Rattle.std.specs.Prelude.{MatchOption};
+ghost use Rattle.langtag_scan.specs.Grammar.{HasEnds, IsFoundOf, finding, IsNormal, IsTag};
 ghost use Rattle.langtag.specs.Recognised.{finding_of};
 
 use crate::grandfathered::GrandfatheredLangTag;

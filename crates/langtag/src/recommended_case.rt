@@ -1,5 +1,6 @@
 //! The string of a tag in its recommended case.
-ghost use Rattle.langtag_scan.specs.Prelude.{◌≡◌, IsAscii, string_bytes, string_vec, SameBlock};
+ghost use Rattle.std.specs.Prelude.{◌≡◌, IsAscii, string_bytes};
+ghost use Rattle.langtag_scan.specs.Prelude.{string_vec, SameBlock};
 ghost use Rattle.langtag_case.specs.RecommendedCase.{recommended_text};
 
 use langtag_case::make_recommended_case;

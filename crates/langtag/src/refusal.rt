@@ -1,5 +1,6 @@
 //! Where the first fault is in a string that is not a tag (RFC 5646 section 2.1).
-ghost use Rattle.langtag_scan.specs.Grammar.{◌≡◌, ◌↔◌, ◌≤◌, ◌<◌, ◌++◌, ◌∷◌, [], IsTrue, IsNone, IfSome, false, length, take, slice_index, list_any, are_alike, IsTag, IsViableLength, IsIrregularPrefix, is_alphanumeric};
+ghost use Rattle.std.specs.Prelude.{◌≡◌, ◌↔◌, ◌≤◌, ◌<◌, ◌++◌, ◌∷◌, [], IsTrue, IsNone, IfSome, false, length, take, slice_index};
+ghost use Rattle.langtag_scan.specs.Grammar.{list_any, are_alike, IsTag, IsViableLength, IsIrregularPrefix, is_alphanumeric};
 ghost use Rattle.langtag.specs.Refusal.{AlphanumericWithin, EndsTooSoon, IsFirstOther, IsOpen, IsRefusedEnd, IsRefusedSubtag};
 ghost use Rattle.langtag.specs.Registered.{text_of};
 ghost use Rattle.langtag.specs.declared.refusal.Refusal.{Refusal};

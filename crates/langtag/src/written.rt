@@ -1,5 +1,6 @@
 //! Tags whose bytes were written.
-ghost use Rattle.langtag_scan.specs.Grammar.{◌≡◌, IsTag};
+ghost use Rattle.std.specs.Prelude.{◌≡◌};
+ghost use Rattle.langtag_scan.specs.Grammar.{IsTag};
 ghost use Rattle.langtag.specs.Text.{lang_tag_buf_text};
 
 use crate::lang_tag_buf::LangTagBuf;

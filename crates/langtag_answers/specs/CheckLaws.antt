@@ -1,7 +1,8 @@
 -- A line has only one answer. The implementation of the trait `Answerer` for `Check` contains a proof of this law. The
 -- proof uses the lemmas of this page, so the law need not be trusted.
 use Rattle.std.proofs.Common.{◌≡◌, ◌∙◌, ℕ, Some, List, ◌++◌, slice_get, sym, ap}
-use Rattle.langtag_scan.specs.Grammar.{codes, Record, Spells, IsTag}
+use Rattle.std.specs.Prelude.{codes}
+use Rattle.langtag_scan.specs.Grammar.{Record, Spells, IsTag}
 use Rattle.langtag_scan.proofs.NormalTexts.{spelled_once}
 use Rattle.langtag_scan.proofs.SpelledTexts.{normal_spelled}
 use Rattle.langtag_scan.proofs.TagLaws.{tag_normal}

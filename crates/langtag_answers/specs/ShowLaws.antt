@@ -1,7 +1,8 @@
 -- A line has only one answer. The implementation of the trait `Answerer` for `Show` contains a proof of this law. The
 -- proof uses the lemmas of this page, so the law need not be trusted.
 use Rattle.std.proofs.Common.{◌≡◌, ◌∙◌, ℕ, Some, List, ◌++◌, slice_get, sym, ap}
-use Rattle.langtag_scan.specs.Grammar.{codes, irregular_texts, Record, Spells, IsIrregular, IsIrregularAt}
+use Rattle.std.specs.Prelude.{codes}
+use Rattle.langtag_scan.specs.Grammar.{irregular_texts, Record, Spells, IsIrregular, IsIrregularAt}
 use Rattle.langtag_scan.proofs.IrregularTexts.{irregular_once, normal_no_private, normal_no_irregular, private_no_irregular}
 use Rattle.langtag_scan.proofs.NormalTexts.{spelled_once}
 use Rattle.langtag_scan.proofs.SpelledTexts.{normal_spelled}

@@ -1,5 +1,6 @@
 //! The answer to one line.
-ghost use Rattle.langtag_scan.specs.Prelude.{◌≡◌, ◌++◌, OnOk, IsOkUnless, codes, Appends, append_known};
+ghost use Rattle.std.specs.Prelude.{◌≡◌, ◌++◌, OnOk, IsOkUnless, codes};
+ghost use Rattle.langtag_scan.specs.Prelude.{Appends, append_known};
 ghost use Rattle.langtag_validity.specs.Fault.{told};
 ghost use Rattle.langtag_lines.specs.Lines.{ended};
 ghost use Rattle.langtag_answers.specs.CheckLaws.{one_check_answer};

@@ -1,5 +1,6 @@
 //! The answer to one line.
-ghost use Rattle.langtag_scan.specs.Grammar.{◌≡◌, [], unwrap_or, flat_map, option_map, EachRecord};
+ghost use Rattle.std.specs.Prelude.{◌≡◌, [], unwrap_or, flat_map, option_map};
+ghost use Rattle.langtag_scan.specs.Grammar.{EachRecord};
 ghost use Rattle.langtag.specs.Definitions.{script_text, region_text, private_use_text, normal_lang_tag_text};
 ghost use Rattle.langtag_answers.specs.ShowAnswer.{IsShowAnswer, has_repeats};
 ghost use Rattle.langtag_answers.specs.ShowLaws.{one_show_answer};

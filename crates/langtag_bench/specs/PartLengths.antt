@@ -1,5 +1,6 @@
 -- What `langtag_bench_lang_tag` writes for a normal tag.
-use Rattle.langtag_scan.specs.Grammar.{length, option_map_or, language_part, variants_part, extensions_part, private_use_part, Record}
+use Rattle.std.specs.Prelude.{length}
+use Rattle.langtag_scan.specs.Grammar.{option_map_or, language_part, variants_part, extensions_part, private_use_part, Record}
 use Rattle.langtag_bench.specs.declared.lang_tag.PartLengths.{PartLengths}
 
 -- the length of each part, which is 0 if the part is absent

@@ -1,5 +1,6 @@
 //! Calls of langtag and langtag_match over one string; `bench/growth.sh` counts how their work grows with it.
-ghost use Rattle.langtag_scan.specs.Grammar.{◌≡◌, length, IsTrue, IsUtf8, subtags, IsTag};
+ghost use Rattle.std.specs.Prelude.{◌≡◌, length, IsTrue, IsUtf8};
+ghost use Rattle.langtag_scan.specs.Grammar.{subtags, IsTag};
 ghost use Rattle.langtag_range.specs.Definitions.{fallbacks, is_language_range};
 
 use crate::headers::ranges_of;

@@ -1,5 +1,6 @@
 //! A tag over a string, and all its parts.
-ghost use Rattle.langtag_scan.specs.Grammar.{◌≡◌, ◌↔◌, IsTrue, IsUtf8, EachRecord, IsTag};
+ghost use Rattle.std.specs.Prelude.{◌≡◌, ◌↔◌, IsTrue, IsUtf8};
+ghost use Rattle.langtag_scan.specs.Grammar.{EachRecord, IsTag};
 ghost use Rattle.langtag.specs.Definitions.{lang_tag_text};
 ghost use Rattle.langtag_bench.specs.PartLengths.{part_lengths};
 

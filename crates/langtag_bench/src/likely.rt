@@ -1,5 +1,6 @@
 //! Calls of langtag_likely that allocate.
-ghost use Rattle.langtag_scan.specs.Grammar.{◌≡◌, IsTag};
+ghost use Rattle.std.specs.Prelude.{◌≡◌};
+ghost use Rattle.langtag_scan.specs.Grammar.{IsTag};
 
 use crate::matching::tag_of;
 use crate::written::{count, write_text};

@@ -1,5 +1,6 @@
 //! Plain loops over the bytes of a tag, whose time is compared with the time of the recogniser.
-ghost use Rattle.langtag_scan.specs.Grammar.{◌≡◌, ◌≤◌, ◌+◌, ◌%◌, length, take, fold, fold_byte};
+ghost use Rattle.std.specs.Prelude.{◌≡◌, ◌≤◌, ◌+◌, ◌%◌, length, take, fold};
+ghost use Rattle.langtag_scan.specs.Grammar.{fold_byte};
 
 use langtag_scan::into_smallcase;
 

@@ -1,5 +1,6 @@
 //! Matching ranges with tags, and choosing the tag for a header.
-ghost use Rattle.langtag_scan.specs.Grammar.{◌≡◌, ◌≤◌, ◌↔◌, List, length, IsTrue, false, MatchOption, IsTag};
+ghost use Rattle.std.specs.Prelude.{◌≡◌, ◌≤◌, ◌↔◌, List, length, IsTrue, false, MatchOption};
+ghost use Rattle.langtag_scan.specs.Grammar.{IsTag};
 ghost use Rattle.langtag.specs.Definitions.{lang_tag_text};
 ghost use Rattle.langtag_match.specs.AcceptLanguage.{AreAccepted};
 ghost use Rattle.langtag_range.specs.Definitions.{MatchesBasic, MatchesExtended, is_language_range};

@@ -2,7 +2,8 @@
 //!
 //! Each function counts the calls whose allocation failed. At most one allocation is refused, so a setter that failed
 //! is called again.
-ghost use Rattle.langtag_scan.specs.Grammar.{IsTrue, IfSome, IsUtf8, IsNormal, IsTag};
+ghost use Rattle.std.specs.Prelude.{IsTrue, IfSome, IsUtf8};
+ghost use Rattle.langtag_scan.specs.Grammar.{IsNormal, IsTag};
 
 use crate::matching::{range_of, tag_of};
 use langtag::{

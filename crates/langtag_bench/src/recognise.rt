@@ -1,5 +1,6 @@
 //! The recogniser over bytes, and over a string.
-ghost use Rattle.langtag_scan.specs.Grammar.{◌≡◌, ◌↔◌, IsTrue, MatchOption, HasEnds, finding, normal_ends, IsTag, IsNormal};
+ghost use Rattle.std.specs.Prelude.{◌≡◌, ◌↔◌, IsTrue, MatchOption};
+ghost use Rattle.langtag_scan.specs.Grammar.{HasEnds, finding, normal_ends, IsTag, IsNormal};
 ghost use Rattle.langtag_bench.specs.PartEnds.{ends_left};
 
 use langtag_scan::{Found, Metered, recognise};

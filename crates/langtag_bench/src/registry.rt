@@ -1,5 +1,6 @@
 //! Calls of langtag_registry over one tag.
-ghost use Rattle.langtag_scan.specs.Grammar.{◌≡◌, IsTrue, IsTag, IsNormal};
+ghost use Rattle.std.specs.Prelude.{◌≡◌, IsTrue};
+ghost use Rattle.langtag_scan.specs.Grammar.{IsTag, IsNormal};
 
 use crate::matching::tag_of;
 use crate::memory::normal_of;

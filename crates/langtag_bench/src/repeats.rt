@@ -1,5 +1,6 @@
 //! The first repeated variant of a normal tag.
-ghost use Rattle.langtag_scan.specs.Grammar.{◌≡◌, ◌↔◌, IsTrue, length, option_map_or, are_alike, EachRecord, IsNormal};
+ghost use Rattle.std.specs.Prelude.{◌≡◌, ◌↔◌, IsTrue, length};
+ghost use Rattle.langtag_scan.specs.Grammar.{option_map_or, are_alike, EachRecord, IsNormal};
 ghost use Rattle.langtag.specs.Definitions.{repeat};
 
 use langtag::NormalLangTag;

@@ -1,6 +1,7 @@
 //! Strings that calls of langtag return, written into the caller's buffer. `bench/growth.sh` compares them with the
 //! strings that it expects.
-ghost use Rattle.langtag_scan.specs.Grammar.{◌≡◌, ◌≤◌, length, IsTag};
+ghost use Rattle.std.specs.Prelude.{◌≡◌, ◌≤◌, length};
+ghost use Rattle.langtag_scan.specs.Grammar.{IsTag};
 
 use crate::matching::tag_of;
 use std::alloc::Global;

@@ -1,5 +1,6 @@
 -- The numbers that the functions return.
-use Rattle.langtag_scan.specs.Prelude.{◌≡◌, ◌↔◌, ℕ, ℤ, pos, negsuc, ◌≤◌, ◌*◌, ◌%◌, ◌^◌, List, fold, filter, ◌+◌, ◌-◌, Bool, false, IsTrue, if◌then◌else◌, Option, None, Some, bit_xor, Ordering, Less, Equal, Greater}
+use Rattle.std.specs.Prelude.{◌≡◌, ◌↔◌, ℕ, ℤ, pos, negsuc, ◌≤◌, ◌*◌, ◌%◌, ◌^◌, List, fold, filter, ◌+◌, ◌-◌, Bool, false, IsTrue, if◌then◌else◌, Option, None, Some, bit_xor}
+use Rattle.langtag_scan.specs.Prelude.{Ordering, Less, Equal, Greater}
 use Rattle.langtag_scan.specs.Grammar.{fold_byte, is_digit, IsNormal, IsPrivate, IsIrregular, IsTag}
 use Rattle.langtag_range.specs.Definitions.{is_language_range, is_basic_range}
 

@@ -1,5 +1,6 @@
 -- Where the parts of a tag are in its text (RFC 5646 section 2.1).
-use Rattle.langtag_scan.specs.Grammar.{◌≡◌, ℕ, List, [], unwrap_or, language_part, variants_part, extensions_part, private_use_part, Record}
+use Rattle.std.specs.Prelude.{◌≡◌, ℕ, List, [], unwrap_or}
+use Rattle.langtag_scan.specs.Grammar.{language_part, variants_part, extensions_part, private_use_part, Record}
 use Rattle.langtag_scan.specs.declared.ends.Ends.{Ends}
 use Rattle.langtag_span.specs.Spans.{IsWithin, empty_at, span_between, span_text}
 use Rattle.langtag_c.specs.declared.parse.Parts.{Parts}

@@ -1,6 +1,7 @@
 -- Whether a part of a normal tag, or a keyword of its extension `u`, can be set (RFC 5646 sections 2.2.1 to 2.2.7, RFC
 -- 6067 section 2.1).
-use Rattle.langtag_scan.specs.Grammar.{◌≡◌, ℕ, ◌+◌, List, length, [], None, subtags, IsNormal}
+use Rattle.std.specs.Prelude.{◌≡◌, ℕ, ◌+◌, List, length, [], None}
+use Rattle.langtag_scan.specs.Grammar.{subtags, IsNormal}
 use Rattle.langtag_keyword.specs.Edit.{keyword_error}
 use Rattle.langtag_span.specs.NumberedParts.{IsPartText}
 

@@ -1,5 +1,6 @@
 -- Tags in spans of a text that are prepared for many choices.
-use Rattle.langtag_scan.specs.Prelude.{◌≡◌, ℕ, Bool, true, not, ◌||◌, List, Option, None, Some, map, slice_get, if◌then◌else◌, list_all}
+use Rattle.std.specs.Prelude.{◌≡◌, ℕ, Bool, true, not, ◌||◌, List, Option, None, Some, map, slice_get, if◌then◌else◌}
+use Rattle.langtag_scan.specs.Prelude.{list_all}
 use Rattle.langtag_distance.specs.Prepared.{is_prepared_for}
 use Rattle.langtag_span.specs.Spans.{has_bytes, span_text}
 use Rattle.langtag_span.specs.TagsAt.{tag_at}

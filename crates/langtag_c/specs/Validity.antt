@@ -1,5 +1,6 @@
 -- The fault of an invalid tag: its kind as a number, and its position as a span (RFC 5646 section 2.2.9).
-use Rattle.langtag_scan.specs.Grammar.{ℕ, ◌+◌, ◌==◌, List, length, Option, None, if◌then◌else◌, unwrap_or, ends_of, Record}
+use Rattle.std.specs.Prelude.{ℕ, ◌+◌, ◌==◌, List, length, Option, None, if◌then◌else◌, unwrap_or}
+use Rattle.langtag_scan.specs.Grammar.{ends_of, Record}
 use Rattle.langtag_validity.specs.Fault.{Told, fault_index, language, extlang, second_extlang, script, region, variant, repeated_variant, repeated_singleton}
 use Rattle.langtag_cldr.specs.Definitions.{suggested_language, suggested_region}
 use Rattle.langtag_span.specs.Members.{member_span, singleton_place, variant_place}

@@ -1,5 +1,6 @@
 //! A walk over the elements of an Accept-Language header (RFC 9110 section 12.5.4), without allocating.
-ghost use Rattle.langtag_scan.specs.Prelude.{◌≡◌, ◌↔◌, ◌≤◌, [], is_some, filter_map, list_all};
+ghost use Rattle.std.specs.Prelude.{◌≡◌, ◌↔◌, ◌≤◌, [], is_some, filter_map};
+ghost use Rattle.langtag_scan.specs.Prelude.{list_all};
 ghost use Rattle.langtag_header.specs.AcceptLanguage as spec;
 ghost use Rattle.langtag_range.specs.Definitions.{element, items};
 ghost use Rattle.langtag_header.specs.declared.accept_language_error.ElementPart.TheVariants.{Range, Weight};

@@ -1,5 +1,6 @@
 //! The part of a tag before its extensions and private use.
-ghost use Rattle.langtag_scan.specs.Grammar.{◌≡◌, ◌↔◌, length, spell, IsTag};
+ghost use Rattle.std.specs.Prelude.{◌≡◌, ◌↔◌, length};
+ghost use Rattle.langtag_scan.specs.Grammar.{spell, IsTag};
 ghost use Rattle.langtag.specs.Definitions.{base_record, PartOf};
 
 use langtag_span::tag_of;

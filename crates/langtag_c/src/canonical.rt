@@ -1,5 +1,6 @@
 //! The canonical form of a tag, in the caller's buffer (RFC 5646 section 4.5).
-ghost use Rattle.langtag_scan.specs.Grammar.{◌≡◌, ◌↔◌, ◌<◌, length, true, IsTag};
+ghost use Rattle.std.specs.Prelude.{◌≡◌, ◌↔◌, ◌<◌, length, true};
+ghost use Rattle.langtag_scan.specs.Grammar.{IsTag};
 ghost use Rattle.langtag_canonical.specs.Canonical.{IsCanonicalForm};
 ghost use Rattle.langtag.specs.Definitions.{WritesWhole};
 

@@ -1,5 +1,6 @@
 //! The best tag for a reader, and the distance of two tags (UTS #35, part 1, section 'Language Matching').
-ghost use Rattle.langtag_scan.specs.Grammar.{◌≡◌, ◌↔◌, ◌-◌, ◌^◌, ◌≤◌, length, IsTag};
+ghost use Rattle.std.specs.Prelude.{◌≡◌, ◌↔◌, ◌-◌, ◌^◌, ◌≤◌, length};
+ghost use Rattle.langtag_scan.specs.Grammar.{IsTag};
 ghost use Rattle.langtag_range.specs.Definitions.{wanted_elements};
 ghost use Rattle.langtag_distance.specs.Distance.{distance_of_texts};
 ghost use Rattle.langtag_c.specs.Choice.{IsBest};

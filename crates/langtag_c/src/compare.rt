@@ -1,5 +1,6 @@
 //! Equality, order and hash of bytes, ignoring the case of ASCII letters (RFC 5646 section 2.1.1).
-ghost use Rattle.langtag_scan.specs.Grammar.{◌≡◌, are_alike, case_cmp, fold_text};
+ghost use Rattle.std.specs.Prelude.{◌≡◌};
+ghost use Rattle.langtag_scan.specs.Grammar.{are_alike, case_cmp, fold_text};
 ghost use Rattle.langtag_c.specs.Answers.{sign, fnv};
 
 use langtag_scan::{case_insensitive_cmp, case_insensitive_eq, into_smallcase};

@@ -1,5 +1,6 @@
 //! Whether a tag is written from right to left.
-ghost use Rattle.langtag_scan.specs.Grammar.{◌≡◌, false, IsTag};
+ghost use Rattle.std.specs.Prelude.{◌≡◌, false};
+ghost use Rattle.langtag_scan.specs.Grammar.{IsTag};
 ghost use Rattle.langtag_cldr.specs.Direction as spec;
 
 use langtag_likely::is_right_to_left;

@@ -1,5 +1,6 @@
 //! The canonical form of a tag's extensions, in the caller's buffer (UTS #35, part 1, Annex C).
-ghost use Rattle.langtag_scan.specs.Grammar.{◌≡◌, ◌↔◌, IsTag};
+ghost use Rattle.std.specs.Prelude.{◌≡◌, ◌↔◌};
+ghost use Rattle.langtag_scan.specs.Grammar.{IsTag};
 ghost use Rattle.langtag.specs.Definitions.{WritesWhole};
 ghost use Rattle.langtag_unicode.specs.ExtensionsForm.{IsExtensionsForm};
 

@@ -1,5 +1,6 @@
 //! Where the keywords and attributes of the extension `u` are (RFC 6067 section 2.1).
-ghost use Rattle.langtag_scan.specs.Grammar.{◌≡◌, ◌↔◌, ◌<◌, ◌∷◌, [], None, IsTrue, false, option_map, EachRecord, join, IsNormal};
+ghost use Rattle.std.specs.Prelude.{◌≡◌, ◌↔◌, ◌<◌, ◌∷◌, [], None, IsTrue, false, option_map};
+ghost use Rattle.langtag_scan.specs.Grammar.{EachRecord, join, IsNormal};
 ghost use Rattle.langtag.specs.Definitions.{PartOf};
 ghost use Rattle.langtag_keyword.specs.Keywords as spec;
 ghost use Rattle.langtag_c.specs.Answers.{answered};

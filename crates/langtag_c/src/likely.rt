@@ -1,5 +1,6 @@
 //! The maximal and minimal forms of a tag, in the caller's buffer (UTS #35, part 1, section 'Likely Subtags').
-ghost use Rattle.langtag_scan.specs.Grammar.{◌≡◌, ◌↔◌, IsTag};
+ghost use Rattle.std.specs.Prelude.{◌≡◌, ◌↔◌};
+ghost use Rattle.langtag_scan.specs.Grammar.{IsTag};
 ghost use Rattle.langtag.specs.Definitions.{Writes};
 ghost use Rattle.langtag_likely.specs.Maximal.{IsMaximalForm, IsMinimalForm};
 ghost use Rattle.langtag_cldr.specs.declared.tables.TheConstants.{CLDR_VERSION};

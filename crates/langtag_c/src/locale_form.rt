@@ -1,5 +1,6 @@
 //! Unicode locale identifiers, and their canonical form in the caller's buffer (UTS #35, part 1).
-ghost use Rattle.langtag_scan.specs.Grammar.{◌≡◌, ◌↔◌, ◌<◌, None, Some, false, IsTag};
+ghost use Rattle.std.specs.Prelude.{◌≡◌, ◌↔◌, ◌<◌, None, Some, false};
+ghost use Rattle.langtag_scan.specs.Grammar.{IsTag};
 ghost use Rattle.langtag.specs.Definitions.{PartOf, WritesWhole};
 ghost use Rattle.langtag_locale.specs.Locale.{is_locale_record};
 ghost use Rattle.langtag_locale.specs.LocaleForm.{IsWholeForm};

@@ -1,7 +1,8 @@
 //! Whether bytes are a tag, of which kind, and where its parts are.
 #![tactic(auto, using(crate::proofs::KindLaws::parse_laws))]
 
-ghost use Rattle.langtag_scan.specs.Grammar.{◌≡◌, ◌≤◌, ℕ, List, length, IfSome, MatchOption, HasEnds, ends_of, IsFoundOf, finding, normal_ends, AreInOrder, EachRecord, IsTag, IsNormal, IsPrivate};
+ghost use Rattle.std.specs.Prelude.{◌≡◌, ◌≤◌, ℕ, List, length, IfSome, MatchOption};
+ghost use Rattle.langtag_scan.specs.Grammar.{HasEnds, ends_of, IsFoundOf, finding, normal_ends, AreInOrder, EachRecord, IsTag, IsNormal, IsPrivate};
 ghost use Rattle.langtag_c.specs.Answers.{IsKind};
 ghost use Rattle.langtag_c.specs.PartSpans.{AreWithin, ArePartsOf, spans_at, no_parts, private_alone};
 

@@ -1,5 +1,6 @@
 //! The recommended case (RFC 5646 section 2.1.1).
-ghost use Rattle.langtag_scan.specs.Grammar.{◌≡◌, IsSpelledAlike, Alike, EachRecord};
+ghost use Rattle.std.specs.Prelude.{◌≡◌};
+ghost use Rattle.langtag_scan.specs.Grammar.{IsSpelledAlike, Alike, EachRecord};
 ghost use Rattle.langtag.specs.Definitions.{recommended_text, AreOfOneKind};
 
 use langtag_case::make_recommended_case;

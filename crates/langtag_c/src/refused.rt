@@ -1,5 +1,6 @@
 //! Where a string that is not a tag is wrong (RFC 5646 section 2.1).
-ghost use Rattle.langtag_scan.specs.Grammar.{◌≡◌, ◌↔◌, ◌⊎◌, ◌≤◌, ◌<◌, length, IsTag};
+ghost use Rattle.std.specs.Prelude.{◌≡◌, ◌↔◌, ◌⊎◌, ◌≤◌, ◌<◌, length};
+ghost use Rattle.langtag_scan.specs.Grammar.{IsTag};
 ghost use Rattle.langtag.specs.Definitions.{AlphanumericWithin, EndsTooSoon, IsFirstOther, IsRefusedSubtag};
 ghost use Rattle.langtag_span.specs.Spans.{empty_at, end_of};
 

@@ -1,5 +1,6 @@
 //! Variants and singletons that occur twice in a tag (RFC 5646 section 2.2.9).
-ghost use Rattle.langtag_scan.specs.Grammar.{◌≡◌, Some, is_some, map, unwrap_or, are_alike, EachRecord, IsNormal};
+ghost use Rattle.std.specs.Prelude.{◌≡◌, Some, is_some, map, unwrap_or};
+ghost use Rattle.langtag_scan.specs.Grammar.{are_alike, EachRecord, IsNormal};
 ghost use Rattle.langtag.specs.Definitions.{are_alike_bytes, repeat, repeat_index, normal_lang_tag_text};
 ghost use Rattle.langtag_c.specs.Answers.{repeat_flags};
 ghost use Rattle.langtag_span.specs.Members.{member_span, singleton_place, variant_place};

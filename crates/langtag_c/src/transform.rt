@@ -1,5 +1,6 @@
 //! Where the language and the fields of the extension `t` are (RFC 6497 section 2.2).
-ghost use Rattle.langtag_scan.specs.Grammar.{◌≡◌, ◌∷◌, [], None, IsTrue, false, option_map, EachRecord, join, IsNormal};
+ghost use Rattle.std.specs.Prelude.{◌≡◌, ◌∷◌, [], None, IsTrue, false, option_map};
+ghost use Rattle.langtag_scan.specs.Grammar.{EachRecord, join, IsNormal};
 ghost use Rattle.langtag.specs.Definitions.{PartOf, find_extension};
 ghost use Rattle.langtag_keyword.specs.Keywords as spec;
 ghost use Rattle.langtag_keyword.specs.Transform.{is_field_key};

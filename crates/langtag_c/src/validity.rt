@@ -1,5 +1,6 @@
 //! Whether a tag is valid by the registry (RFC 5646 section 2.2.9).
-ghost use Rattle.langtag_scan.specs.Grammar.{◌≡◌, ◌↔◌, ◌≤◌, Some, length, slice_get, EachRecord, IsTag};
+ghost use Rattle.std.specs.Prelude.{◌≡◌, ◌↔◌, ◌≤◌, Some, length, slice_get};
+ghost use Rattle.langtag_scan.specs.Grammar.{EachRecord, IsTag};
 ghost use Rattle.langtag.specs.Definitions.{normal_lang_tag_text};
 ghost use Rattle.langtag_validity.specs.Fault.{Told, faults, fault_index, told};
 ghost use Rattle.langtag_fields.specs.Valid.{IsValid};

@@ -1,5 +1,6 @@
 //! Walks over the subtags and the extensions of a part, without allocating.
-ghost use Rattle.langtag_scan.specs.Grammar.{◌≡◌, ◌↔◌, ◌∷◌, List, IsTrue, false, Extension};
+ghost use Rattle.std.specs.Prelude.{◌≡◌, ◌↔◌, ◌∷◌, List, IsTrue, false};
+ghost use Rattle.langtag_scan.specs.Grammar.{Extension};
 ghost use Rattle.langtag.specs.Definitions.{extension_spelling, SpellsExtensions};
 ghost use Rattle.langtag_span.specs.Spans.{HasBytes, span_text};
 ghost use Rattle.langtag_span.specs.Walks.{TakesSubtag, TakesExtension};

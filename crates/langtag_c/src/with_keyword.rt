@@ -1,5 +1,6 @@
 //! A tag with a keyword of the extension `u` set or removed, written to the caller's buffer (RFC 6067 section 2.1).
-ghost use Rattle.langtag_scan.specs.Grammar.{◌≡◌, ◌↔◌, ◌<◌, ◌≤◌, ◌^◌, None, Some, length, subtags};
+ghost use Rattle.std.specs.Prelude.{◌≡◌, ◌↔◌, ◌<◌, ◌≤◌, ◌^◌, None, Some, length};
+ghost use Rattle.langtag_scan.specs.Grammar.{subtags};
 ghost use Rattle.langtag.specs.Definitions.{IsForm, Writes};
 ghost use Rattle.langtag_keyword.specs.Edit.{edited_record};
 ghost use Rattle.langtag_c.specs.Setting.{CanRemoveKeyword, CanSetKeyword, keyword_bound};

@@ -1,5 +1,6 @@
 -- The canonical form of a tag (RFC 5646 section 4.5).
-use Rattle.langtag_scan.specs.Prelude.{◌≡◌, ℕ, ◌==◌, ltb, ◌⊎◌, Bool, List, [], ◌∷◌, length, map, find, Option, None, Some, if◌then◌else◌, unwrap_or, option_map, option_map_or}
+use Rattle.std.specs.Prelude.{◌≡◌, ℕ, ◌==◌, ltb, ◌⊎◌, Bool, List, [], ◌∷◌, length, map, find, Option, None, Some, if◌then◌else◌, unwrap_or, option_map}
+use Rattle.langtag_scan.specs.Prelude.{option_map_or}
 use Rattle.langtag_scan.specs.Grammar.{are_alike, fold_byte, Extension, Record, EachRecord, spell, IsNormal}
 use Rattle.langtag.specs.Definitions.{IsGrandfathered}
 use Rattle.langtag_fields.specs.Fields.{preferred_language, preferred_region, preferred_variant, preferred_tag, extlang_prefix}

@@ -1,5 +1,6 @@
 -- Laws of the canonical form of a tag (RFC 5646 section 4.5).
-use Rattle.langtag_scan.specs.Grammar.{◌≡◌, ◌↔◌, ℕ, List, [], None, codes, Alike, are_alike, EachRecord}
+use Rattle.std.specs.Prelude.{◌≡◌, ◌↔◌, ℕ, List, [], None, codes}
+use Rattle.langtag_scan.specs.Grammar.{Alike, are_alike, EachRecord}
 use Rattle.langtag.specs.Definitions.{repeat}
 use Rattle.langtag_canonical.specs.Canonical.{canonical_variants, IsCanonicalForm}
 use Rattle.langtag_fields.specs.Valid.{IsValid}

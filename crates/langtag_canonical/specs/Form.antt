@@ -1,5 +1,6 @@
 -- How the canonical form of a tag is made. Only contracts of private functions cite this page.
-use Rattle.langtag_scan.specs.Grammar.{ℕ, List, Record, Spells}
+use Rattle.std.specs.Prelude.{ℕ, List}
+use Rattle.langtag_scan.specs.Grammar.{Record, Spells}
 use Rattle.langtag.specs.Definitions.{lang_tag_text, normal_lang_tag_text}
 use Rattle.langtag_canonical.specs.Canonical.{IsCanonicalForm, canonical_text}
 use Rattle.langtag_canonical.specs.declared.form.Form.{Form}

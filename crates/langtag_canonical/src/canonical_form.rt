@@ -1,5 +1,6 @@
 //! The canonical form of a tag (RFC 5646 section 4.5).
-ghost use Rattle.langtag_scan.specs.Grammar.{◌≡◌, ◌↔◌, ℕ, ◌<◌, List, length, unwrap_or, true, IfOk, Alike, EachRecord};
+ghost use Rattle.std.specs.Prelude.{◌≡◌, ◌↔◌, ℕ, ◌<◌, List, length, unwrap_or, true, IfOk};
+ghost use Rattle.langtag_scan.specs.Grammar.{Alike, EachRecord};
 ghost use Rattle.langtag.specs.Definitions.{lang_tag_text, lang_tag_buf_text, normal_lang_tag_text, WritesWhole};
 ghost use Rattle.langtag_canonical.specs.CanonicalLaws.{IsOnlyCanonicalForm, IsAlikeCanonicalForm, IsValidForm, HasNoExtlang};
 ghost use Rattle.langtag_canonical.specs.Canonical.{IsCanonicalForm, canonical_text};

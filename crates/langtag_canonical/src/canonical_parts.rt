@@ -1,5 +1,6 @@
 //! The canonical forms of a tag's parts (RFC 5646 section 4.5), written to an output in their order.
-ghost use Rattle.langtag_scan.specs.Grammar.{◌≡◌, ◌∷◌, [], List, map, flat_map, option_map, fold_text, subtags};
+ghost use Rattle.std.specs.Prelude.{◌≡◌, ◌∷◌, [], List, map, flat_map, option_map};
+ghost use Rattle.langtag_scan.specs.Grammar.{fold_text, subtags};
 ghost use Rattle.langtag_scan.specs.Record as model;
 ghost use Rattle.langtag.specs.Definitions.{EachLanguageSpelling, language_text, extended_lang_tag_text, script_text, region_text, variants_text, SpellsExtensions, extension_spelling, extensions_text, normal_lang_tag_text, of_singleton, Pushes, IsCounted};
 ghost use Rattle.langtag_canonical.specs.Canonical.{canonical_record, canonical_language, canonical_primary, canonical_extended, canonical_region, canonical_variants, in_order};

@@ -1,5 +1,6 @@
 //! Whether variants are their own canonical forms (RFC 5646 section 4.5).
-ghost use Rattle.langtag_scan.specs.Grammar.{◌≡◌, ◌↔◌, true, subtags};
+ghost use Rattle.std.specs.Prelude.{◌≡◌, ◌↔◌, true};
+ghost use Rattle.langtag_scan.specs.Grammar.{subtags};
 ghost use Rattle.langtag.specs.Definitions.{variants_text};
 ghost use Rattle.langtag_canonical.specs.Canonical.{canonical_variants};
 

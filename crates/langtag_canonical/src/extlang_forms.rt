@@ -1,5 +1,6 @@
 //! The extlang form of a tag (RFC 5646 section 4.5).
-ghost use Rattle.langtag_scan.specs.Grammar.{◌≡◌, IsNone, IfSome, IfOk, string_bytes, EachRecord, Spells};
+ghost use Rattle.std.specs.Prelude.{◌≡◌, IsNone, IfSome, IfOk, string_bytes};
+ghost use Rattle.langtag_scan.specs.Grammar.{EachRecord, Spells};
 ghost use Rattle.langtag.specs.Definitions.{EachLanguageSpelling, IsLanguage, SpellsLanguage, language_text, lang_tag_text, lang_tag_buf_text, normal_lang_tag_buf_text};
 ghost use Rattle.langtag_canonical.specs.Canonical as form;
 ghost use Rattle.langtag_canonical.specs.Canonical.{IsExtlangForm, extlang_primary, extlang_extended, extlang_record};

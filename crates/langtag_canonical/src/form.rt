@@ -1,5 +1,6 @@
 //! How the canonical form of a tag is made (RFC 5646 section 4.5).
-ghost use Rattle.langtag_scan.specs.Grammar.{◌≡◌, ◌↔◌, true, option_map, EachRecord};
+ghost use Rattle.std.specs.Prelude.{◌≡◌, ◌↔◌, true, option_map};
+ghost use Rattle.langtag_scan.specs.Grammar.{EachRecord};
 ghost use Rattle.langtag.specs.Definitions.{region_text, lang_tag_text, normal_lang_tag_text};
 ghost use Rattle.langtag_canonical.specs.Canonical.{IsCanonicalForm, canonical_record, canonical_region};
 ghost use Rattle.langtag_canonical.specs.Form.{IsCanonicalAs};

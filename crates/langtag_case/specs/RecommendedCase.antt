@@ -1,5 +1,6 @@
 -- The case that RFC 5646 section 2.1.1 recommends for the letters of a tag. Case does not change what a tag means.
-use Rattle.langtag_scan.specs.Grammar.{◌==◌, ℕ, ◌||◌, List, [], ◌∷◌, ◌++◌, if◌then◌else◌, length, map, option_map, to_ascii_uppercase, list_any, fold_text, fold_extension, fold_private_use, is_single, Record, join, segments}
+use Rattle.std.specs.Prelude.{◌==◌, ℕ, ◌||◌, List, [], ◌∷◌, ◌++◌, if◌then◌else◌, length, map, option_map}
+use Rattle.langtag_scan.specs.Grammar.{to_ascii_uppercase, list_any, fold_text, fold_extension, fold_private_use, is_single, Record, join, segments}
 
 -- the text in uppercase
 abbrev pub capital_text : List ℕ → List ℕ

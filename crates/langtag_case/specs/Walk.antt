@@ -1,7 +1,8 @@
 -- How a text in its recommended case is written piece by piece. Only the view of `RecommendedBytes` and contracts of
 -- private functions cite this page. The contract of `RecommendedBytes::new` says that the pieces make up the
 -- recommended text.
-use Rattle.langtag_scan.specs.Grammar.{◌≡◌, ◌≤◌, ◌==◌, ◌-◌, ℕ, List, [], ◌∷◌, ◌++◌, if◌then◌else◌, length, map, take, drop, to_ascii_uppercase, fold_byte, fold_text, is_single, join, segments}
+use Rattle.std.specs.Prelude.{◌≡◌, ◌≤◌, ◌==◌, ◌-◌, ℕ, List, [], ◌∷◌, ◌++◌, if◌then◌else◌, length, map, take, drop}
+use Rattle.langtag_scan.specs.Grammar.{to_ascii_uppercase, fold_byte, fold_text, is_single, join, segments}
 use Rattle.langtag_case.specs.RecommendedCase.{by_length}
 
 -- the text with the letters among its first `capitals` bytes in uppercase, and all other letters in lowercase

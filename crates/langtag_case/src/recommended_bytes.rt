@@ -1,5 +1,6 @@
 //! The bytes of a string in its recommended case, one by one.
-ghost use Rattle.langtag_scan.specs.Prelude.{◌≡◌, ◌++◌, ℕ, List, YieldsFirst, item_count};
+ghost use Rattle.std.specs.Prelude.{◌≡◌, ◌++◌, ℕ, List};
+ghost use Rattle.langtag_scan.specs.Prelude.{YieldsFirst, item_count};
 ghost use Rattle.langtag_case.specs.RecommendedCase.{recommended_text};
 ghost use Rattle.langtag_case.specs.Walk.{after_piece, cased};
 

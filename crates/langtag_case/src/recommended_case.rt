@@ -1,5 +1,6 @@
 //! Changes a string to its recommended case, or tests whether it has that case.
-ghost use Rattle.langtag_scan.specs.Grammar.{◌≡◌, ◌↔◌, ℕ, List, Some, IsTrue, ◌≤◌, length, slice_get, take, Alike, fold_text, Record, IsWellFormed, spell, segments};
+ghost use Rattle.std.specs.Prelude.{◌≡◌, ◌↔◌, ℕ, List, Some, IsTrue, ◌≤◌, length, slice_get, take};
+ghost use Rattle.langtag_scan.specs.Grammar.{Alike, fold_text, Record, IsWellFormed, spell, segments};
 ghost use Rattle.langtag_case.specs.RecommendedCase.{recommended_record, recommended_subtag, recommended_text};
 ghost use Rattle.langtag_case.specs.Walk.{cased};
 

@@ -1,5 +1,6 @@
 -- The candidate that is found while the choice is made. Only contracts of private functions cite this page.
-use Rattle.langtag_scan.specs.Prelude.{◌≡◌, ◌⊎◌, ◌==◌, ◌&&◌, ℕ, ◌<◌, ◌-◌, Bool, true, false, not, nat_le, List, Option, Some, None, MatchOption, length, slice_get, slice_index_or, ForSome, option_map_or}
+use Rattle.std.specs.Prelude.{◌≡◌, ◌⊎◌, ◌==◌, ◌&&◌, ℕ, ◌<◌, ◌-◌, Bool, true, false, not, nat_le, List, Option, Some, None, MatchOption, length, slice_get, slice_index_or}
+use Rattle.langtag_scan.specs.Prelude.{ForSome, option_map_or}
 use Rattle.langtag_range.specs.Definitions.{Element, basic_text}
 use Rattle.langtag_distance.specs.Candidates.{IsNotAfter, Keeps, rank_of}
 use Rattle.langtag_distance.specs.Serves.{IsAtMost, rank, serves}

@@ -1,5 +1,6 @@
 //! Choosing the best tag for a reader.
-ghost use Rattle.langtag_scan.specs.Prelude.{◌≡◌, ◌<◌, IsTrue, length, option_map, list_any};
+ghost use Rattle.std.specs.Prelude.{◌≡◌, ◌<◌, IsTrue, length, option_map};
+ghost use Rattle.langtag_scan.specs.Prelude.{list_any};
 ghost use Rattle.langtag_range.specs.Definitions.{basic_text, wanted_elements};
 ghost use Rattle.langtag_header.specs.Text.{accept_language_ranges};
 ghost use Rattle.langtag_choice.specs.Best as spec;

@@ -1,5 +1,6 @@
 //! Making the choice range by range. Ranges of lower weight are skipped if a tag is near a range of higher weight.
-ghost use Rattle.langtag_scan.specs.Prelude.{◌≡◌, IsTrue, None, true, list_any};
+ghost use Rattle.std.specs.Prelude.{◌≡◌, IsTrue, None, true};
+ghost use Rattle.langtag_scan.specs.Prelude.{list_any};
 ghost use Rattle.langtag_range.specs.Definitions.{listed_element, is_language_range, hyphened};
 ghost use Rattle.langtag_distance.specs.Serves.{is_excluded};
 ghost use Rattle.langtag_choice.specs.Found.{Tries, TriesRange};

@@ -1,5 +1,6 @@
 //! The entry of a list as the choice reads it, and the candidate after it was tried.
-ghost use Rattle.langtag_scan.specs.Prelude.{◌≡◌, ◌<◌, ◌==◌, IsTrue, None, length, slice_index_or, ForSome};
+ghost use Rattle.std.specs.Prelude.{◌≡◌, ◌<◌, ◌==◌, IsTrue, None, length, slice_index_or};
+ghost use Rattle.langtag_scan.specs.Prelude.{ForSome};
 ghost use Rattle.langtag_choice.specs.Found.{TriesRange};
 ghost use Rattle.langtag_distance.specs.Near.{wish_element};
 ghost use Rattle.langtag_distance.specs.KnownTexts.{is_known, known_text};

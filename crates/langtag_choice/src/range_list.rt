@@ -1,5 +1,6 @@
 //! The lists of language ranges for which a tag can be chosen.
-ghost use Rattle.langtag_scan.specs.Prelude.{◌≡◌, ◌<◌, ◌^◌, ◌∷◌, [], IfSome, IsTrue, List, length, option_map_or};
+ghost use Rattle.std.specs.Prelude.{◌≡◌, ◌<◌, ◌^◌, ◌∷◌, [], IfSome, IsTrue, List, length};
+ghost use Rattle.langtag_scan.specs.Prelude.{option_map_or};
 ghost use Rattle.langtag_range.specs.Definitions.{Element, listed_element, is_language_range, hyphened, wanted_elements};
 ghost use Rattle.langtag_choice.specs.ListTexts.{ordered_elements, weighted_elements};
 

@@ -1,5 +1,6 @@
 //! The lists of tags from which one can be chosen.
-ghost use Rattle.langtag_scan.specs.Prelude.{◌≡◌, ◌<◌, ℕ, IsTrue, List, Option, None, length, slice_index_or, ForSome, option_map};
+ghost use Rattle.std.specs.Prelude.{◌≡◌, ◌<◌, ℕ, IsTrue, List, Option, None, length, slice_index_or, option_map};
+ghost use Rattle.langtag_scan.specs.Prelude.{ForSome};
 ghost use Rattle.langtag.specs.Definitions.{lang_tag_text};
 ghost use Rattle.langtag_choice.specs.ListTexts.{tag_texts};
 ghost use Rattle.langtag_distance.specs.Prepared.{is_prepared_for};

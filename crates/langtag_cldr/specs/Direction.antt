@@ -1,5 +1,6 @@
 -- Which tags are written from right to left. The script of a tag's matching form decides.
-use Rattle.langtag_scan.specs.Grammar.{ℕ, Bool, false, List, list_any, option_map_or, are_alike}
+use Rattle.std.specs.Prelude.{ℕ, Bool, false, List}
+use Rattle.langtag_scan.specs.Grammar.{list_any, option_map_or, are_alike}
 use Rattle.langtag_cldr.specs.Matching.{matching_form}
 use Rattle.langtag_cldr.specs.RightToLeft.{right_to_left_scripts}
 

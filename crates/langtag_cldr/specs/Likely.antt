@@ -1,6 +1,7 @@
 -- Likely subtags (UTS #35, part 1, section 'Likely Subtags'): the most likely script and region of a language, and the
 -- most likely language for a script or a region.
-use Rattle.langtag_scan.specs.Grammar.{ℕ, ◌&&◌, Bool, List, [], ◌∷◌, Option, None, Some, codes, if◌then◌else◌, option_map, are_alike}
+use Rattle.std.specs.Prelude.{ℕ, ◌&&◌, Bool, List, [], ◌∷◌, Option, None, Some, codes, if◌then◌else◌, option_map}
+use Rattle.langtag_scan.specs.Grammar.{are_alike}
 use Rattle.langtag_tables.specs.Fields.{Fields}
 
 -- a row of the data: the fields on the left become the fields on the right

@@ -1,5 +1,6 @@
 -- Adding and removing the likely subtags of fields (UTS #35, part 1, section 'Likely Subtags').
-use Rattle.langtag_scan.specs.Prelude.{Bool, false, Option, if◌then◌else◌, option_map, option_map_or}
+use Rattle.std.specs.Prelude.{Bool, false, Option, if◌then◌else◌, option_map}
+use Rattle.langtag_scan.specs.Prelude.{option_map_or}
 use Rattle.langtag_tables.specs.Fields.{Fields}
 use Rattle.langtag_cldr.specs.Likely.{known_fields, add_likely, filled, are_alike_fields, language_alone, without_script, without_region}
 use Rattle.langtag_cldr.specs.LikelySubtags.{likely_subtags}

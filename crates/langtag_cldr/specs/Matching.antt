@@ -1,6 +1,7 @@
 -- The matching form of a text: the fields by which two tags are compared (UTS #35, part 1, section 'Language
 -- Matching'). Deprecated subtags are replaced, and then likely subtags are added.
-use Rattle.langtag_scan.specs.Grammar.{ℕ, ◌==◌, List, [], length, Option, None, codes, if◌then◌else◌, option_map, option_map_or, are_alike}
+use Rattle.std.specs.Prelude.{ℕ, ◌==◌, List, [], length, Option, None, codes, if◌then◌else◌, option_map}
+use Rattle.langtag_scan.specs.Grammar.{option_map_or, are_alike}
 use Rattle.langtag_range.specs.Definitions.{basic_text, hyphened}
 use Rattle.langtag_cldr.specs.Likely.{likely_for, or_other, language_alone, known, add_likely}
 use Rattle.langtag_tables.specs.Fields.{Fields}

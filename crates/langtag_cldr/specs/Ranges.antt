@@ -1,5 +1,6 @@
 -- The rests of a range and of a text after their common beginning. Only contracts of private functions cite this page.
-use Rattle.langtag_scan.specs.Grammar.{◌≡◌, ℕ, ◌==◌, false, List, [], ◌∷◌, if◌then◌else◌, fold_byte}
+use Rattle.std.specs.Prelude.{◌≡◌, ℕ, ◌==◌, false, List, [], ◌∷◌, if◌then◌else◌}
+use Rattle.langtag_scan.specs.Grammar.{fold_byte}
 use Rattle.langtag_range.specs.Definitions.{begins_with_wildcard, hyphened}
 
 -- two texts without their common beginning, ignoring case

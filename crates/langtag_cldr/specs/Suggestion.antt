@@ -1,6 +1,7 @@
 -- The code that was probably meant by a language or a region that is not registered. It is the replacement by CLDR's
 -- aliases, if the replacement is one subtag (UTS #35, part 1, annex C, 'LocaleId Canonicalization').
-use Rattle.langtag_scan.specs.Grammar.{ℕ, ◌==◌, ◌&&◌, List, [], length, Option, None, Some, if◌then◌else◌, option_map, option_and_then, is_primary, is_region}
+use Rattle.std.specs.Prelude.{ℕ, ◌==◌, ◌&&◌, List, [], length, Option, None, Some, if◌then◌else◌, option_map, option_and_then}
+use Rattle.langtag_scan.specs.Grammar.{is_primary, is_region}
 use Rattle.langtag_cldr.specs.Likely.{likely_for}
 use Rattle.langtag_tables.specs.Fields.{Fields}
 use Rattle.langtag_cldr.specs.Aliases.{language_aliases, region_replacements}

@@ -1,5 +1,6 @@
 -- The fields of a text, which need not be a tag: the language, the script and the region with which it begins.
-use Rattle.langtag_scan.specs.Grammar.{ℕ, Bool, ◌==◌, ◌||◌, not, List, [], ◌∷◌, filter, length, Option, None, Some, codes, if◌then◌else◌, slice_split, is_primary, is_extended, is_script, is_region, subtags}
+use Rattle.std.specs.Prelude.{ℕ, Bool, ◌==◌, ◌||◌, not, List, [], ◌∷◌, filter, length, Option, None, Some, codes, if◌then◌else◌}
+use Rattle.langtag_scan.specs.Grammar.{slice_split, is_primary, is_extended, is_script, is_region, subtags}
 use Rattle.langtag_range.specs.Definitions.{is_star, is_separator}
 use Rattle.langtag_cldr.specs.Likely.{known}
 use Rattle.langtag_tables.specs.Fields.{Fields}

@@ -1,5 +1,6 @@
 //! The names of languages, scripts and regions, by their positions in the tables.
-ghost use Rattle.langtag_scan.specs.Prelude.{◌≡◌, ◌<◌, ◌≤◌, IsTrue, [], length, map, nat_lt, slice_index_or, list_all};
+ghost use Rattle.std.specs.Prelude.{◌≡◌, ◌<◌, ◌≤◌, IsTrue, [], length, map, nat_lt, slice_index_or};
+ghost use Rattle.langtag_scan.specs.Prelude.{list_all};
 ghost use Rattle.langtag_cldr.specs.Definitions.{name_at, name_length, script_codes};
 
 use crate::tables;

@@ -1,5 +1,6 @@
 //! Language ranges as a lookup reads them: `_` is read as `-`, and each `-*` is left out.
-ghost use Rattle.langtag_scan.specs.Grammar.{◌≡◌, ◌≤◌, IsTrue, length, are_alike};
+ghost use Rattle.std.specs.Prelude.{◌≡◌, ◌≤◌, IsTrue, length};
+ghost use Rattle.langtag_scan.specs.Grammar.{are_alike};
 ghost use Rattle.langtag_range.specs.Definitions.{basic_text, begins_with_wildcard, hyphened, hyphened_byte};
 ghost use Rattle.langtag_cldr.specs.Ranges as spec;
 

@@ -1,5 +1,6 @@
 //! The fields of a string that need not be a tag.
-ghost use Rattle.langtag_scan.specs.Prelude.{◌≡◌, ◌∷◌, [], IsTrue, option_map, option_map_or};
+ghost use Rattle.std.specs.Prelude.{◌≡◌, ◌∷◌, [], IsTrue, option_map};
+ghost use Rattle.langtag_scan.specs.Prelude.{option_map_or};
 ghost use Rattle.langtag_range.specs.Definitions.{hyphened};
 ghost use Rattle.langtag_tables.specs.FieldClasses.{is_language_field, is_script_field, is_region_field};
 ghost use Rattle.langtag_cldr.specs.TextFields as spec;

@@ -1,5 +1,6 @@
 -- The candidate for a range, which one more tag may replace. Only contracts of private functions cite this page.
-use Rattle.langtag_scan.specs.Prelude.{◌≡◌, ◌⊎◌, ◌-◌, ℕ, true, List, ◌∷◌, [], Option, Some, None, length, option_map, ForSome}
+use Rattle.std.specs.Prelude.{◌≡◌, ◌⊎◌, ◌-◌, ℕ, true, List, ◌∷◌, [], Option, Some, None, length, option_map}
+use Rattle.langtag_scan.specs.Prelude.{ForSome}
 use Rattle.langtag_range.specs.Definitions.{basic_text}
 use Rattle.langtag_cldr.specs.Definitions.{field_texts}
 use Rattle.langtag_distance.specs.KnownTexts.{is_known, known_text}

@@ -1,6 +1,7 @@
 -- The distance from a desired tag to a supported tag (UTS #35, part 1, section 'Language Matching'). It is the sum of
 -- the distances of the languages, the scripts and the regions of their matching forms.
-use Rattle.langtag_scan.specs.Grammar.{◌≡◌, ℕ, ◌+◌, ◌==◌, Bool, false, ◌&&◌, ◌||◌, not, List, [], ◌∷◌, Option, None, Some, codes, if◌then◌else◌, Alike, are_alike}
+use Rattle.std.specs.Prelude.{◌≡◌, ℕ, ◌+◌, ◌==◌, Bool, false, ◌&&◌, ◌||◌, not, List, [], ◌∷◌, Option, None, Some, codes, if◌then◌else◌}
+use Rattle.langtag_scan.specs.Grammar.{Alike, are_alike}
 use Rattle.langtag_cldr.specs.Definitions.{are_alike_fields, language_alone, without_region, matching_form}
 use Rattle.langtag_tables.specs.Fields.{Fields}
 use Rattle.langtag_distance.specs.MatchingData.{language_rules, script_rules, maghreb_inside, maghreb_partly, en_us_inside, en_us_partly, americas_inside, americas_partly, cnsar_inside, cnsar_partly}

@@ -1,5 +1,6 @@
 -- What the first letters of a tag show.
-use Rattle.langtag_scan.specs.Grammar.{◌≡◌, ℕ, ◌==◌, ◌||◌, Bool, true, false, not, List, [], ◌∷◌, length, Option, Some, None, after_first, before_first, ForSome, fold_byte, is_extended, is_primary}
+use Rattle.std.specs.Prelude.{◌≡◌, ℕ, ◌==◌, ◌||◌, Bool, true, false, not, List, [], ◌∷◌, length, Option, Some, None}
+use Rattle.langtag_scan.specs.Grammar.{after_first, before_first, ForSome, fold_byte, is_extended, is_primary}
 use Rattle.langtag_distance.specs.NearLanguages.{HasNumber}
 use Rattle.langtag_cldr.specs.Definitions.{matching_form}
 use Rattle.langtag_range.specs.Definitions.{is_separator}

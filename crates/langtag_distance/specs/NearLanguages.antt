@@ -1,5 +1,6 @@
 -- The languages that are near another, by their numbers. Only contracts of private functions cite this page.
-use Rattle.langtag_scan.specs.Grammar.{◌≡◌, ◌<◌, ◌+◌, ℕ, ◌==◌, Bool, true, false, List, map, Option, None, Some, if◌then◌else◌, list_any, are_alike, are_letters}
+use Rattle.std.specs.Prelude.{◌≡◌, ◌<◌, ◌+◌, ℕ, ◌==◌, Bool, true, false, List, map, Option, None, Some, if◌then◌else◌}
+use Rattle.langtag_scan.specs.Grammar.{list_any, are_alike, are_letters}
 use Rattle.langtag_tables.specs.Fields.{Fields}
 use Rattle.langtag_distance.specs.Distance.{language_distance}
 use Rattle.langtag_distance.specs.MatchingData.{language_rules}

@@ -1,5 +1,6 @@
 -- What decides among tags at the same distance from a range.
-use Rattle.langtag_scan.specs.Grammar.{ℕ, Bool, ◌==◌, ◌&&◌, ◌||◌, not, if◌then◌else◌, List, codes, length, take, drop, Option, option_map_or, are_alike}
+use Rattle.std.specs.Prelude.{ℕ, Bool, ◌==◌, ◌&&◌, ◌||◌, not, if◌then◌else◌, List, codes, length, take, drop, Option}
+use Rattle.langtag_scan.specs.Grammar.{option_map_or, are_alike}
 use Rattle.langtag_cldr.specs.Definitions.{without_region, matching_form, suffices}
 use Rattle.langtag_tables.specs.Fields.{Fields}
 use Rattle.langtag_range.specs.Definitions.{ends_subtag, ends_in_single}

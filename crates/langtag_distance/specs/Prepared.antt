@@ -1,5 +1,6 @@
 -- What is kept of a tag that is prepared.
-use Rattle.langtag_scan.specs.Grammar.{ℕ, ◌==◌, ◌&&◌, ◌||◌, nat_le, Bool, List, length, Option, Some, None, slice_index_or, bytes_eq, are_letters}
+use Rattle.std.specs.Prelude.{ℕ, ◌==◌, ◌&&◌, ◌||◌, nat_le, Bool, List, length, Option, Some, None, slice_index_or, bytes_eq}
+use Rattle.langtag_scan.specs.Grammar.{are_letters}
 use Rattle.langtag_tables.specs.Fields.{Fields}
 use Rattle.langtag_distance.specs.FirstLetters.{first_two}
 use Rattle.langtag_distance.specs.declared.prepared_form.PreparedForm.{PreparedForm}

@@ -1,5 +1,6 @@
 -- Which tags may serve a range of a reader, and which serves better.
-use Rattle.langtag_scan.specs.Prelude.{◌≡◌, ℕ, ◌-◌, Bool, false, not, ◌==◌, ◌&&◌, ◌||◌, if◌then◌else◌, List, [], ◌∷◌, length, nat_lt, slice_cmp, is_gt, nat_cmp}
+use Rattle.std.specs.Prelude.{◌≡◌, ℕ, ◌-◌, Bool, false, not, ◌==◌, ◌&&◌, ◌||◌, if◌then◌else◌, List, [], ◌∷◌, length, nat_lt}
+use Rattle.langtag_scan.specs.Prelude.{slice_cmp, is_gt, nat_cmp}
 use Rattle.langtag_distance.specs.Distance.{distance_of_texts}
 use Rattle.langtag_distance.specs.Nearness.{kept, unlikely}
 use Rattle.langtag_range.specs.Definitions.{Element, is_star}

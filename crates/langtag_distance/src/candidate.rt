@@ -1,5 +1,6 @@
 //! A tag that may serve a range.
-ghost use Rattle.langtag_scan.specs.Prelude.{◌≡◌, IsTrue, option_map, ◌≤◌, ℕ, ◌==◌, ◌&&◌, ◌||◌, nat_lt, ◌-◌, drop, length, slice_cmp, is_lt, nat_cmp};
+ghost use Rattle.std.specs.Prelude.{◌≡◌, IsTrue, option_map, ◌≤◌, ℕ, ◌==◌, ◌&&◌, ◌||◌, nat_lt, ◌-◌, drop, length};
+ghost use Rattle.langtag_scan.specs.Prelude.{slice_cmp, is_lt, nat_cmp};
 ghost use Rattle.langtag_range.specs.Definitions.{is_language_range, hyphened, basic_text};
 
 use crate::likely_region::unlikely;

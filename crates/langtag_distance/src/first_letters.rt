@@ -1,5 +1,6 @@
 //! What the first letters of a tag show of its language.
-ghost use Rattle.langtag_scan.specs.Grammar.{◌≡◌, ◌<◌, IsTrue, false, before_first, ForSome, is_extended, is_letter};
+ghost use Rattle.std.specs.Prelude.{◌≡◌, ◌<◌, IsTrue, false};
+ghost use Rattle.langtag_scan.specs.Grammar.{before_first, ForSome, is_extended, is_letter};
 ghost use Rattle.langtag_range.specs.Definitions.{is_separator};
 ghost use Rattle.langtag_distance.specs.FirstLetters as spec;
 ghost use Rattle.langtag_distance.specs.declared.matching_tables.TheConstants.{SHORT_ALIAS_KEYS};

@@ -1,5 +1,6 @@
 //! Improving the candidate by one more tag.
-ghost use Rattle.langtag_scan.specs.Prelude.{◌≡◌, ◌-◌, ◌<◌, ◌≤◌, ◌==◌, ℕ, List, IsTrue, MatchOption, Some, false, ForSome};
+ghost use Rattle.std.specs.Prelude.{◌≡◌, ◌-◌, ◌<◌, ◌≤◌, ◌==◌, ℕ, List, IsTrue, MatchOption, Some, false};
+ghost use Rattle.langtag_scan.specs.Prelude.{ForSome};
 ghost use Rattle.langtag_range.specs.Definitions.{Element};
 ghost use Rattle.langtag_distance.specs.Serves as spec;
 ghost use Rattle.langtag_distance.specs.Serves.{reach, serves};

@@ -1,5 +1,6 @@
 //! What is kept of a tag that is prepared.
-ghost use Rattle.langtag_scan.specs.Prelude.{◌≡◌, ◌≤◌, ℕ, List, IsTrue, Some, ForSome, bytes_eq};
+ghost use Rattle.std.specs.Prelude.{◌≡◌, ◌≤◌, ℕ, List, IsTrue, Some, bytes_eq};
+ghost use Rattle.langtag_scan.specs.Prelude.{ForSome};
 ghost use Rattle.langtag_tables.specs.FieldClasses.{is_language_field, is_region_field, is_script_field};
 ghost use Rattle.langtag_distance.specs.Prepared.{is_prepared_for, has_fields, has_head, keeps};
 ghost use Rattle.langtag_cldr.specs.Definitions.{matching_form, name_text, field_texts};

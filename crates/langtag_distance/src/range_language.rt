@@ -1,5 +1,6 @@
 //! The language of a range, and the languages that are near it.
-ghost use Rattle.langtag_scan.specs.Prelude.{◌≡◌, ◌<◌, ◌≤◌, ◌*◌, ◌^◌, ℕ, IsTrue, Some, length, slice_index, ForSome, option_map};
+ghost use Rattle.std.specs.Prelude.{◌≡◌, ◌<◌, ◌≤◌, ◌*◌, ◌^◌, ℕ, IsTrue, Some, length, slice_index, option_map};
+ghost use Rattle.langtag_scan.specs.Prelude.{ForSome};
 ghost use Rattle.langtag_distance.specs.FirstLetters.{first_two};
 ghost use Rattle.langtag_distance.specs.NearLanguages.{AreFar, HasRuleKeys, form_number, is_among_numbers};
 ghost use Rattle.langtag_cldr.specs.Definitions.{field_texts};

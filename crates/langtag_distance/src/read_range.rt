@@ -1,5 +1,6 @@
 //! Comparing ranges with tags: in a range, `_` is read as `-`, and each `-*` is left out.
-ghost use Rattle.langtag_scan.specs.Grammar.{◌≡◌, ◌&&◌, length, take, drop, are_alike};
+ghost use Rattle.std.specs.Prelude.{◌≡◌, ◌&&◌, length, take, drop};
+ghost use Rattle.langtag_scan.specs.Grammar.{are_alike};
 ghost use Rattle.langtag_range.specs.Definitions.{ends_subtag, is_star, basic_text};
 
 use langtag_cldr::{after_common, are_alike};

@@ -1,5 +1,6 @@
 //! The distance of regions, which for some languages depends on CLDR's sets of regions.
-ghost use Rattle.langtag_scan.specs.Grammar.{◌≡◌, ◌≤◌, ◌==◌, IsTrue, false, map, are_alike, folded_number};
+ghost use Rattle.std.specs.Prelude.{◌≡◌, ◌≤◌, ◌==◌, IsTrue, false, map};
+ghost use Rattle.langtag_scan.specs.Grammar.{are_alike, folded_number};
 ghost use Rattle.langtag_tables.specs.Numbers.{climbs_from};
 ghost use Rattle.langtag_distance.specs.Distance as spec;
 ghost use Rattle.langtag_distance.specs.Sets.{set_of};

@@ -1,5 +1,6 @@
 //! The distances of languages and of scripts, by the rules in the tables.
-ghost use Rattle.langtag_scan.specs.Grammar.{◌≡◌, ◌≤◌, ◌<◌, ◌==◌, map, length, slice_index_or, IsTrue, are_alike};
+ghost use Rattle.std.specs.Prelude.{◌≡◌, ◌≤◌, ◌<◌, ◌==◌, map, length, slice_index_or, IsTrue};
+ghost use Rattle.langtag_scan.specs.Grammar.{are_alike};
 ghost use Rattle.langtag_tables.specs.Numbers.{climbs_from, letter_number};
 ghost use Rattle.langtag_distance.specs.Distance as spec;
 ghost use Rattle.langtag_cldr.specs.Definitions.{without_region, key_number, field_texts};

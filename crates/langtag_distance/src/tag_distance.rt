@@ -1,5 +1,6 @@
 //! The distance from a desired string to a supported string (UTS #35, part 1, section 'Language Matching').
-ghost use Rattle.langtag_scan.specs.Grammar.{◌≡◌, ◌+◌, ◌≤◌, ◌⊎◌, ◌==◌, ◌&&◌, IsTrue, false, are_alike};
+ghost use Rattle.std.specs.Prelude.{◌≡◌, ◌+◌, ◌≤◌, ◌⊎◌, ◌==◌, ◌&&◌, IsTrue, false};
+ghost use Rattle.langtag_scan.specs.Grammar.{are_alike};
 ghost use Rattle.langtag_range.specs.Definitions.{basic_text, is_language_range, hyphened};
 ghost use Rattle.langtag_distance.specs.Distance as spec;
 ghost use Rattle.langtag_cldr.specs.Definitions.{are_alike_fields, field_texts};

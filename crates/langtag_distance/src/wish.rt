@@ -1,5 +1,6 @@
 //! A range that a tag can serve.
-ghost use Rattle.langtag_scan.specs.Prelude.{◌≡◌, ◌≤◌, ◌<◌, ◌==◌, ℕ, IsTrue, List, MatchOption, Some, false, ForSome, option_map};
+ghost use Rattle.std.specs.Prelude.{◌≡◌, ◌≤◌, ◌<◌, ◌==◌, ℕ, IsTrue, List, MatchOption, Some, false, option_map};
+ghost use Rattle.langtag_scan.specs.Prelude.{ForSome};
 ghost use Rattle.langtag_distance.specs.FirstLetters.{first_two};
 ghost use Rattle.langtag_distance.specs.NearLanguages.{HasNumber, form_number};
 ghost use Rattle.langtag_cldr.specs.Definitions.{matching_form, field_texts};

@@ -1,6 +1,7 @@
 -- The types of this crate compare and hash by their texts, ignoring the case of ASCII letters. Singletons are the
 -- exception: they compare and hash by their exact bytes.
-use Rattle.langtag_scan.specs.Grammar.{◌≡◌, ◌==◌, u8, nat_cmp, ComparesByCase}
+use Rattle.std.specs.Prelude.{◌≡◌, ◌==◌}
+use Rattle.langtag_scan.specs.Grammar.{u8, nat_cmp, ComparesByCase}
 use Rattle.langtag_extension.specs.contracts.singleton.SingletonHash.TheImpl as singleton_hash
 use Rattle.langtag_extension.specs.contracts.singleton.SingletonOrd.TheImpl as singleton_order
 use Rattle.langtag_extension.specs.contracts.singleton.SingletonPartialEq.TheImpl as singleton_equality

@@ -1,5 +1,6 @@
 -- What the conversion of a byte or a character into a singleton returns.
-use Rattle.langtag_scan.specs.Grammar.{◌≡◌, ℕ, Result, IfOk, IfErr, is_ok, is_singleton}
+use Rattle.std.specs.Prelude.{◌≡◌, ℕ, Result, IfOk, IfErr, is_ok}
+use Rattle.langtag_scan.specs.Grammar.{is_singleton}
 use Rattle.langtag_extension.specs.declared.singleton.Singleton.{Singleton}
 use Rattle.langtag_extension.specs.declared.singleton.InvalidSingleton.{InvalidSingleton}
 use Rattle.langtag_extension.specs.Text.{singleton_byte}

@@ -1,6 +1,7 @@
 -- The rules of the page Spelling as tests of the subtags of a text. Only ghost fields and contracts of private
 -- functions cite this page.
-use Rattle.langtag_scan.specs.Grammar.{ℕ, Bool, false, ◌&&◌, ◌==◌, List, [], ◌∷◌, slice_index, list_all, fold_byte, is_singleton, is_extension_subtag, subtags}
+use Rattle.std.specs.Prelude.{ℕ, Bool, false, ◌&&◌, ◌==◌, List, [], ◌∷◌, slice_index}
+use Rattle.langtag_scan.specs.Grammar.{list_all, fold_byte, is_singleton, is_extension_subtag, subtags}
 use Rattle.langtag_extension.specs.ExtensionTexts.{extension_texts}
 
 abbrev pub are_extension_subtags : List (List ℕ) → Bool

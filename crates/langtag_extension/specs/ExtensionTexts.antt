@@ -1,6 +1,7 @@
 -- How a text is split into extensions: before each subtag of one byte. Only ghost fields, contracts of private
 -- functions and langtag_c's walk over extensions cite this page.
-use Rattle.langtag_scan.specs.Grammar.{◌≡◌, ℕ, ◌+◌, ◌<◌, ◌≤◌, Bool, true, IsTrue, ◌==◌, not, List, [], ◌∷◌, length, take, drop, map, slice_index, cond, Option, list_all, Bor, join, segments, subtags, segments_left}
+use Rattle.std.specs.Prelude.{◌≡◌, ℕ, ◌+◌, ◌<◌, ◌≤◌, Bool, true, IsTrue, ◌==◌, not, List, [], ◌∷◌, length, take, drop, map, slice_index, cond, Option}
+use Rattle.langtag_scan.specs.Grammar.{list_all, Bor, join, segments, subtags, segments_left}
 
 -- whether a subtag belongs to the same extension as the subtag before it; a subtag of one byte begins another extension
 abbrev pub goes_on : List ℕ → Bool

@@ -1,6 +1,7 @@
 -- Singletons, and which of them occur among the texts of extensions. Only contracts of functions for langtag_registry and
 -- langtag_locale cite this page.
-use Rattle.langtag_scan.specs.Grammar.{codes, ◌≡◌, ◌==◌, ℕ, Bool, false, List, [], filter, slice_index, slice_index_or, fold_byte}
+use Rattle.std.specs.Prelude.{codes, ◌≡◌, ◌==◌, ℕ, Bool, false, List, [], filter, slice_index, slice_index_or}
+use Rattle.langtag_scan.specs.Grammar.{fold_byte}
 
 -- all singletons (RFC 5646 section 2.2.6), in order
 abbrev pub singletons : List ℕ

@@ -1,5 +1,6 @@
 -- The rules of RFC 5646 section 2.2.6: which texts are one extension, and which are a list of extensions.
-use Rattle.langtag_scan.specs.Grammar.{◌≡◌, ◌==◌, ℕ, Bool, false, List, [], ◌∷◌, Option, find, AllByRecursion, flat_map, fold_byte, is_singleton, Extension, IsWellFormedExtension, extension_flat, join}
+use Rattle.std.specs.Prelude.{◌≡◌, ◌==◌, ℕ, Bool, false, List, [], ◌∷◌, Option, find, flat_map}
+use Rattle.langtag_scan.specs.Grammar.{AllByRecursion, fold_byte, is_singleton, Extension, IsWellFormedExtension, extension_flat, join}
 
 -- whether the text is one byte that is a singleton
 abbrev pub is_singleton_text : List ℕ → Bool

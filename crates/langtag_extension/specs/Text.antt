@@ -1,5 +1,6 @@
 -- The text of each type, as a list of bytes, and the texts that an iterator will still return.
-use Rattle.langtag_scan.specs.Prelude.{ℕ, List, String, string_bytes, Global}
+use Rattle.std.specs.Prelude.{ℕ, List, String, string_bytes}
+use Rattle.langtag_scan.specs.Prelude.{Global}
 use Rattle.langtag_extension.specs.declared.singleton.Singleton.{Singleton}
 use Rattle.langtag_extension.specs.declared.extension_subtag.ExtensionSubtag.{ExtensionSubtag}
 use Rattle.langtag_extension.specs.declared.extension_subtag.ExtensionSubtagBuf.{ExtensionSubtagBuf}

@@ -1,5 +1,6 @@
 //! An extension (RFC 5646 section 2.2.6).
-ghost use Rattle.langtag_scan.specs.Grammar.{◌≡◌, ◌↔◌, Some, IsTrue, IfOk, IfErr, is_ok, slice_index, string_bytes, are_alike};
+ghost use Rattle.std.specs.Prelude.{◌≡◌, ◌↔◌, Some, IsTrue, IfOk, IfErr, is_ok, slice_index, string_bytes};
+ghost use Rattle.langtag_scan.specs.Grammar.{are_alike};
 ghost use Rattle.langtag_scan.specs.Record as model;
 ghost use Rattle.langtag_extension.specs.Spelling.{SpellsExtension, IsExtension};
 ghost use Rattle.langtag_extension.specs.Decided.{are_extension_subtags, is_extension_text, opens_alike, is_singleton_alone};

@@ -1,5 +1,6 @@
 //! An iterator over the subtags of an extension.
-ghost use Rattle.langtag_scan.specs.Grammar.{◌≡◌, ◌<◌, ◌^◌, [], IsTrue, drop, length, ⊤, YieldsFirstBy, item_count, subtags};
+ghost use Rattle.std.specs.Prelude.{◌≡◌, ◌<◌, ◌^◌, [], IsTrue, drop, length, ⊤};
+ghost use Rattle.langtag_scan.specs.Grammar.{YieldsFirstBy, item_count, subtags};
 ghost use Rattle.langtag_extension.specs.Decided.{are_extension_subtags, is_extension_text};
 
 use crate::extension_subtag::ExtensionSubtag;

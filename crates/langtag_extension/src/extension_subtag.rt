@@ -1,5 +1,6 @@
 //! A subtag of an extension (RFC 5646 section 2.2.6).
-ghost use Rattle.langtag_scan.specs.Grammar.{◌≡◌, ◌&&◌, ◌||◌, Some, IsTrue, IfOk, IfErr, is_ok, length, string_bytes, is_ascii_alphabetic, is_ascii_digit, is_in_range, list_all, are_alike, is_extension_subtag};
+ghost use Rattle.std.specs.Prelude.{◌≡◌, ◌&&◌, ◌||◌, Some, IsTrue, IfOk, IfErr, is_ok, length, string_bytes};
+ghost use Rattle.langtag_scan.specs.Grammar.{is_ascii_alphabetic, is_ascii_digit, is_in_range, list_all, are_alike, is_extension_subtag};
 
 use langtag_scan::{Caseless, is_extension_subtag};
 use std::alloc::{AllocError, Global};

@@ -1,5 +1,6 @@
 //! An iterator over the strings of the extensions in a string.
-ghost use Rattle.langtag_scan.specs.Grammar.{◌≡◌, ◌++◌, ◌∷◌, List, ℕ, IsTrue, MatchOption, drop, ⊤, YieldsFirstRef, item_count, list_all, segments, segments_left};
+ghost use Rattle.std.specs.Prelude.{◌≡◌, ◌++◌, ◌∷◌, List, ℕ, IsTrue, MatchOption, drop, ⊤};
+ghost use Rattle.langtag_scan.specs.Grammar.{YieldsFirstRef, item_count, list_all, segments, segments_left};
 ghost use Rattle.langtag_extension.specs.ExtensionTexts.{IsFirstExtension, extension_texts, texts_left, goes_on, opens};
 
 use langtag_scan::segment_end;

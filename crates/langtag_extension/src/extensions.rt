@@ -1,5 +1,6 @@
 //! The extensions of a tag (RFC 5646 section 2.2.6).
-ghost use Rattle.langtag_scan.specs.Grammar.{◌≡◌, ◌↔◌, Some, List, [], IsTrue, IfOk, IfErr, is_ok, map, string_bytes, option_map, option_map_or, are_alike};
+ghost use Rattle.std.specs.Prelude.{◌≡◌, ◌↔◌, Some, List, [], IsTrue, IfOk, IfErr, is_ok, map, string_bytes, option_map};
+ghost use Rattle.langtag_scan.specs.Grammar.{option_map_or, are_alike};
 ghost use Rattle.langtag_scan.specs.Record as model;
 ghost use Rattle.langtag_extension.specs.Spelling.{SpellsExtensions, IsExtensions, extension_spelling, find_extension};
 ghost use Rattle.langtag_extension.specs.Decided.{is_extensions_text};

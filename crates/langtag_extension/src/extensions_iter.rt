@@ -1,5 +1,6 @@
 //! An iterator over the extensions of a tag.
-ghost use Rattle.langtag_scan.specs.Prelude.{◌≡◌, ◌<◌, ◌^◌, IsTrue, length, ⊤, YieldsFirstBy, item_count};
+ghost use Rattle.std.specs.Prelude.{◌≡◌, ◌<◌, ◌^◌, IsTrue, length, ⊤};
+ghost use Rattle.langtag_scan.specs.Prelude.{YieldsFirstBy, item_count};
 ghost use Rattle.langtag_extension.specs.Decided.{are_extension_texts, is_extensions_text};
 ghost use Rattle.langtag_extension.specs.ExtensionTexts.{extension_texts};
 

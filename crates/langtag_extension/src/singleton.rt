@@ -1,5 +1,6 @@
 //! The singleton, which begins an extension (RFC 5646 section 2.2.6).
-ghost use Rattle.langtag_scan.specs.Prelude.{◌≡◌, ◌==◌, ◌&&◌, ◌||◌, ◌∷◌, [], Some, IsTrue, IfOk, IfErr, is_ok, not, is_ascii_alphabetic, is_ascii_digit};
+ghost use Rattle.std.specs.Prelude.{◌≡◌, ◌==◌, ◌&&◌, ◌||◌, ◌∷◌, [], Some, IsTrue, IfOk, IfErr, is_ok, not};
+ghost use Rattle.langtag_scan.specs.Prelude.{is_ascii_alphabetic, is_ascii_digit};
 ghost use Rattle.langtag_scan.specs.Class as class;
 ghost use Rattle.langtag_extension.specs.Spelling.{is_singleton_text};
 

@@ -1,5 +1,6 @@
 -- A field of the registry's records (RFC 5646 section 3.1.2).
-use Rattle.langtag_scan.specs.Grammar.{ℕ, List, [], ◌∷◌, Option, None, Some, if◌then◌else◌, are_alike}
+use Rattle.std.specs.Prelude.{ℕ, List, [], ◌∷◌, Option, None, Some, if◌then◌else◌}
+use Rattle.langtag_scan.specs.Grammar.{are_alike}
 
 -- the value of the Subtag or Tag field of a record, and the value of another field
 pub record Entry : Type 0 where

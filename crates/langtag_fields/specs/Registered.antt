@@ -1,6 +1,7 @@
 -- Which subtags are registered: a registered subtag equals a Subtag field of its Type, ignoring case (RFC 5646 section
 -- 2.2.9).
-use Rattle.langtag_scan.specs.Grammar.{ℕ, Bool, List, list_any, are_alike}
+use Rattle.std.specs.Prelude.{ℕ, Bool, List}
+use Rattle.langtag_scan.specs.Grammar.{list_any, are_alike}
 use Rattle.langtag_fields.specs.Subtags.{language_subtags, extlang_subtags, script_subtags, region_subtags, variant_subtags}
 
 -- whether a text equals one of these texts, ignoring case

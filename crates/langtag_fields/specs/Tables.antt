@@ -1,5 +1,6 @@
 -- What the tables of the registry contain. Only contracts of private functions cite this page.
-use Rattle.langtag_scan.specs.Grammar.{◌≡◌, ℕ, ◌-◌, ◌/◌, ◌%◌, ◌^◌, ◌==◌, Bool, false, IsTrue, List, length, map, drop, slice_index_or, list_all, flat_map, range_with_len, folded_number, are_alphanumeric}
+use Rattle.std.specs.Prelude.{◌≡◌, ℕ, ◌-◌, ◌/◌, ◌%◌, ◌^◌, ◌==◌, Bool, false, IsTrue, List, length, map, drop, slice_index_or, flat_map}
+use Rattle.langtag_scan.specs.Grammar.{list_all, range_with_len, folded_number, are_alphanumeric}
 use Rattle.langtag_fields.specs.Entry.{Entry}
 use Rattle.langtag_fields.specs.declared.tables.TheConstants.{LANGUAGE_BITS}
 use Rattle.langtag_tables.specs.Numbers.{climbs_from}

@@ -1,5 +1,6 @@
 -- Valid tags (RFC 5646 section 2.2.9), by the registry on the page `Subtags`.
-use Rattle.langtag_scan.specs.Grammar.{◌≡◌, ℕ, ◌≤◌, ◌⊎◌, IsTrue, List, length, map, None, IfSome, AllByRecursion, are_alike, Record, EachRecord, IsTag}
+use Rattle.std.specs.Prelude.{◌≡◌, ℕ, ◌≤◌, ◌⊎◌, IsTrue, List, length, map, None, IfSome}
+use Rattle.langtag_scan.specs.Grammar.{AllByRecursion, are_alike, Record, EachRecord, IsTag}
 use Rattle.langtag.specs.Definitions.{IsGrandfathered, repeat, are_alike_bytes}
 use Rattle.langtag_fields.specs.Registered.{is_registered_language, is_registered_extlang, is_registered_script, is_registered_region, is_registered_variant}
 

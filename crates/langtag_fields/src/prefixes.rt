@@ -1,5 +1,6 @@
 //! Which strings an extended language and a variant should follow (RFC 5646 section 3.1.8).
-ghost use Rattle.langtag_scan.specs.Grammar.{◌≡◌, map, option_map, folded_number};
+ghost use Rattle.std.specs.Prelude.{◌≡◌, map, option_map};
+ghost use Rattle.langtag_scan.specs.Grammar.{folded_number};
 ghost use Rattle.langtag.specs.Definitions.{primary_language_text, extended_lang_tag_text};
 ghost use Rattle.langtag_fields.specs.Fields as field;
 ghost use Rattle.langtag_fields.specs.Subtags as list;

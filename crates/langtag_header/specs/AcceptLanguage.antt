@@ -1,5 +1,6 @@
 -- The Accept-Language header (RFC 9110 section 12.5.4): #( language-range [ weight ] ).
-use Rattle.langtag_scan.specs.Prelude.{◌≡◌, ℕ, ◌+◌, ◌≤◌, Bool, false, ◌||◌, if◌then◌else◌, IsTrue, List, ◌++◌, Some, is_some, filter, map, nat_lt, length, count_by, take, slice_get, slice_range, list_all, filter_map, Bor}
+use Rattle.std.specs.Prelude.{◌≡◌, ℕ, ◌+◌, ◌≤◌, Bool, false, ◌||◌, if◌then◌else◌, IsTrue, List, ◌++◌, Some, is_some, filter, map, nat_lt, length, count_by, take, slice_get, slice_range, filter_map}
+use Rattle.langtag_scan.specs.Prelude.{list_all, Bor}
 use Rattle.langtag_range.specs.Definitions.{Element, is_ows, is_comma, items, element, range_of, is_basic_range}
 use Rattle.langtag_header.specs.Stable.{IsStableOrder}
 use Rattle.langtag_header.specs.Text.{weighted_range_text}

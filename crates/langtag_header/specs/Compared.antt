@@ -1,5 +1,6 @@
 -- The range types compare and hash by their texts, ignoring the case of ASCII letters (RFC 4647 section 2).
-use Rattle.langtag_scan.specs.Grammar.{◌≡◌, ◌==◌, ◌&&◌, are_alike, ComparesByCase}
+use Rattle.std.specs.Prelude.{◌≡◌, ◌==◌, ◌&&◌}
+use Rattle.langtag_scan.specs.Grammar.{are_alike, ComparesByCase}
 use Rattle.langtag_header.specs.contracts.language_range.LanguageRangeHash.TheImpl as range_hash
 use Rattle.langtag_header.specs.contracts.language_range.LanguageRangeOrd.TheImpl as range_order
 use Rattle.langtag_header.specs.contracts.language_range.LanguageRangePartialEq.TheImpl as range_equality

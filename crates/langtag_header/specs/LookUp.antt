@@ -1,5 +1,6 @@
 -- Lookup of a tag for a list of language ranges (RFC 4647 section 3.4).
-use Rattle.langtag_scan.specs.Grammar.{ℕ, List, [], ◌∷◌, Option, None, find, unwrap_or, option_or, are_alike}
+use Rattle.std.specs.Prelude.{ℕ, List, [], ◌∷◌, Option, None, find, unwrap_or}
+use Rattle.langtag_scan.specs.Grammar.{option_or, are_alike}
 use Rattle.langtag.specs.declared.lang_tag.LangTag.{LangTag}
 use Rattle.langtag.specs.Definitions.{lang_tag_text}
 use Rattle.langtag_range.specs.Definitions.{basic_form, fallbacks}

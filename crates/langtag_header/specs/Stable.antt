@@ -1,5 +1,6 @@
 -- Lists that are sorted by a key, in which elements with equal keys keep their order: the result of a stable sort.
-use Rattle.langtag_scan.specs.Prelude.{◌≡◌, ℕ, ◌==◌, List, [], ◌∷◌, filter, AllByRecursion}
+use Rattle.std.specs.Prelude.{◌≡◌, ℕ, ◌==◌, List, [], ◌∷◌, filter}
+use Rattle.langtag_scan.specs.Prelude.{AllByRecursion}
 
 -- the key of each element may come before the keys of all later elements
 abbrev pub IsOrderedBy : {A : Type 0} → (A → ℕ) → (ℕ → ℕ → Type 0) → List A → Type 0

@@ -1,5 +1,6 @@
 -- The text of each type, as a list of bytes.
-use Rattle.langtag_scan.specs.Prelude.{ℕ, List, [], String, option_map_or, string_bytes, Global}
+use Rattle.std.specs.Prelude.{ℕ, List, [], String, string_bytes}
+use Rattle.langtag_scan.specs.Prelude.{option_map_or, Global}
 use Rattle.langtag_header.specs.declared.language_range.LanguageRange.{LanguageRange}
 use Rattle.langtag_header.specs.declared.language_range.LanguageRangeBuf.{LanguageRangeBuf}
 use Rattle.langtag_header.specs.declared.fallbacks.Fallbacks.{Fallbacks}

@@ -1,5 +1,6 @@
 //! An element of an Accept-Language header: a language range, and a weight (RFC 9110 section 12.5.4).
-ghost use Rattle.langtag_scan.specs.Prelude.{◌≡◌, ◌≤◌, IsTrue, Some, None, IfOk, IfErr, MatchOption, length, false, position_or_len};
+ghost use Rattle.std.specs.Prelude.{◌≡◌, ◌≤◌, IsTrue, Some, None, IfOk, IfErr, MatchOption, length, false};
+ghost use Rattle.langtag_scan.specs.Prelude.{position_or_len};
 ghost use Rattle.langtag_header.specs.AcceptLanguage as spec;
 ghost use Rattle.langtag_range.specs.Definitions.{element, is_semicolon, weight_of, is_basic_range};
 ghost use Rattle.langtag_header.specs.Text.{language_range_text, weighted_range_text};

@@ -1,5 +1,6 @@
 //! The fallbacks of a language range, which are made by removing subtags from its end (RFC 4647 section 3.4).
-ghost use Rattle.langtag_scan.specs.Prelude.{◌≡◌, ◌<◌, ◌^◌, ◌∷◌, [], length, YieldsFirstBy, item_count, option_map_or};
+ghost use Rattle.std.specs.Prelude.{◌≡◌, ◌<◌, ◌^◌, ◌∷◌, [], length};
+ghost use Rattle.langtag_scan.specs.Prelude.{YieldsFirstBy, item_count, option_map_or};
 ghost use Rattle.langtag_range.specs.Definitions.{fallbacks};
 ghost use Rattle.langtag_header.specs.Text.{language_range_text, fallbacks_left};
 

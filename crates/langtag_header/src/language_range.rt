@@ -1,5 +1,6 @@
 //! Language ranges (RFC 4647 section 2), borrowed and owned.
-ghost use Rattle.langtag_scan.specs.Grammar.{◌≡◌, ◌<◌, ◌^◌, ◌↔◌, Some, IsTrue, IfOk, IfErr, is_ok, length, string_bytes, are_alike};
+ghost use Rattle.std.specs.Prelude.{◌≡◌, ◌<◌, ◌^◌, ◌↔◌, Some, IsTrue, IfOk, IfErr, is_ok, length, string_bytes};
+ghost use Rattle.langtag_scan.specs.Grammar.{are_alike};
 ghost use Rattle.langtag.specs.Definitions.{lang_tag_text};
 ghost use Rattle.langtag_range.specs.Definitions.{MatchesBasic, test_basic, MatchesExtended, test_extended, fallbacks, is_basic_range, is_language_range};
 

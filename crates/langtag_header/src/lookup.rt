@@ -1,5 +1,5 @@
 //! The lookup of one tag for a list of ranges (RFC 4647 section 3.4).
-ghost use Rattle.langtag_scan.specs.Grammar.{◌≡◌, map};
+ghost use Rattle.std.specs.Prelude.{◌≡◌, map};
 ghost use Rattle.langtag_range.specs.Definitions.{fallbacks};
 ghost use Rattle.langtag_header.specs.LookUp as spec;
 ghost use Rattle.langtag_header.specs.Text.{language_range_text};

@@ -1,5 +1,6 @@
 -- The form of CLDR's aliases: a text and its replacement (UTS #35, part 1, Annex C).
-use Rattle.langtag_scan.specs.Grammar.{ℕ, ◌&&◌, List, [], ◌∷◌, Option, find, option_map, are_alike}
+use Rattle.std.specs.Prelude.{ℕ, ◌&&◌, List, [], ◌∷◌, Option, find, option_map}
+use Rattle.langtag_scan.specs.Grammar.{are_alike}
 
 -- a text that is replaced, and its replacement
 pub record Alias : Type 0 where

@@ -1,5 +1,6 @@
 -- The value in an edit of a keyword, and the place of `u`. Only contracts of private functions cite this page.
-use Rattle.langtag_scan.specs.Grammar.{◌≡◌, ℕ, Bool, true, false, List, [], Option, None, unwrap_or, option_map, Record, subtags}
+use Rattle.std.specs.Prelude.{◌≡◌, ℕ, Bool, true, false, List, [], Option, None, unwrap_or, option_map}
+use Rattle.langtag_scan.specs.Grammar.{Record, subtags}
 use Rattle.langtag_keyword.specs.declared.keyword_edit.KeywordEdit.{KeywordEdit}
 use Rattle.langtag_keyword.specs.declared.keyword_edit.Place.{Place}
 use Rattle.langtag_keyword.specs.declared.keyword_edit.Place.TheVariants.{OfFirstUnicode, BeforeGreater}

@@ -1,5 +1,6 @@
 -- The parts of a unicode_language_id (UTS #35, part 1): its language, script, region and variants.
-use Rattle.langtag_scan.specs.Grammar.{ℕ, List, [], ◌∷◌, ◌++◌, is_region, is_script, one_flat}
+use Rattle.std.specs.Prelude.{ℕ, List, [], ◌∷◌, ◌++◌}
+use Rattle.langtag_scan.specs.Grammar.{is_region, is_script, one_flat}
 use Rattle.langtag_tables.specs.Fields.{Fields, subtag_of}
 use Rattle.langtag_keyword.specs.Form.{after_one, one_of}
 

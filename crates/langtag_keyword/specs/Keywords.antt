@@ -1,7 +1,8 @@
 -- The attributes and keywords of the extension `u` (RFC 6067 section 2.1; UTS #35, part 1, section 'U Extension'), as
 -- lists of subtags. A keyword is a key and its value. The fields of the extension `t` are read in the same way (page
 -- Transform).
-use Rattle.langtag_scan.specs.Grammar.{ℕ, Bool, ◌&&◌, ◌==◌, List, [], ◌∷◌, ◌++◌, Option, None, Some, if◌then◌else◌, find, length, not, list_any, option_map, option_map_or, are_alike, Record, join}
+use Rattle.std.specs.Prelude.{ℕ, Bool, ◌&&◌, ◌==◌, List, [], ◌∷◌, ◌++◌, Option, None, Some, if◌then◌else◌, find, length, not, option_map}
+use Rattle.langtag_scan.specs.Grammar.{list_any, option_map_or, are_alike, Record, join}
 use Rattle.langtag_extension.specs.Spelling.{find_extension}
 
 -- the subtags of the first extension with a singleton, ignoring case, or the empty list if there is no such extension

@@ -1,6 +1,7 @@
 -- How subtags are put in order as numbers, some of them at a time. Only contracts of private functions, and of those that
 -- langtag_locale shares, cite this page.
-use Rattle.langtag_scan.specs.Grammar.{◌≡◌, ℕ, zero, suc, ◌+◌, ◌*◌, ◌^◌, ◌<◌, Bool, ◌==◌, ◌&&◌, not, ltb, leb, List, [], ◌∷◌, ◌++◌, if◌then◌else◌, take, filter, list_any, w64, to_be_bytes, fold_text}
+use Rattle.std.specs.Prelude.{◌≡◌, ℕ, zero, suc, ◌+◌, ◌*◌, ◌^◌, ◌<◌, Bool, ◌==◌, ◌&&◌, not, ltb, leb, List, [], ◌∷◌, ◌++◌, if◌then◌else◌, take, filter}
+use Rattle.langtag_scan.specs.Grammar.{list_any, w64, to_be_bytes, fold_text}
 
 -- ---- numbers for subtags
 

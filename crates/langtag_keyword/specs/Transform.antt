@@ -1,6 +1,7 @@
 -- The language and the fields of the extension `t` (RFC 6497 section 2.2; UTS #35, part 1, section 'T Extension'), as
 -- lists of subtags. The language is the language of the text before it was transformed. A field is a key and its value.
-use Rattle.langtag_scan.specs.Grammar.{ℕ, Bool, false, ◌&&◌, List, [], ◌∷◌, Option, None, Some, is_letter, is_digit, join}
+use Rattle.std.specs.Prelude.{ℕ, Bool, false, ◌&&◌, List, [], ◌∷◌, Option, None, Some}
+use Rattle.langtag_scan.specs.Grammar.{is_letter, is_digit, join}
 use Rattle.langtag_keyword.specs.Keywords.{before_key}
 
 -- tkey = ALPHA DIGIT

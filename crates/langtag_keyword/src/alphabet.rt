@@ -1,5 +1,6 @@
 //! Subtags in lowercase and in alphabetical order, written to an output.
-ghost use Rattle.langtag_scan.specs.Grammar.{◌≡◌, ◌≤◌, ◌∷◌, [], map, AllByRecursion, fold_text, segments_left, subtags};
+ghost use Rattle.std.specs.Prelude.{◌≡◌, ◌≤◌, ◌∷◌, [], map};
+ghost use Rattle.langtag_scan.specs.Grammar.{AllByRecursion, fold_text, segments_left, subtags};
 ghost use Rattle.langtag_output.specs.Output.{Pushes};
 ghost use Rattle.langtag_scan.proofs.SubtagFacts.{IsSubtag};
 ghost use Rattle.langtag_keyword.specs.Form as spec;

@@ -1,5 +1,6 @@
 //! Writing the subtags of the extension `u` with a keyword set or removed.
-ghost use Rattle.langtag_scan.specs.Grammar.{◌≡◌, ◌∷◌, find, length, nat_lt, is_some, option_map, segments_left, subtags};
+ghost use Rattle.std.specs.Prelude.{◌≡◌, ◌∷◌, find, length, nat_lt, is_some, option_map};
+ghost use Rattle.langtag_scan.specs.Grammar.{segments_left, subtags};
 ghost use Rattle.langtag_output.specs.Output.{Pushes};
 ghost use Rattle.langtag_keyword.specs.Edit as spec;
 

@@ -1,5 +1,6 @@
 //! The canonical form of the extensions `u` and `t` (UTS #35, part 1, Annex C).
-ghost use Rattle.langtag_scan.specs.Grammar.{◌≡◌, ◌<◌, ◌∷◌, ◌&&◌, ◌||◌, not, [], List, false, AllByRecursion, flat_map, subtags};
+ghost use Rattle.std.specs.Prelude.{◌≡◌, ◌<◌, ◌∷◌, ◌&&◌, ◌||◌, not, [], List, false, flat_map};
+ghost use Rattle.langtag_scan.specs.Grammar.{AllByRecursion, subtags};
 ghost use Rattle.langtag_extension.specs.Spelling.{SpellsExtension, SpellsExtensions};
 ghost use Rattle.langtag_extension.specs.Text.{extension_text, extensions_text};
 ghost use Rattle.langtag_output.specs.Output.{Pushes};

@@ -1,5 +1,6 @@
 //! A set of keys.
-ghost use Rattle.langtag_scan.specs.Grammar.{◌≡◌, ◌<◌, not, replicate, true, is_alphanumeric};
+ghost use Rattle.std.specs.Prelude.{◌≡◌, ◌<◌, not, replicate, true};
+ghost use Rattle.langtag_scan.specs.Grammar.{is_alphanumeric};
 ghost use Rattle.langtag_scan.proofs.SubtagFacts.{IsSubtag};
 ghost use Rattle.langtag_keyword.specs.KeySets as spec;
 

@@ -1,5 +1,6 @@
 //! Which keys and values may be set.
-ghost use Rattle.langtag_scan.specs.Grammar.{◌≡◌, subtags};
+ghost use Rattle.std.specs.Prelude.{◌≡◌};
+ghost use Rattle.langtag_scan.specs.Grammar.{subtags};
 ghost use Rattle.langtag_keyword.specs.Edit as spec;
 
 use langtag_scan::{Subtags, is_extension_subtag};

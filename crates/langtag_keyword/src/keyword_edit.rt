@@ -1,5 +1,6 @@
 //! Writing the extensions of a tag with a keyword set or removed.
-ghost use Rattle.langtag_scan.specs.Grammar.{◌≡◌, List, map, AllByRecursion, flat_map, is_some, IsWellFormedExtension, subtags};
+ghost use Rattle.std.specs.Prelude.{◌≡◌, List, map, flat_map, is_some};
+ghost use Rattle.langtag_scan.specs.Grammar.{AllByRecursion, IsWellFormedExtension, subtags};
 ghost use Rattle.langtag_extension.specs.Spelling.{SpellsExtension, SpellsExtensions, extension_spelling, find_extension};
 ghost use Rattle.langtag_extension.specs.Text.{extension_text, extensions_left, extensions_text};
 ghost use Rattle.langtag_output.specs.Output.{Pushes};

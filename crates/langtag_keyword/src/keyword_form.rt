@@ -1,5 +1,6 @@
 //! Keywords and fields with their canonical values, in the order of their keys, written to an output.
-ghost use Rattle.langtag_scan.specs.Grammar.{◌≡◌, ◌≤◌, List, map, ℕ, All, AllByRecursion, filter, flat_map, option_map, join, subtags};
+ghost use Rattle.std.specs.Prelude.{◌≡◌, ◌≤◌, List, map, ℕ, All, filter, flat_map, option_map};
+ghost use Rattle.langtag_scan.specs.Grammar.{AllByRecursion, join, subtags};
 ghost use Rattle.langtag_output.specs.Output.{Pushes};
 ghost use Rattle.langtag_scan.proofs.SubtagFacts.{IsSubtag};
 ghost use Rattle.langtag_keyword.specs.Form as spec;

@@ -1,5 +1,6 @@
 //! The language of the extension `t` (UTS #35, part 1, `unicode_language_id`).
-ghost use Rattle.langtag_scan.specs.Grammar.{◌≡◌, ◌-◌, ◌^◌, [], IsTrue, fold, length, map, min, AllByRecursion, list_all, list_any, option_map, are_alike, fold_text, is_region, is_script, one_flat, segments, segments_left, is_variant};
+ghost use Rattle.std.specs.Prelude.{◌≡◌, ◌-◌, ◌^◌, [], IsTrue, fold, length, map, min, option_map};
+ghost use Rattle.langtag_scan.specs.Grammar.{AllByRecursion, list_all, list_any, are_alike, fold_text, is_region, is_script, one_flat, segments, segments_left, is_variant};
 ghost use Rattle.langtag_output.specs.Output.{Pushes, with_subtag};
 ghost use Rattle.langtag_scan.proofs.SubtagFacts.{IsSubtag};
 ghost use Rattle.langtag_keyword.specs.Form as spec;

@@ -1,5 +1,6 @@
 //! The canonical form of the extension `t`, written to an output.
-ghost use Rattle.langtag_scan.specs.Grammar.{◌≡◌, ◌∷◌, [], false, AllByRecursion, subtags};
+ghost use Rattle.std.specs.Prelude.{◌≡◌, ◌∷◌, [], false};
+ghost use Rattle.langtag_scan.specs.Grammar.{AllByRecursion, subtags};
 ghost use Rattle.langtag_output.specs.Output.{Pushes};
 ghost use Rattle.langtag_scan.proofs.SubtagFacts.{IsSubtag};
 ghost use Rattle.langtag_keyword.specs.Form as spec;

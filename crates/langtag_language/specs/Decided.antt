@@ -1,6 +1,7 @@
 -- The rules `extlang` and `language` as tests of the subtags of a text. Only ghost fields and contracts of private
 -- functions cite this page. Public contracts cite `IsLanguageExtension` and `IsLanguage` instead.
-use Rattle.langtag_scan.specs.Grammar.{ℕ, Bool, false, ◌&&◌, nat_le, if◌then◌else◌, List, [], ◌∷◌, length, list_all, is_primary, is_extended, subtags}
+use Rattle.std.specs.Prelude.{ℕ, Bool, false, ◌&&◌, nat_le, if◌then◌else◌, List, [], ◌∷◌, length}
+use Rattle.langtag_scan.specs.Grammar.{list_all, is_primary, is_extended, subtags}
 
 abbrev pub are_extended : List (List ℕ) → Bool
 are_extended subtags = list_all is_extended subtags

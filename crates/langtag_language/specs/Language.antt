@@ -1,6 +1,7 @@
 -- The rules `extlang` and `language` (RFC 5646 section 2.1): which texts are one to three extended subtags, and which
 -- texts are a primary subtag with the extended subtags that may follow it.
-use Rattle.langtag_scan.specs.Grammar.{◌≡◌, ℕ, ◌≤◌, ◌⊎◌, IsTrue, List, [], ◌∷◌, length, AllByRecursion, is_primary, is_extended, join}
+use Rattle.std.specs.Prelude.{◌≡◌, ℕ, ◌≤◌, ◌⊎◌, IsTrue, List, [], ◌∷◌, length}
+use Rattle.langtag_scan.specs.Grammar.{AllByRecursion, is_primary, is_extended, join}
 
 -- extlang = 3ALPHA *2("-" 3ALPHA): the text is one to three extended subtags, joined by hyphens
 pub record SpellsLanguageExtension (extended : List (List ℕ)) (text : List ℕ) : Type 0 where

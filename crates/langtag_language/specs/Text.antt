@@ -1,5 +1,6 @@
 -- The text of each type, as a list of bytes, and the texts that an iterator will still return.
-use Rattle.langtag_scan.specs.Grammar.{ℕ, List, [], Option, None, Some, String, string_bytes, Global, subtags}
+use Rattle.std.specs.Prelude.{ℕ, List, [], Option, None, Some, String, string_bytes}
+use Rattle.langtag_scan.specs.Grammar.{Global, subtags}
 use Rattle.langtag_language.specs.declared.primary_language.PrimaryLanguage.{PrimaryLanguage}
 use Rattle.langtag_language.specs.declared.primary_language.PrimaryLanguageBuf.{PrimaryLanguageBuf}
 use Rattle.langtag_language.specs.declared.extended_lang_tag.ExtendedLangTag.{ExtendedLangTag}

@@ -1,5 +1,6 @@
 //! The extended language subtag (RFC 5646 section 2.2.2).
-ghost use Rattle.langtag_scan.specs.Grammar.{◌≡◌, ◌==◌, ◌&&◌, length, Some, IsTrue, IfOk, IfErr, is_ok, string_bytes, is_ascii_alphabetic, list_all, are_alike, is_extended};
+ghost use Rattle.std.specs.Prelude.{◌≡◌, ◌==◌, ◌&&◌, length, Some, IsTrue, IfOk, IfErr, is_ok, string_bytes};
+ghost use Rattle.langtag_scan.specs.Grammar.{is_ascii_alphabetic, list_all, are_alike, is_extended};
 
 use langtag_scan::{Caseless, is_extended};
 use std::alloc::{AllocError, Global};

@@ -1,5 +1,6 @@
 //! The language of a tag (RFC 5646 sections 2.2.1 and 2.2.2).
-ghost use Rattle.langtag_scan.specs.Grammar.{◌≡◌, ◌↔◌, ◌∷◌, [], Some, IsTrue, is_ok, drop, slice_get, IsNone, IfSome, IfOk, IfErr, string_bytes, are_alike, subtags};
+ghost use Rattle.std.specs.Prelude.{◌≡◌, ◌↔◌, ◌∷◌, [], Some, IsTrue, is_ok, drop, slice_get, IsNone, IfSome, IfOk, IfErr, string_bytes};
+ghost use Rattle.langtag_scan.specs.Grammar.{are_alike, subtags};
 ghost use Rattle.langtag_language.specs.Language.{IsLanguage, EachLanguageSpelling, SpellsLanguageExtension};
 ghost use Rattle.langtag_language.specs.Decided as test;
 

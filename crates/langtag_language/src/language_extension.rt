@@ -1,5 +1,6 @@
 //! The extended subtags of a language as one string (RFC 5646 section 2.2.2).
-ghost use Rattle.langtag_scan.specs.Grammar.{◌≡◌, ◌↔◌, Some, IsTrue, IfOk, IfErr, is_ok, string_bytes, are_alike, subtags};
+ghost use Rattle.std.specs.Prelude.{◌≡◌, ◌↔◌, Some, IsTrue, IfOk, IfErr, is_ok, string_bytes};
+ghost use Rattle.langtag_scan.specs.Grammar.{are_alike, subtags};
 ghost use Rattle.langtag_language.specs.Language.{IsLanguageExtension, SpellsLanguageExtension};
 ghost use Rattle.langtag_language.specs.Decided as test;
 

@@ -1,5 +1,6 @@
 //! An iterator over the extended subtags of a language.
-ghost use Rattle.langtag_scan.specs.Grammar.{◌≡◌, ◌≤◌, IsTrue, [], length, ⊤, YieldsFirstBy, item_count, subtags};
+ghost use Rattle.std.specs.Prelude.{◌≡◌, ◌≤◌, IsTrue, [], length, ⊤};
+ghost use Rattle.langtag_scan.specs.Grammar.{YieldsFirstBy, item_count, subtags};
 ghost use Rattle.langtag_language.specs.Decided.{are_extended, is_language_extension};
 
 use crate::extended_lang_tag::ExtendedLangTag;

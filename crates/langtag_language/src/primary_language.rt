@@ -1,5 +1,6 @@
 //! The primary language subtag (RFC 5646 section 2.2.1).
-ghost use Rattle.langtag_scan.specs.Grammar.{◌≡◌, ◌&&◌, length, Some, IsTrue, IfOk, IfErr, is_ok, string_bytes, is_ascii_alphabetic, is_in_range, list_all, are_alike, is_primary};
+ghost use Rattle.std.specs.Prelude.{◌≡◌, ◌&&◌, length, Some, IsTrue, IfOk, IfErr, is_ok, string_bytes};
+ghost use Rattle.langtag_scan.specs.Grammar.{is_ascii_alphabetic, is_in_range, list_all, are_alike, is_primary};
 
 use langtag_scan::{Caseless, is_primary};
 use std::alloc::{AllocError, Global};

@@ -1,5 +1,6 @@
 -- The maximal and minimal forms of a tag (UTS #35, part 1, section 'Likely Subtags').
-use Rattle.langtag_scan.specs.Grammar.{ℕ, List, [], ◌∷◌, codes, if◌then◌else◌, unwrap_or, option_map_or, are_alike, Record}
+use Rattle.std.specs.Prelude.{ℕ, List, [], ◌∷◌, codes, if◌then◌else◌, unwrap_or}
+use Rattle.langtag_scan.specs.Grammar.{option_map_or, are_alike, Record}
 use Rattle.langtag_cldr.specs.Definitions.{known, or_other, add_likely_subtags, remove_likely_subtags}
 use Rattle.langtag_tables.specs.Fields.{Fields, subtag_of}
 use Rattle.langtag.specs.Definitions.{IsForm}

@@ -1,7 +1,8 @@
 -- Laws of the maximal and minimal forms of a tag (UTS #35, part 1, section 'Likely Subtags'). They ignore case, since a
 -- subtag that is removed and added again has the case of the data: `en-LATN-US` becomes `en`, which becomes
 -- `en-Latn-US`.
-use Rattle.langtag_scan.specs.Grammar.{◌≡◌, ◌↔◌, ℕ, List, Alike, EachRecord}
+use Rattle.std.specs.Prelude.{◌≡◌, ◌↔◌, ℕ, List}
+use Rattle.langtag_scan.specs.Grammar.{Alike, EachRecord}
 use Rattle.langtag_likely.specs.Maximal.{IsMaximalForm, IsMinimalForm}
 
 -- the maximal form of the minimal form of `old` is its maximal form `new`, ignoring case

@@ -1,5 +1,6 @@
 //! Writes a tag with other fields.
-ghost use Rattle.langtag_scan.specs.Grammar.{◌≡◌, ◌∷◌, ◌++◌, drop, flat_map, option_map, option_map_or, ends_of, EachRecord, one_flat, spell, join};
+ghost use Rattle.std.specs.Prelude.{◌≡◌, ◌∷◌, ◌++◌, drop, flat_map, option_map};
+ghost use Rattle.langtag_scan.specs.Grammar.{option_map_or, ends_of, EachRecord, one_flat, spell, join};
 ghost use Rattle.langtag.specs.Definitions.{EachLanguageSpelling, language_text, normal_lang_tag_text, Writes};
 ghost use Rattle.langtag_likely.specs.Maximal.{put_fields, put_language};
 ghost use Rattle.langtag_tables.specs.Fields.{subtag_of};

@@ -1,5 +1,6 @@
 -- Texts of extensions that a Unicode locale identifier may have. Only contracts of private functions cite this page.
-use Rattle.langtag_scan.specs.Grammar.{◌≡◌, ℕ, true, List, list_all, Extension}
+use Rattle.std.specs.Prelude.{◌≡◌, ℕ, true, List}
+use Rattle.langtag_scan.specs.Grammar.{list_all, Extension}
 use Rattle.langtag.specs.Definitions.{SpellsExtension, SpellsExtensions}
 use Rattle.langtag_locale.specs.Locale.{is_locale_extension}
 

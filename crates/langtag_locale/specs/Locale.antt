@@ -1,5 +1,6 @@
 -- Unicode locale identifiers that are tags (UTS #35, part 1, section 'Unicode Locale Identifier').
-use Rattle.langtag_scan.specs.Grammar.{◌≡◌, ℕ, Bool, true, not, ◌&&◌, ◌||◌, ◌==◌, List, length, map, if◌then◌else◌, list_all, is_none, are_alike, Extension, Record, Spells}
+use Rattle.std.specs.Prelude.{◌≡◌, ℕ, Bool, true, not, ◌&&◌, ◌||◌, ◌==◌, List, length, map, if◌then◌else◌, is_none}
+use Rattle.langtag_scan.specs.Grammar.{list_all, are_alike, Extension, Record, Spells}
 use Rattle.langtag.specs.Definitions.{are_alike_bytes, repeat}
 use Rattle.langtag_keyword.specs.Edit.{is_unicode_key}
 use Rattle.langtag_keyword.specs.Form.{is_of, is_transform, is_unicode_language}

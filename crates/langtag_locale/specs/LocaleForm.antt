@@ -1,6 +1,7 @@
 -- The canonical form of a Unicode locale identifier (UTS #35, part 1, Annex C, 'LocaleId Canonicalization'). The annex
 -- repeats the rules of CLDR until none fits. Here they are seven steps, each of which is done once.
-use Rattle.langtag_scan.specs.Prelude.{◌≡◌, ℕ, Bool, List, [], ◌∷◌, ◌++◌, Option, None, Some, codes, find, if◌then◌else◌, ◌&&◌, ◌||◌, unwrap_or, flat_map, fold, list_any, is_some, option_map, option_map_or}
+use Rattle.std.specs.Prelude.{◌≡◌, ℕ, Bool, List, [], ◌∷◌, ◌++◌, Option, None, Some, codes, find, if◌then◌else◌, ◌&&◌, ◌||◌, unwrap_or, flat_map, fold, is_some, option_map}
+use Rattle.langtag_scan.specs.Prelude.{list_any, option_map_or}
 use Rattle.langtag.specs.Definitions.{PartOf, IsGrandfathered, recommended_text, find_extension, singletons}
 use Rattle.langtag_cldr.specs.Definitions.{region_replacements, add_likely, known, likely_for, or_else, or_other, likely_subtags, language_replaced, region_alone}
 use Rattle.langtag_tables.specs.Fields.{Fields, subtag_of}

@@ -1,5 +1,6 @@
 //! Unicode locale identifiers (UTS #35, part 1, section 'Unicode Locale Identifier').
-ghost use Rattle.langtag_scan.specs.Grammar.{◌≡◌, ◌&&◌, ◌==◌, List, false, length, list_all, subtags};
+ghost use Rattle.std.specs.Prelude.{◌≡◌, ◌&&◌, ◌==◌, List, false, length};
+ghost use Rattle.langtag_scan.specs.Grammar.{list_all, subtags};
 ghost use Rattle.langtag.specs.Definitions.{PartOf, lang_tag_text, normal_lang_tag_text, SpellsExtension, SpellsExtensions, extension_text, extensions_text};
 ghost use Rattle.langtag_scan.specs.Record as model;
 ghost use Rattle.langtag_keyword.specs.Form.{is_unicode_language};

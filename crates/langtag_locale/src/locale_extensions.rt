@@ -1,5 +1,6 @@
 //! The extensions in the form of a Unicode locale identifier (UTS #35, part 1, Annex C).
-ghost use Rattle.langtag_scan.specs.Grammar.{◌≡◌, ◌∷◌, [], IsTrue, List, AllByRecursion, flat_map, option_map, is_singleton, segments, segments_left, subtags};
+ghost use Rattle.std.specs.Prelude.{◌≡◌, ◌∷◌, [], IsTrue, List, flat_map, option_map};
+ghost use Rattle.langtag_scan.specs.Grammar.{AllByRecursion, is_singleton, segments, segments_left, subtags};
 ghost use Rattle.langtag.specs.Definitions.{SpellsExtension, SpellsExtensions, extension_text, extensions_text, Pushes};
 ghost use Rattle.langtag_tables.specs.Fields.{subtag_of};
 ghost use Rattle.langtag_cldr.specs.Definitions.{field_texts};

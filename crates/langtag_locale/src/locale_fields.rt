@@ -1,5 +1,6 @@
 //! Language, script and region in the form of a Unicode locale identifier (UTS #35, part 1, Annex C).
-ghost use Rattle.langtag_scan.specs.Grammar.{◌≡◌, IfSome, IsTrue, map, fold, option_map, segments, segments_left};
+ghost use Rattle.std.specs.Prelude.{◌≡◌, IfSome, IsTrue, map, fold, option_map};
+ghost use Rattle.langtag_scan.specs.Grammar.{segments, segments_left};
 ghost use Rattle.langtag_tables.specs.FieldClasses.{is_language_field, is_region_field, is_script_field};
 ghost use Rattle.langtag_tables.specs.Fields.{Fields};
 ghost use Rattle.langtag_cldr.specs.Definitions.{or_other, language_replaced, field_texts};

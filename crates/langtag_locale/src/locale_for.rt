@@ -1,5 +1,6 @@
 //! The Unicode locale identifier whose form is the form of a tag (UTS #35, part 1, Annex C).
-ghost use Rattle.langtag_scan.specs.Grammar.{◌≡◌, IfSome, List, None, Some, ℕ, EachRecord, Spells};
+ghost use Rattle.std.specs.Prelude.{◌≡◌, IfSome, List, None, Some, ℕ};
+ghost use Rattle.langtag_scan.specs.Grammar.{EachRecord, Spells};
 ghost use Rattle.langtag.specs.Definitions.{lang_tag_text, normal_lang_tag_text};
 ghost use Rattle.langtag_locale.specs.Locale.{IsLocale};
 ghost use Rattle.langtag_locale.specs.LocaleForm as spec;

@@ -1,5 +1,6 @@
 //! The variants in the form of a Unicode locale identifier (UTS #35, part 1, Annex C).
-ghost use Rattle.langtag_scan.specs.Grammar.{◌≡◌, ◌≤◌, IsTrue, List, false, find, map, ℕ, AllByRecursion, list_any, option_map, are_alike, is_variant, one_flat, segments_left};
+ghost use Rattle.std.specs.Prelude.{◌≡◌, ◌≤◌, IsTrue, List, false, find, map, ℕ, option_map};
+ghost use Rattle.langtag_scan.specs.Grammar.{AllByRecursion, list_any, are_alike, is_variant, one_flat, segments_left};
 ghost use Rattle.langtag_tables.specs.Fields.{subtag_of};
 ghost use Rattle.langtag.specs.Definitions.{Pushes};
 ghost use Rattle.langtag_scan.proofs.SubtagFacts.{IsSubtag};

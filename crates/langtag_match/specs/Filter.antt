@@ -1,5 +1,6 @@
 -- Filtering of a list of tags by a language priority list (RFC 4647 section 3.3).
-use Rattle.langtag_scan.specs.Prelude.{◌≡◌, ℕ, ◌+◌, ◌<◌, Bool, not, ◌&&◌, List, [], ◌∷◌, ◌++◌, length, take, drop, filter, slice_get, Option, Some, MatchOption, list_any, IsPermutation}
+use Rattle.std.specs.Prelude.{◌≡◌, ℕ, ◌+◌, ◌<◌, Bool, not, ◌&&◌, List, [], ◌∷◌, ◌++◌, length, take, drop, filter, slice_get, Option, Some, MatchOption, IsPermutation}
+use Rattle.langtag_scan.specs.Prelude.{list_any}
 use Rattle.langtag.specs.declared.lang_tag.LangTag.{LangTag}
 use Rattle.langtag.specs.Definitions.{lang_tag_text}
 use Rattle.langtag_header.specs.declared.language_range.LanguageRange.{LanguageRange}

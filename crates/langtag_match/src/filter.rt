@@ -1,5 +1,6 @@
 //! Filtering of a list of tags by a language priority list (RFC 4647 section 3.3).
-ghost use Rattle.langtag_scan.specs.Prelude.{◌≡◌, ◌<◌, ◌^◌, length, YieldsFirst, item_count};
+ghost use Rattle.std.specs.Prelude.{◌≡◌, ◌<◌, ◌^◌, length};
+ghost use Rattle.langtag_scan.specs.Prelude.{YieldsFirst, item_count};
 ghost use Rattle.langtag_range.specs.Definitions.{test_basic, test_extended};
 ghost use Rattle.langtag_match.specs.Filter as spec;
 ghost use Rattle.langtag_match.specs.FilterRule.{matches_by, filtered_left};

@@ -1,5 +1,6 @@
 -- A text that is written into a buffer piece by piece, while its bytes are counted.
-use Rattle.langtag_scan.specs.Prelude.{◌≡◌, ℕ, ◌-◌, ◌^◌, ◌≤◌, List, [], ◌∷◌, ◌++◌, length, drop, fold, min, MutBor}
+use Rattle.std.specs.Prelude.{◌≡◌, ℕ, ◌-◌, ◌^◌, ◌≤◌, List, [], ◌∷◌, ◌++◌, length, drop, fold, min}
+use Rattle.langtag_scan.specs.Prelude.{MutBor}
 use Rattle.langtag_output.specs.declared.output.Output.{Output}
 
 -- the text was written into the buffer `first`: if the text fits, it is at the start, and the rest of the buffer is

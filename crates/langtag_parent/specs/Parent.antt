@@ -1,6 +1,7 @@
 -- The parent of a tag, from which a catalogue of texts takes what it does not have itself: CLDR's parent locales, and
 -- CLDR's likely subtags, so that a text is never replaced by one in another script (UTS #35, part 1, 'Parent Locales').
-use Rattle.langtag_scan.specs.Grammar.{ℕ, ◌-◌, Bool, true, false, not, ◌&&◌, List, [], ◌∷◌, ◌++◌, length, take, Option, None, Some, is_none, if◌then◌else◌, option_map_or, are_alike, Record, one_flat, spell, join}
+use Rattle.std.specs.Prelude.{ℕ, ◌-◌, Bool, true, false, not, ◌&&◌, List, [], ◌∷◌, ◌++◌, length, take, Option, None, Some, is_none, if◌then◌else◌}
+use Rattle.langtag_scan.specs.Grammar.{option_map_or, are_alike, Record, one_flat, spell, join}
 use Rattle.langtag.specs.Definitions.{base_record, with_region, with_script, with_variants, PartOf}
 use Rattle.langtag_tables.specs.Fields.{Fields, subtag_of}
 use Rattle.langtag_cldr.specs.Definitions.{looked_up, likely_subtags}

@@ -1,6 +1,7 @@
 -- Laws of the parents of a tag (UTS #35, part 1, 'Parent Locales'). Each law is about one parent, and so about each
 -- member of the chain.
-use Rattle.langtag_scan.specs.Grammar.{◌≡◌, ℕ, zero, suc, ◌⊎◌, List, [], ◌++◌, Option, None, Some, IfSome, MatchOption, option_map, unwrap_or, bytes_eq, true, list_any, option_map_or, Alike, EachRecord, Record}
+use Rattle.std.specs.Prelude.{◌≡◌, ℕ, zero, suc, ◌⊎◌, List, [], ◌++◌, Option, None, Some, IfSome, MatchOption, option_map, unwrap_or, bytes_eq, true}
+use Rattle.langtag_scan.specs.Grammar.{list_any, option_map_or, Alike, EachRecord, Record}
 use Rattle.langtag_parent.specs.Parent.{IsParent, likely_of}
 use Rattle.langtag_parent.specs.ParentLocales.{parent_locales}
 

@@ -1,5 +1,6 @@
 -- Tags of a language, a script and a region. Only contracts of private functions cite this page.
-use Rattle.langtag_scan.specs.Grammar.{◌≡◌, ℕ, ◌+◌, ◌-◌, ◌<◌, List, [], length, take, None, Record, IsTag}
+use Rattle.std.specs.Prelude.{◌≡◌, ℕ, ◌+◌, ◌-◌, ◌<◌, List, [], length, take, None}
+use Rattle.langtag_scan.specs.Grammar.{Record, IsTag}
 
 -- a record without variants, extensions and private use
 pub record IsPlain (r : Record) : Type 0 where

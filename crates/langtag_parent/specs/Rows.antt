@@ -1,5 +1,6 @@
 -- CLDR's list of parents: a tag of a language, which may have a script and a region, and the parent of this tag.
-use Rattle.langtag_scan.specs.Grammar.{ℕ, List, [], ◌∷◌, Option, find, option_map, are_alike}
+use Rattle.std.specs.Prelude.{ℕ, List, [], ◌∷◌, Option, find, option_map}
+use Rattle.langtag_scan.specs.Grammar.{are_alike}
 use Rattle.langtag_cldr.specs.Definitions.{field}
 
 -- a tag and its parent, which is the empty text if the tag has no parent

@@ -1,6 +1,7 @@
 //! Laws of the parents of a tag (UTS #35, part 1, section 'Parent Locales'). The toolchain checks only contracts, so
 //! each law is the clause of a function that does nothing.
-ghost use Rattle.langtag_scan.specs.Grammar.{◌≡◌, ◌+◌, ℕ, List, Some, length, subtags, IsNormal};
+ghost use Rattle.std.specs.Prelude.{◌≡◌, ◌+◌, ℕ, List, Some, length};
+ghost use Rattle.langtag_scan.specs.Grammar.{subtags, IsNormal};
 ghost use Rattle.langtag_parent.specs.Parent.{IsParent};
 ghost use Rattle.langtag_parent.specs.ParentLaws.{EndsWithin, IsInOneScript, IsKeptOrListed};
 

@@ -1,5 +1,6 @@
 //! The parent of a tag in whose region the language is usually written in another script.
-ghost use Rattle.langtag_scan.specs.Grammar.{◌≡◌, ◌≤◌, [], find, flat_map, length, map, option_map, are_alike};
+ghost use Rattle.std.specs.Prelude.{◌≡◌, ◌≤◌, [], find, flat_map, length, map, option_map};
+ghost use Rattle.langtag_scan.specs.Grammar.{are_alike};
 ghost use Rattle.langtag.specs.Definitions.{lang_tag_text, EachLanguageSpelling, language_text, region_text};
 ghost use Rattle.langtag_parent.specs.Parent.{likely_of, parent_in_script, unless_alike};
 ghost use Rattle.langtag_parent.specs.declared.tables.TheConstants.{SCRIPTED_LANGUAGES};

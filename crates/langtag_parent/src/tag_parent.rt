@@ -1,5 +1,6 @@
 //! The parent of a tag.
-ghost use Rattle.langtag_scan.specs.Grammar.{◌≡◌, ◌+◌, ◌-◌, None, Some, length, take, option_map, EachRecord};
+ghost use Rattle.std.specs.Prelude.{◌≡◌, ◌+◌, ◌-◌, None, Some, length, take, option_map};
+ghost use Rattle.langtag_scan.specs.Grammar.{EachRecord};
 ghost use Rattle.langtag.specs.Definitions.{lang_tag_text, normal_lang_tag_text, region_text, script_text};
 ghost use Rattle.langtag_parent.specs.Parent.{IsParent, parent_of, parent_of_region, parent_of_script, plain_parent, is_base};
 ghost use Rattle.langtag_parent.specs.Plain.{IsLonger, IsPlain};

@@ -1,6 +1,7 @@
 -- Elements that occur twice in a list. A tag with such variants or singletons is not valid, but it is well formed (RFC
 -- 5646 section 2.2.9).
-use Rattle.langtag_scan.specs.Grammar.{◌≡◌, ℕ, Bool, true, false, ◌==◌, List, [], ◌∷◌, ◌++◌, length, slice_get, Option, None, Some, if◌then◌else◌, option_and_then, list_any, AllPairs, Any, fold_byte}
+use Rattle.std.specs.Prelude.{◌≡◌, ℕ, Bool, true, false, ◌==◌, List, [], ◌∷◌, ◌++◌, length, slice_get, Option, None, Some, if◌then◌else◌, option_and_then, AllPairs, Any}
+use Rattle.langtag_scan.specs.Grammar.{list_any, fold_byte}
 
 module _ {A : Type 0} (alike : A → A → Bool) where
   -- the index of the first element that equals an earlier one by `alike`, or none; the elements in `seen` come before

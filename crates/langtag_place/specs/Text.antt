@@ -1,5 +1,6 @@
 -- The text of each type, as a list of bytes.
-use Rattle.langtag_scan.specs.Prelude.{ℕ, List, String, string_bytes, Global}
+use Rattle.std.specs.Prelude.{ℕ, List, String, string_bytes}
+use Rattle.langtag_scan.specs.Prelude.{Global}
 use Rattle.langtag_place.specs.declared.script.Script.{Script}
 use Rattle.langtag_place.specs.declared.script.ScriptBuf.{ScriptBuf}
 use Rattle.langtag_place.specs.declared.region.Region.{Region}

@@ -1,6 +1,7 @@
 -- What a block of variants contains during the search for the first repeated variant. Only contracts of private
 -- functions cite this page.
-use Rattle.langtag_scan.specs.Grammar.{◌≡◌, ℕ, ◌<◌, ◌≤◌, Bool, false, ◌==◌, List, map, take, drop, length, slice_index, slice_index_or, [], Option, None, Some, IsPermutation, list_any, are_alike, folded_number}
+use Rattle.std.specs.Prelude.{◌≡◌, ℕ, ◌<◌, ◌≤◌, Bool, false, ◌==◌, List, map, take, drop, length, slice_index, slice_index_or, [], Option, None, Some, IsPermutation}
+use Rattle.langtag_scan.specs.Grammar.{list_any, are_alike, folded_number}
 use Rattle.langtag_place.specs.Repeat.{repeat_index}
 
 -- no text before the index `end` equals an earlier text, ignoring case

@@ -1,5 +1,6 @@
 -- Lists of variants (RFC 5646 section 2.1, `*("-" variant)` without the first hyphen).
-use Rattle.langtag_scan.specs.Grammar.{◌≡◌, ℕ, IsTrue, List, AllByRecursion, is_variant, join}
+use Rattle.std.specs.Prelude.{◌≡◌, ℕ, IsTrue, List}
+use Rattle.langtag_scan.specs.Grammar.{AllByRecursion, is_variant, join}
 
 -- each subtag in the list is a variant, and the text consists of all these subtags, joined by hyphens
 pub record SpellsVariants (variants : List (List ℕ)) (text : List ℕ) : Type 0 where

@@ -1,5 +1,6 @@
 //! The region subtag (RFC 5646 section 2.2.4).
-ghost use Rattle.langtag_scan.specs.Grammar.{◌≡◌, ◌==◌, ◌&&◌, ◌||◌, Some, IsTrue, IfOk, IfErr, is_ok, length, string_bytes, is_ascii_alphabetic, is_ascii_digit, list_all, are_alike, is_region};
+ghost use Rattle.std.specs.Prelude.{◌≡◌, ◌==◌, ◌&&◌, ◌||◌, Some, IsTrue, IfOk, IfErr, is_ok, length, string_bytes};
+ghost use Rattle.langtag_scan.specs.Grammar.{is_ascii_alphabetic, is_ascii_digit, list_all, are_alike, is_region};
 
 use langtag_scan::{Caseless, is_region};
 use std::alloc::{AllocError, Global};

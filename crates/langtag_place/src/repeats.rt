@@ -1,5 +1,6 @@
 //! Variants that occur twice in a list. A tag with such variants is well formed but not valid (RFC 5646 section 2.2.5).
-ghost use Rattle.langtag_scan.specs.Grammar.{◌≡◌, ◌≤◌, length, take, list_any, are_alike, subtags};
+ghost use Rattle.std.specs.Prelude.{◌≡◌, ◌≤◌, length, take};
+ghost use Rattle.langtag_scan.specs.Grammar.{list_any, are_alike, subtags};
 ghost use Rattle.langtag_place.specs.Repeat.{repeat_index};
 ghost use Rattle.langtag_place.specs.Text.{variant_text, variants_text};
 

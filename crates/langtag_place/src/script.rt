@@ -1,5 +1,6 @@
 //! The script subtag (RFC 5646 section 2.2.3).
-ghost use Rattle.langtag_scan.specs.Grammar.{◌≡◌, ◌==◌, ◌&&◌, Some, IsTrue, IfOk, IfErr, is_ok, length, string_bytes, is_ascii_alphabetic, list_all, are_alike, is_script};
+ghost use Rattle.std.specs.Prelude.{◌≡◌, ◌==◌, ◌&&◌, Some, IsTrue, IfOk, IfErr, is_ok, length, string_bytes};
+ghost use Rattle.langtag_scan.specs.Grammar.{is_ascii_alphabetic, list_all, are_alike, is_script};
 
 use langtag_scan::{Caseless, is_script};
 use std::alloc::{AllocError, Global};

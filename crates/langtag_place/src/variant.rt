@@ -1,5 +1,6 @@
 //! The variant subtag (RFC 5646 section 2.2.5).
-ghost use Rattle.langtag_scan.specs.Grammar.{◌≡◌, ◌==◌, ◌&&◌, ◌||◌, Some, IsTrue, IfOk, IfErr, is_ok, length, slice_index, string_bytes, is_ascii_alphabetic, is_ascii_digit, is_in_range, list_all, are_alike, is_variant};
+ghost use Rattle.std.specs.Prelude.{◌≡◌, ◌==◌, ◌&&◌, ◌||◌, Some, IsTrue, IfOk, IfErr, is_ok, length, slice_index, string_bytes};
+ghost use Rattle.langtag_scan.specs.Grammar.{is_ascii_alphabetic, is_ascii_digit, is_in_range, list_all, are_alike, is_variant};
 
 use langtag_scan::{Caseless, is_variant};
 use std::alloc::{AllocError, Global};

@@ -1,5 +1,6 @@
 //! Finds the first repeated variant of a long list of variants, block by block.
-ghost use Rattle.langtag_scan.specs.Grammar.{◌≡◌, ◌==◌, ◌&&◌, ◌+◌, ◌≤◌, ℕ, List, [], ◌∷◌, ◌++◌, length, take, drop, map, list_any, IsNonDecreasing, are_alike, folded_number, subtags};
+ghost use Rattle.std.specs.Prelude.{◌≡◌, ◌==◌, ◌&&◌, ◌+◌, ◌≤◌, ℕ, List, [], ◌∷◌, ◌++◌, length, take, drop, map};
+ghost use Rattle.langtag_scan.specs.Grammar.{list_any, IsNonDecreasing, are_alike, folded_number, subtags};
 ghost use Rattle.langtag_place.specs.Text.{variant_text, variants_text, variants_left};
 ghost use Rattle.langtag_place.specs.Repeat.{repeat_index};
 ghost use Rattle.langtag_place.specs.VariantBlocks.{HasNoRepeatBefore, IsRepeatBefore, HoldsFrom, IsPlaceOf, AreMet};

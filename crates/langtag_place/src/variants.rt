@@ -1,5 +1,6 @@
 //! The variants of a tag as one string (RFC 5646 section 2.2.5).
-ghost use Rattle.langtag_scan.specs.Grammar.{◌≡◌, ◌↔◌, ◌-◌, ℕ, List, [], Some, IsTrue, IfOk, IfErr, is_ok, length, slice_get, option_map, string_bytes, are_alike, subtags};
+ghost use Rattle.std.specs.Prelude.{◌≡◌, ◌↔◌, ◌-◌, ℕ, List, [], Some, IsTrue, IfOk, IfErr, is_ok, length, slice_get, option_map, string_bytes};
+ghost use Rattle.langtag_scan.specs.Grammar.{are_alike, subtags};
 ghost use Rattle.langtag_place.specs.Decided.{is_variants};
 ghost use Rattle.langtag_place.specs.Variants.{IsVariants, SpellsVariants};
 

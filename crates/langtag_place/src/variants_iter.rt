@@ -1,5 +1,6 @@
 //! An iterator over the variants of a tag, from either end.
-ghost use Rattle.langtag_scan.specs.Grammar.{◌≡◌, ◌<◌, ◌^◌, IsTrue, [], length, ⊤, YieldsFirstBy, YieldsLastBy, item_count, subtags};
+ghost use Rattle.std.specs.Prelude.{◌≡◌, ◌<◌, ◌^◌, IsTrue, [], length, ⊤};
+ghost use Rattle.langtag_scan.specs.Grammar.{YieldsFirstBy, YieldsLastBy, item_count, subtags};
 ghost use Rattle.langtag_place.specs.Decided.{are_variants, is_variants};
 
 use crate::variant::Variant;

@@ -1,5 +1,6 @@
 -- What the modifiers of locale names mean, as glibc, KDE and GNOME use them.
-use Rattle.langtag_scan.specs.Grammar.{ℕ, Bool, true, false, ◌&&◌, ◌||◌, List, [], ◌∷◌, Option, None, Some, codes, find, is_some, unwrap_or, if◌then◌else◌, list_any, are_alike, is_script}
+use Rattle.std.specs.Prelude.{ℕ, Bool, true, false, ◌&&◌, ◌||◌, List, [], ◌∷◌, Option, None, Some, codes, find, is_some, unwrap_or, if◌then◌else◌}
+use Rattle.langtag_scan.specs.Grammar.{list_any, are_alike, is_script}
 use Rattle.langtag_cldr.specs.Definitions.{script_codes}
 
 -- whether a text is the code of a script (ISO 15924)

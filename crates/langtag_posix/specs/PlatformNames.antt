@@ -1,5 +1,6 @@
 -- The language and the territory of a locale name, as Android's resource folders and old versions of .NET write them.
-use Rattle.langtag_scan.specs.Prelude.{ℕ, ◌==◌, ◌&&◌, ◌||◌, Bool, List, [], ◌∷◌, ◌++◌, Option, None, Some, codes, length, map, nat_le, option_map, unwrap_or, if◌then◌else◌, after_first, before_first}
+use Rattle.std.specs.Prelude.{ℕ, ◌==◌, ◌&&◌, ◌||◌, Bool, List, [], ◌∷◌, ◌++◌, Option, None, Some, codes, length, map, nat_le, option_map, unwrap_or, if◌then◌else◌}
+use Rattle.langtag_scan.specs.Prelude.{after_first, before_first}
 use Rattle.langtag_scan.specs.Grammar.{are_alike, is_primary, is_region, is_hyphen}
 use Rattle.langtag_range.specs.Definitions.{hyphened}
 use Rattle.langtag_cldr.specs.Definitions.{or_else}

@@ -1,6 +1,7 @@
 -- The tag for a locale name: language[_territory][.codeset][@modifier] (IEEE Std 1003.1, section 8.2), a name as Java and
 -- Android print it, with a script after `_#`, or a name as in `PlatformNames`.
-use Rattle.langtag_scan.specs.Prelude.{◌≡◌, ℕ, ◌+◌, ◌≤◌, ◌==◌, ◌&&◌, Bool, true, false, List, [], ◌∷◌, ◌++◌, length, Option, None, Some, codes, if◌then◌else◌, before_first, after_first, Bor}
+use Rattle.std.specs.Prelude.{◌≡◌, ℕ, ◌+◌, ◌≤◌, ◌==◌, ◌&&◌, Bool, true, false, List, [], ◌∷◌, ◌++◌, length, Option, None, Some, codes, if◌then◌else◌}
+use Rattle.langtag_scan.specs.Prelude.{before_first, after_first, Bor}
 use Rattle.langtag_scan.specs.Grammar.{are_alike, is_script, Extension, Record, spell, IsTag}
 use Rattle.langtag.specs.Definitions.{with_script, with_variants, IsForm}
 use Rattle.langtag_range.specs.Definitions.{front_of, is_hash, locale_place}

@@ -1,6 +1,7 @@
 -- The POSIX locale name of a tag (IEEE Std 1003.1, section 8.2), language[_territory][@modifier], which `Posix` reads as
 -- the tag. A name has a variant only for the keyword `va-posix`: en_US_POSIX.
-use Rattle.langtag_scan.specs.Prelude.{◌≡◌, ℕ, Bool, false, not, ◌&&◌, ◌⊎◌, ◌++◌, List, [], ◌∷◌, IsTrue, Option, None, Some, codes, drop, length, nat_le, unwrap_or, option_map, option_and_then, if◌then◌else◌, option_map_or}
+use Rattle.std.specs.Prelude.{◌≡◌, ℕ, Bool, false, not, ◌&&◌, ◌⊎◌, ◌++◌, List, [], ◌∷◌, IsTrue, Option, None, Some, codes, drop, length, nat_le, unwrap_or, option_map, option_and_then, if◌then◌else◌}
+use Rattle.langtag_scan.specs.Prelude.{option_map_or}
 use Rattle.langtag_scan.specs.Grammar.{Alike, are_alike, fold_text, ends_of, language_part, variants_part, EachRecord, Record, spell}
 use Rattle.langtag.specs.Definitions.{capital_text, with_script, PartOf}
 use Rattle.langtag_tables.specs.Fields.{Fields}

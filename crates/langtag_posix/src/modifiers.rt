@@ -1,5 +1,6 @@
 //! What the modifiers of locale names mean.
-ghost use Rattle.langtag_scan.specs.Grammar.{◌≡◌, ◌||◌, IsTrue, MatchOption, None, Some, codes, false, if◌then◌else◌, option_map, list_any, are_alike, is_script};
+ghost use Rattle.std.specs.Prelude.{◌≡◌, ◌||◌, IsTrue, MatchOption, None, Some, codes, false, if◌then◌else◌, option_map};
+ghost use Rattle.langtag_scan.specs.Grammar.{list_any, are_alike, is_script};
 ghost use Rattle.langtag.specs.Definitions.{script_text};
 ghost use Rattle.langtag_posix.specs.Modifiers as spec;
 ghost use Rattle.langtag_posix.specs.Posix.{modifier_of};

@@ -1,5 +1,6 @@
 //! The tag for a POSIX locale name.
-ghost use Rattle.langtag_scan.specs.Grammar.{◌≡◌, ◌+◌, ◌≤◌, ℕ, IsTrue, List, None, Some, IfOk, IfErr, IfSome, MatchOption, length, option_map, is_variant};
+ghost use Rattle.std.specs.Prelude.{◌≡◌, ◌+◌, ◌≤◌, ℕ, IsTrue, List, None, Some, IfOk, IfErr, IfSome, MatchOption, length, option_map};
+ghost use Rattle.langtag_scan.specs.Grammar.{is_variant};
 ghost use Rattle.langtag.specs.Definitions.{SetsPart, SetsVariants, IsVariants, script_text, lang_tag_text, lang_tag_buf_text, Writes, IsForm};
 ghost use Rattle.langtag_range.specs.Definitions.{front_of};
 ghost use Rattle.langtag_posix.specs.PlatformNames.{read_place};

@@ -1,5 +1,6 @@
 //! The parts of a POSIX locale name, and how they are written.
-ghost use Rattle.langtag_scan.specs.Grammar.{◌≡◌, ◌≤◌, [], if◌then◌else◌, length, option_map, fold_text, EachRecord};
+ghost use Rattle.std.specs.Prelude.{◌≡◌, ◌≤◌, [], if◌then◌else◌, length, option_map};
+ghost use Rattle.langtag_scan.specs.Grammar.{fold_text, EachRecord};
 ghost use Rattle.langtag.specs.Definitions.{capital_text, normal_lang_tag_text, Writes};
 ghost use Rattle.langtag_posix.specs.Modifiers.{is_empty};
 

@@ -1,5 +1,6 @@
 //! The parts of the POSIX locale name for a tag.
-ghost use Rattle.langtag_scan.specs.Grammar.{◌≡◌, ◌≤◌, [], IfSome, length, None, Some, if◌then◌else◌, option_map, unwrap_or, variants_part, EachRecord};
+ghost use Rattle.std.specs.Prelude.{◌≡◌, ◌≤◌, [], IfSome, length, None, Some, if◌then◌else◌, option_map, unwrap_or};
+ghost use Rattle.langtag_scan.specs.Grammar.{variants_part, EachRecord};
 ghost use Rattle.langtag.specs.Definitions.{normal_lang_tag_text, language_text, region_text};
 ghost use Rattle.langtag_likely.specs.Maximal.{fields_of};
 ghost use Rattle.langtag_cldr.specs.Definitions.{field_texts};

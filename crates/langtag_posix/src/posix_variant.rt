@@ -1,5 +1,6 @@
 //! The variant `POSIX` of a locale name, which becomes the keyword `va-posix`.
-ghost use Rattle.langtag_scan.specs.Grammar.{◌≡◌, ◌≤◌, MatchOption, length, EachRecord};
+ghost use Rattle.std.specs.Prelude.{◌≡◌, ◌≤◌, MatchOption, length};
+ghost use Rattle.langtag_scan.specs.Grammar.{EachRecord};
 ghost use Rattle.langtag.specs.Definitions.{IsForm, lang_tag_text, normal_lang_tag_text};
 ghost use Rattle.langtag_posix.specs.Posix.{IsAroundPosix, posix_replaced};
 

@@ -1,6 +1,7 @@
 -- The rule `privateuse` as a test of the subtags of a text. Only ghost fields and contracts of private functions cite
 -- this page. Public contracts cite `IsPrivateUse` instead.
-use Rattle.langtag_scan.specs.Grammar.{ℕ, Bool, false, ◌&&◌, List, [], ◌∷◌, list_all, is_mark, is_private_subtag, subtags}
+use Rattle.std.specs.Prelude.{ℕ, Bool, false, ◌&&◌, List, [], ◌∷◌}
+use Rattle.langtag_scan.specs.Grammar.{list_all, is_mark, is_private_subtag, subtags}
 
 abbrev pub are_private : List (List ℕ) → Bool
 are_private subtags = list_all is_private_subtag subtags

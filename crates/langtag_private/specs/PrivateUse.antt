@@ -1,6 +1,7 @@
 -- The rule `privateuse` (RFC 5646 section 2.1): which texts are a private use part, and which subtags such a part has
 -- after its mark.
-use Rattle.langtag_scan.specs.Grammar.{◌≡◌, ℕ, List, PrivateUse, IsWellFormedPrivateUse, private_use_flat, join, IsPrivate}
+use Rattle.std.specs.Prelude.{◌≡◌, ℕ, List}
+use Rattle.langtag_scan.specs.Grammar.{PrivateUse, IsWellFormedPrivateUse, private_use_flat, join, IsPrivate}
 
 -- privateuse = "x" 1*("-" (1*8alphanum)): the same rule as for a whole private use tag, so this is the same definition
 abbrev pub IsPrivateUse : List ℕ → Type 0

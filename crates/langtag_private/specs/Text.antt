@@ -1,5 +1,6 @@
 -- The text of each type, as a list of bytes, and the texts that an iterator will still return.
-use Rattle.langtag_scan.specs.Prelude.{ℕ, List, String, string_bytes, Global}
+use Rattle.std.specs.Prelude.{ℕ, List, String, string_bytes}
+use Rattle.langtag_scan.specs.Prelude.{Global}
 use Rattle.langtag_private.specs.declared.private_use_subtag.PrivateUseSubtag.{PrivateUseSubtag}
 use Rattle.langtag_private.specs.declared.private_use_subtag.PrivateUseSubtagBuf.{PrivateUseSubtagBuf}
 use Rattle.langtag_private.specs.declared.private_use.PrivateUse.{PrivateUse}

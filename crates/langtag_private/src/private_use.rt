@@ -1,5 +1,6 @@
 //! The private use part of a tag (RFC 5646 section 2.2.7).
-ghost use Rattle.langtag_scan.specs.Grammar.{◌≡◌, ◌↔◌, Some, IsTrue, IfOk, IfErr, is_ok, drop, string_bytes, are_alike, subtags};
+ghost use Rattle.std.specs.Prelude.{◌≡◌, ◌↔◌, Some, IsTrue, IfOk, IfErr, is_ok, drop, string_bytes};
+ghost use Rattle.langtag_scan.specs.Grammar.{are_alike, subtags};
 ghost use Rattle.langtag_private.specs.PrivateUse.{IsPrivateUse, EachPrivateUseSpelling};
 ghost use Rattle.langtag_private.specs.Decided as test;
 

@@ -1,5 +1,6 @@
 //! An iterator over the subtags of a private use part.
-ghost use Rattle.langtag_scan.specs.Grammar.{◌≡◌, ◌<◌, ◌^◌, IsTrue, [], drop, length, ⊤, YieldsFirstBy, item_count, subtags};
+ghost use Rattle.std.specs.Prelude.{◌≡◌, ◌<◌, ◌^◌, IsTrue, [], drop, length, ⊤};
+ghost use Rattle.langtag_scan.specs.Grammar.{YieldsFirstBy, item_count, subtags};
 ghost use Rattle.langtag_private.specs.Decided.{are_private, is_private_use_text};
 
 use crate::private_use_subtag::PrivateUseSubtag;

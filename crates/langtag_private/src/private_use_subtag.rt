@@ -1,5 +1,6 @@
 //! A subtag of a private use part (RFC 5646 section 2.2.7).
-ghost use Rattle.langtag_scan.specs.Grammar.{◌≡◌, ◌&&◌, ◌||◌, length, Some, IsTrue, IfOk, IfErr, is_ok, string_bytes, is_ascii_alphabetic, is_ascii_digit, is_in_range, list_all, are_alike, is_private_subtag};
+ghost use Rattle.std.specs.Prelude.{◌≡◌, ◌&&◌, ◌||◌, length, Some, IsTrue, IfOk, IfErr, is_ok, string_bytes};
+ghost use Rattle.langtag_scan.specs.Grammar.{is_ascii_alphabetic, is_ascii_digit, is_in_range, list_all, are_alike, is_private_subtag};
 
 use langtag_scan::{Caseless, is_private_subtag};
 use std::alloc::{AllocError, Global};

@@ -1,5 +1,6 @@
 -- Basic filtering (RFC 4647 section 3.3.1).
-use Rattle.langtag_scan.specs.Grammar.{◌≡◌, ◌⊎◌, ℕ, Bool, true, ◌==◌, ◌&&◌, ◌||◌, IsTrue, List, [], ◌∷◌, ◌++◌, length, take, drop, Alike, are_alike}
+use Rattle.std.specs.Prelude.{◌≡◌, ◌⊎◌, ℕ, Bool, true, ◌==◌, ◌&&◌, ◌||◌, IsTrue, List, [], ◌∷◌, ◌++◌, length, take, drop}
+use Rattle.langtag_scan.specs.Grammar.{Alike, are_alike}
 use Rattle.langtag_range.specs.Range.{is_star}
 
 -- the tag equals the range, or begins with the range and a hyphen, ignoring case

@@ -1,5 +1,6 @@
 -- The items of an Accept-Language header, and the element that an item represents (RFC 9110 section 12.5.4).
-use Rattle.langtag_scan.specs.Prelude.{ℕ, ◌==◌, Bool, ◌||◌, if◌then◌else◌, List, [], ◌∷◌, Option, Some, None, reverse, list_all, list_any, slice_split, before_first, after_first, option_map}
+use Rattle.std.specs.Prelude.{ℕ, ◌==◌, Bool, ◌||◌, if◌then◌else◌, List, [], ◌∷◌, Option, Some, None, reverse, option_map}
+use Rattle.langtag_scan.specs.Prelude.{list_all, list_any, slice_split, before_first, after_first}
 use Rattle.langtag_range.specs.Range.{is_basic_range}
 use Rattle.langtag_range.specs.Weight.{weight}
 

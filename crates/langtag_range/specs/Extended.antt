@@ -1,5 +1,6 @@
 -- Extended filtering (RFC 4647 section 3.3.2).
-use Rattle.langtag_scan.specs.Grammar.{◌≡◌, ℕ, Bool, true, false, not, ◌&&◌, ◌||◌, if◌then◌else◌, IsTrue, List, [], ◌∷◌, ◌++◌, filter, list_all, are_alike, subtags, is_single}
+use Rattle.std.specs.Prelude.{◌≡◌, ℕ, Bool, true, false, not, ◌&&◌, ◌||◌, if◌then◌else◌, IsTrue, List, [], ◌∷◌, ◌++◌, filter}
+use Rattle.langtag_scan.specs.Grammar.{list_all, are_alike, subtags, is_single}
 use Rattle.langtag_range.specs.Range.{is_star}
 
 -- whether a subtag of a range is "*", or equals a subtag of a tag, ignoring case

@@ -1,5 +1,6 @@
 -- The fallbacks of a language range in a lookup, which removes subtags from its end (RFC 4647 section 3.4).
-use Rattle.langtag_scan.specs.Grammar.{ℕ, ◌-◌, ◌==◌, Bool, not, ◌||◌, List, [], ◌∷◌, ◌++◌, length, map, filter, slice_index_or, if◌then◌else◌, is_single}
+use Rattle.std.specs.Prelude.{ℕ, ◌-◌, ◌==◌, Bool, not, ◌||◌, List, [], ◌∷◌, ◌++◌, length, map, filter, slice_index_or, if◌then◌else◌}
+use Rattle.langtag_scan.specs.Grammar.{is_single}
 
 -- the texts before each hyphen of a text, the longest first
 abbrev pub before_hyphens : List ℕ → List (List ℕ)

@@ -1,6 +1,7 @@
 -- The language and the territory of a POSIX locale name, language[_territory][.codeset][@modifier] (IEEE Std 1003.1,
 -- section 8.2), or of a name as Java and Android print it, with a script after `_#`.
-use Rattle.langtag_scan.specs.Prelude.{ℕ, ◌-◌, ◌==◌, ◌||◌, Bool, if◌then◌else◌, List, length, slice_index_or, take, before_first, list_any}
+use Rattle.std.specs.Prelude.{ℕ, ◌-◌, ◌==◌, ◌||◌, Bool, if◌then◌else◌, List, length, slice_index_or, take}
+use Rattle.langtag_scan.specs.Prelude.{before_first, list_any}
 
 -- whether a byte is "." or "@": it and what follows are dropped, as in zh_CN.UTF-8 and de@euro
 abbrev pub ends_locale : ℕ → Bool

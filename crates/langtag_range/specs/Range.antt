@@ -1,5 +1,6 @@
 -- Language ranges (RFC 4647 section 2).
-use Rattle.langtag_scan.specs.Grammar.{ℕ, Bool, false, ◌&&◌, ◌||◌, List, [], ◌∷◌, list_all, bytes_eq, has_length, are_letters, is_private_subtag, subtags}
+use Rattle.std.specs.Prelude.{ℕ, Bool, false, ◌&&◌, ◌||◌, List, [], ◌∷◌, bytes_eq}
+use Rattle.langtag_scan.specs.Grammar.{list_all, has_length, are_letters, is_private_subtag, subtags}
 
 -- "*"
 abbrev pub is_star : List ℕ → Bool

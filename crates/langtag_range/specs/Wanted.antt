@@ -1,5 +1,6 @@
 -- How a header is read leniently: every range that can be recognised counts, and nothing is an error.
-use Rattle.langtag_scan.specs.Prelude.{◌≡◌, ℕ, ◌+◌, ◌-◌, ◌*◌, ◌==◌, Bool, ◌&&◌, ◌||◌, false, if◌then◌else◌, List, [], ◌∷◌, Option, Some, None, map, length, nat_lt, slice_index_or, list_all, list_any, slice_split, before_first, after_first, cons_option}
+use Rattle.std.specs.Prelude.{◌≡◌, ℕ, ◌+◌, ◌-◌, ◌*◌, ◌==◌, Bool, ◌&&◌, ◌||◌, false, if◌then◌else◌, List, [], ◌∷◌, Option, Some, None, map, length, nat_lt, slice_index_or}
+use Rattle.langtag_scan.specs.Prelude.{list_all, list_any, slice_split, before_first, after_first, cons_option}
 use Rattle.langtag_scan.specs.Grammar.{Alike, fold_text, are_digits}
 use Rattle.langtag_range.specs.Element.{Element, is_semicolon, range_of, trimmed, items}
 use Rattle.langtag_range.specs.Locale.{locale_place}

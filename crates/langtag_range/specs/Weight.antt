@@ -1,5 +1,6 @@
 -- The weight of an element, weight = OWS ";" OWS "q=" qvalue (RFC 9110 section 12.4.2).
-use Rattle.langtag_scan.specs.Prelude.{ℕ, ◌+◌, ◌-◌, ◌*◌, ◌/◌, ◌^◌, ◌==◌, Bool, true, false, ◌&&◌, ◌||◌, if◌then◌else◌, List, [], ◌∷◌, Option, Some, None, length, fold, drop, is_in_range, list_all}
+use Rattle.std.specs.Prelude.{ℕ, ◌+◌, ◌-◌, ◌*◌, ◌/◌, ◌^◌, ◌==◌, Bool, true, false, ◌&&◌, ◌||◌, if◌then◌else◌, List, [], ◌∷◌, Option, Some, None, length, fold, drop}
+use Rattle.langtag_scan.specs.Prelude.{is_in_range, list_all}
 
 -- [ "." 0*3DIGIT ], in which no digit is greater than `greatest`
 abbrev pub is_fraction : ℕ → List ℕ → Bool

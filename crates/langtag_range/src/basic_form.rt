@@ -1,5 +1,6 @@
 //! The basic range for an extended range (RFC 4647 section 3.2).
-ghost use Rattle.langtag_scan.specs.Grammar.{◌≡◌, are_alike};
+ghost use Rattle.std.specs.Prelude.{◌≡◌};
+ghost use Rattle.langtag_scan.specs.Grammar.{are_alike};
 ghost use Rattle.langtag_range.specs.BasicForm as spec;
 
 /// Returns whether a tag equals a range, ignoring case and each `-*`.

@@ -1,5 +1,6 @@
 //! The length of a fallback of a language range (RFC 4647 section 3.4).
-ghost use Rattle.langtag_scan.specs.Prelude.{◌≡◌, ◌<◌, ◌∷◌, [], length, take, IfSome, IsTrue, option_map_or};
+ghost use Rattle.std.specs.Prelude.{◌≡◌, ◌<◌, ◌∷◌, [], length, take, IfSome, IsTrue};
+ghost use Rattle.langtag_scan.specs.Prelude.{option_map_or};
 ghost use Rattle.langtag_range.specs.Fallback as spec;
 ghost use Rattle.langtag_range.specs.Definitions.{is_language_range};
 

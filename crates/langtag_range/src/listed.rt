@@ -1,5 +1,6 @@
 //! A language range in a list that the caller has, such as the user's settings.
-ghost use Rattle.langtag_scan.specs.Prelude.{◌≡◌, IfSome, IsTrue, slice_split, option_map};
+ghost use Rattle.std.specs.Prelude.{◌≡◌, IfSome, IsTrue, option_map};
+ghost use Rattle.langtag_scan.specs.Prelude.{slice_split};
 ghost use Rattle.langtag_range.specs.Listed as spec;
 ghost use Rattle.langtag_range.specs.Definitions.{are_range_subtags, is_language_range, hyphened, is_separator};
 

@@ -1,5 +1,6 @@
 //! The language ranges of a header, read leniently.
-ghost use Rattle.langtag_scan.specs.Prelude.{◌≡◌, ◌<◌, ◌^◌, ◌∷◌, [], IfSome, IsTrue, length, YieldsFirstBy, item_count, option_map_or};
+ghost use Rattle.std.specs.Prelude.{◌≡◌, ◌<◌, ◌^◌, ◌∷◌, [], IfSome, IsTrue, length};
+ghost use Rattle.langtag_scan.specs.Prelude.{YieldsFirstBy, item_count, option_map_or};
 ghost use Rattle.langtag_range.specs.Range.{is_basic_range};
 ghost use Rattle.langtag_range.specs.Wanted as spec;
 

@@ -1,5 +1,6 @@
 //! An element of a header, read leniently.
-ghost use Rattle.langtag_scan.specs.Prelude.{◌≡◌, false, IfSome, IsTrue, MatchOption, after_first, slice_split, list_all, option_map};
+ghost use Rattle.std.specs.Prelude.{◌≡◌, false, IfSome, IsTrue, MatchOption, option_map};
+ghost use Rattle.langtag_scan.specs.Prelude.{after_first, slice_split, list_all};
 ghost use Rattle.langtag_range.specs.Definitions.{is_semicolon, items, trimmed, are_basic_subtags, is_basic_range, is_star};
 ghost use Rattle.langtag_range.specs.Locale as place;
 ghost use Rattle.langtag_range.specs.Wanted as spec;

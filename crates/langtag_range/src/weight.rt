@@ -1,5 +1,6 @@
 //! The weight of a language range in a header (RFC 9110 section 12.4.2).
-ghost use Rattle.langtag_scan.specs.Prelude.{◌≡◌, ◌<◌, ◌-◌, IsTrue, slice_index_or, is_in_range, list_all};
+ghost use Rattle.std.specs.Prelude.{◌≡◌, ◌<◌, ◌-◌, IsTrue, slice_index_or};
+ghost use Rattle.langtag_scan.specs.Prelude.{is_in_range, list_all};
 ghost use Rattle.langtag_range.specs.Weight as spec;
 
 /// Returns the weight in a string, in thousandths (RFC 9110 section 12.4.2): 500 for `q=0.5` and `Q=0.500`. Returns

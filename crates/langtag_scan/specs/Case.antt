@@ -1,6 +1,7 @@
 -- The case of ASCII letters, which tags ignore (RFC 5646 section 2.1.1): how texts are folded to lowercase, when two
 -- texts are alike, how texts are ordered, and what a text feeds to a hasher.
-use Rattle.langtag_scan.specs.Prelude.{◌≡◌, ℕ, ◌+◌, ◌*◌, ◌<◌, Bool, List, [], ◌∷◌, ◌++◌, fold, map, length, take, bytes_eq, to_ascii_lowercase, Ordering, nat_cmp, on, slice_cmp, HashWrites}
+use Rattle.std.specs.Prelude.{◌≡◌, ℕ, ◌+◌, ◌*◌, ◌<◌, Bool, List, [], ◌∷◌, ◌++◌, fold, map, length, take, bytes_eq}
+use Rattle.langtag_scan.specs.Prelude.{to_ascii_lowercase, Ordering, nat_cmp, on, slice_cmp, HashWrites}
 
 -- an uppercase ASCII letter (65 to 90) becomes lowercase, which adds 32; any other byte stays as it is
 unfoldable pub fold_byte : ℕ → ℕ

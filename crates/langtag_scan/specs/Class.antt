@@ -1,6 +1,7 @@
 -- The classes of subtags (RFC 5646 section 2.1). Letters and digits are ASCII letters and ASCII digits. The comments
 -- give the rule of the grammar for each class.
-use Rattle.langtag_scan.specs.Prelude.{ℕ, Bool, false, not, ◌&&◌, ◌||◌, ◌==◌, List, [], ◌∷◌, length, is_ascii_alphabetic, is_ascii_digit, is_in_range, list_all}
+use Rattle.std.specs.Prelude.{ℕ, Bool, false, not, ◌&&◌, ◌||◌, ◌==◌, List, [], ◌∷◌, length}
+use Rattle.langtag_scan.specs.Prelude.{is_ascii_alphabetic, is_ascii_digit, is_in_range, list_all}
 
 -- ALPHA: an ASCII letter
 unfoldable pub is_letter : ℕ → Bool

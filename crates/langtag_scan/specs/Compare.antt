@@ -1,7 +1,8 @@
 -- Types whose values are compared by their texts, ignoring the case of ASCII letters (RFC 5646 section 2.1.1). Their
 -- `==`, `cmp` and `hash` depend only on the folded texts. The order is the same as in `case_insensitive_cmp`: if one
 -- text is a prefix of another, the shorter text is greater.
-use Rattle.langtag_scan.specs.Prelude.{◌≡◌, ℕ, Bool, List, All, ◌<◌, HashWrites, Ordering, Greater}
+use Rattle.std.specs.Prelude.{◌≡◌, ℕ, Bool, List, All, ◌<◌}
+use Rattle.langtag_scan.specs.Prelude.{HashWrites, Ordering, Greater}
 use Rattle.langtag_scan.specs.Case.{are_alike, case_cmp, case_writes, EndsFirst}
 
 -- the equality, the order and the hash input of a type K follow from the texts of its values, which `text` returns

@@ -18,7 +18,7 @@ pub use Rattle.langtag_scan.specs.Machine.{end_at, index_after, all_at, IsRefuse
 unfoldable pub use Rattle.langtag_scan.specs.Machine.{outcome}
 pub use Rattle.langtag_scan.specs.Parts.{language_part, text_between, variants_part, extensions_part, private_use_part, AreInOrder, private_use_subtags, parts}
 pub use Rattle.langtag_scan.specs.Position.{position_of, is_dead, Begun, nothing_read, possible_index, irregular_after, position_after, part_before, ending_of}
-pub use Rattle.langtag_scan.specs.Prelude.{◌≡◌, ◌++◌, ◌≤◌, [], length, IfOk, OnOk, OnErr, IsOk, IsAscii, string_bytes, string_capacity, replace_range, ◌↔◌, ◌<◌, ℕ, List, Some, IsTrue, IfErr, is_ok, position, slice_get, option_map, ◌^◌, ◌+◌, Option, MatchOption, ◌==◌, Bool, false, take, unwrap_or, map, slice_index_or, None, flat_map, codes, IsUtf8, ◌%◌, fold, IfSome, option_map_or, true, ◌-◌, ◌∷◌, ◌⊎◌, is_some, if◌then◌else◌, Contains, is_none, list_any, ◌&&◌, option_and_then, before_first, ForSome, drop, ◌||◌, not, nat_le, bytes_eq, slice_index, ⊤, YieldsFirstBy, item_count, YieldsFirstRef, list_all, u8, nat_cmp, Result, filter, AllByRecursion, find, nat_lt, replicate, All, is_ascii_alphabetic, IsNone, is_in_range, String, Global, option_or, YieldsLastBy, get_or, set, cons_option, ◌*◌, IsErrOf, alloc_error, IsOkUnless, AllWithin, to_ascii_uppercase, suc, slice_split, after_first, is_ascii_digit, cond, Bor, ◌/◌, range_with_len, min, bit_or, bit_at, zero, ltb, leb, w64, to_be_bytes, IsNonDecreasing, IsPermutation, AllPairs, Any, YieldsLastRef, on, as_partial_cmp}
+pub use Rattle.langtag_scan.specs.Prelude.{replace_range, option_map_or, list_any, before_first, ForSome, YieldsFirstBy, item_count, YieldsFirstRef, list_all, u8, nat_cmp, AllByRecursion, is_ascii_alphabetic, is_in_range, Global, option_or, YieldsLastBy, cons_option, AllWithin, to_ascii_uppercase, slice_split, after_first, is_ascii_digit, Bor, range_with_len, bit_at, w64, to_be_bytes, IsNonDecreasing, YieldsLastRef, on, as_partial_cmp}
 pub use Rattle.langtag_scan.specs.Record.{Record, extension_flat, Extension, spell, IsWellFormed, one_flat, Spells, private_part_flat, EachRecord, IsWellFormedExtension, PrivateUse, flat, private_use_flat, IsWellFormedPrivateUse}
 pub use Rattle.langtag_scan.specs.Stage.{Stage, Start, Classes, classes_of, next_stage, AfterMark, Language, InPrivate, may_end, after_stage, Extended, AfterScript, AfterRegion, AfterVariant, AfterSingleton, InExtension, AfterFirstMark, InPrivateTag, is_one, after_by}
 pub use Rattle.langtag_scan.specs.Subtags.{subtags, join, segments_left, segments, is_hyphen, NoHyphenWithin, IsHyphenFree}

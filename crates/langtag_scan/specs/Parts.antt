@@ -1,5 +1,6 @@
 -- The parts of a normal tag (RFC 5646 section 2.1): their texts and their offsets.
-use Rattle.langtag_scan.specs.Prelude.{ℕ, ◌+◌, ◌≤◌, ◌==◌, if◌then◌else◌, List, [], ◌∷◌, ◌++◌, Option, None, Some, flat_map, slice_range, option_map, option_map_or}
+use Rattle.std.specs.Prelude.{ℕ, ◌+◌, ◌≤◌, ◌==◌, if◌then◌else◌, List, [], ◌∷◌, ◌++◌, Option, None, Some, flat_map, slice_range, option_map}
+use Rattle.langtag_scan.specs.Prelude.{option_map_or}
 use Rattle.langtag_scan.specs.Record.{Record, extension_flat, private_use_flat, private_part_flat, one_flat}
 use Rattle.langtag_scan.specs.Subtags.{join}
 use Rattle.langtag_scan.specs.declared.ends.Ends.{Ends}

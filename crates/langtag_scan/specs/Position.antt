@@ -1,6 +1,7 @@
 -- What the recogniser knows after some bytes of a text: what may follow, and which part of the tag has ended (RFC 5646
 -- section 2.1). Only contracts of private functions cite this page.
-use Rattle.langtag_scan.specs.Prelude.{ℕ, ◌+◌, ◌==◌, ◌&&◌, ◌||◌, not, nat_lt, Bool, true, false, List, [], ◌∷◌, ◌++◌, fold, Option, Some, None, if◌then◌else◌, position, bytes_eq, option_map, option_map_or, is_none}
+use Rattle.std.specs.Prelude.{ℕ, ◌+◌, ◌==◌, ◌&&◌, ◌||◌, not, nat_lt, Bool, true, false, List, [], ◌∷◌, ◌++◌, fold, Option, Some, None, if◌then◌else◌, position, bytes_eq, option_map, is_none}
+use Rattle.langtag_scan.specs.Prelude.{option_map_or}
 use Rattle.langtag_scan.specs.Case.{fold_byte}
 use Rattle.langtag_scan.specs.Class.{is_letter, is_digit}
 use Rattle.langtag_scan.specs.Irregular.{folded_texts, is_prefix}

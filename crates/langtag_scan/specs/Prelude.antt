@@ -11,7 +11,6 @@ pub use Rattle.std.specs.List.{list_any, AllWithin, list_all, slice_split, after
 pub use Rattle.std.specs.List.Sorted.{IsNonDecreasing}
 pub use Rattle.std.specs.Option.{ForSome, option_map_or, option_or}
 pub use Rattle.std.specs.Ordering.{nat_cmp, is_lt, is_gt, on, as_partial_cmp, eq_by_cmp}
-pub use Rattle.std.specs.Prelude.{◌≡◌, ◌↔◌, ℕ, List, [], Some, IsTrue, IsNone, IsOk, IsErrOf, IfOk, IfErr, OnOk, OnErr, is_ok, option_map, string_bytes, Option, IsAscii, ◌≤◌, ◌<◌, ◌++◌, ◌∷◌, IfSome, false, length, take, slice_index, Result, ◌==◌, Bool, ◌-◌, ◌⊎◌, true, String, unwrap_or, IsOkUnless, codes, is_some, filter_map, ℤ, pos, negsuc, ◌*◌, ◌%◌, ◌^◌, fold, filter, ◌+◌, if◌then◌else◌, None, bit_xor, not, ◌||◌, map, slice_get, drop, ◌&&◌, nat_lt, MatchOption, slice_index_or, max, nat_le, suc, bytes_eq, ⊤, cond, find, flat_map, ◌/◌, get_or, min, leb, bit_or, set, zero, ltb, reverse, slice_range, count_by, IsPermutation, is_none, option_and_then, AllPairs, Any, position, All, replicate, string_capacity, IsUtf8, Contains, alloc_error}
 pub use Rattle.std.specs.String.{string_vec}
 pub use Rattle.std.specs.Vec.{SameBlock}
 pub use Rattle.std.specs.declared.alloc.Global.{Global}

@@ -1,5 +1,6 @@
 -- The record of a normal tag: its subtags, sorted into the parts that RFC 5646 section 2.1 names.
-use Rattle.langtag_scan.specs.Prelude.{◌≡◌, ℕ, ◌≤◌, ◌⊎◌, IsTrue, List, [], ◌∷◌, ◌++◌, length, Option, Some, None, IfSome, AllByRecursion, flat_map}
+use Rattle.std.specs.Prelude.{◌≡◌, ℕ, ◌≤◌, ◌⊎◌, IsTrue, List, [], ◌∷◌, ◌++◌, length, Option, Some, None, IfSome, flat_map}
+use Rattle.langtag_scan.specs.Prelude.{AllByRecursion}
 use Rattle.langtag_scan.specs.Class.{is_primary, is_extended, is_script, is_region, is_variant, is_extension_subtag, is_private_subtag, is_mark, is_singleton}
 use Rattle.langtag_scan.specs.Subtags.{join}
 

@@ -1,5 +1,6 @@
 -- Subtags and the hyphens between them (RFC 5646 section 2.1).
-use Rattle.langtag_scan.specs.Prelude.{◌≡◌, ℕ, Bool, false, ◌==◌, List, [], ◌∷◌, Option, None, Some, join_with_byte, slice_split, AllWithin, All, Bor}
+use Rattle.std.specs.Prelude.{◌≡◌, ℕ, Bool, false, ◌==◌, List, [], ◌∷◌, Option, None, Some, All}
+use Rattle.langtag_scan.specs.Prelude.{join_with_byte, slice_split, AllWithin, Bor}
 
 abbrev pub is_hyphen : ℕ → Bool
 is_hyphen b = b == 45

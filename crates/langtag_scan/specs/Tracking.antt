@@ -1,6 +1,7 @@
 -- What the number of a state in the tables says about the bytes that were read. Only contracts of private functions
 -- cite this page.
-use Rattle.langtag_scan.specs.Prelude.{◌≡◌, ℕ, ◌<◌, ◌==◌, ◌||◌, not, ⊤, Bool, true, List, [], length, slice_index, slice_index_or, option_map_or, is_some}
+use Rattle.std.specs.Prelude.{◌≡◌, ℕ, ◌<◌, ◌==◌, ◌||◌, not, ⊤, Bool, true, List, [], length, slice_index, slice_index_or, is_some}
+use Rattle.langtag_scan.specs.Prelude.{option_map_or}
 use Rattle.langtag_scan.specs.Position.{Begun, Position, position_of, possible_index}
 use Rattle.langtag_scan.specs.States.{states_of, states_along}
 use Rattle.langtag_scan.specs.declared.state.Ending.{Ending}

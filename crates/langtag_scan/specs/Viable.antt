@@ -1,5 +1,6 @@
 -- Which prefixes of a text are viable, which means that some tag begins with them.
-use Rattle.langtag_scan.specs.Prelude.{◌≡◌, ℕ, ◌-◌, ◌<◌, ◌≤◌, ◌⊎◌, List, ◌++◌, length, take, replicate, slice_get, Some, after_last}
+use Rattle.std.specs.Prelude.{◌≡◌, ℕ, ◌-◌, ◌<◌, ◌≤◌, ◌⊎◌, List, ◌++◌, length, take, replicate, slice_get, Some}
+use Rattle.langtag_scan.specs.Prelude.{after_last}
 use Rattle.langtag_scan.specs.Subtags.{is_hyphen}
 use Rattle.langtag_scan.specs.Case.{Alike}
 use Rattle.langtag_scan.specs.Grandfathered.{irregular_texts}

@@ -1,5 +1,6 @@
 //! Where the parts of a normal tag end.
-ghost use Rattle.langtag_scan.specs.Grammar.{◌≡◌, replicate, set, ◌<◌, ends_at};
+ghost use Rattle.std.specs.Prelude.{◌≡◌, replicate, set, ◌<◌};
+ghost use Rattle.langtag_scan.specs.Grammar.{ends_at};
 
 /// The end of each part of a normal tag (RFC 5646 section 2.1). Each is an offset in bytes from the start of the
 /// string, just after the part. An absent part ends where the previous part ends.

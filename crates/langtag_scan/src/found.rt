@@ -1,5 +1,6 @@
 //! What a recogniser found.
-ghost use Rattle.langtag_scan.specs.Grammar.{◌≡◌, ◌↔◌, IsTrue, finding, is_normal, is_private_use, irregular_index, normal_ends, IsOfOneKind};
+ghost use Rattle.std.specs.Prelude.{◌≡◌, ◌↔◌, IsTrue};
+ghost use Rattle.langtag_scan.specs.Grammar.{finding, is_normal, is_private_use, irregular_index, normal_ends, IsOfOneKind};
 
 use crate::ends::Ends;
 use crate::finding::Finding;

@@ -1,6 +1,7 @@
 //! Where a segment of a string begins and ends (RFC 5646 section 2.1). Hyphens separate the segments. Indices are in
 //! bytes.
-ghost use Rattle.langtag_scan.specs.Grammar.{◌≡◌, ◌-◌, ◌≤◌, ◌<◌, length, slice_index, NoHyphenWithin};
+ghost use Rattle.std.specs.Prelude.{◌≡◌, ◌-◌, ◌≤◌, ◌<◌, length, slice_index};
+ghost use Rattle.langtag_scan.specs.Grammar.{NoHyphenWithin};
 
 /// Returns where the segment that contains `index` ends: at the next hyphen, or at the end of the string.
 ///

@@ -1,5 +1,6 @@
 //! Splitting a string at the first byte of a given value.
-ghost use Rattle.langtag_scan.specs.Prelude.{◌≡◌, ◌==◌, ◌||◌, ◌+◌, ◌<◌, ◌≤◌, IfSome, drop, length, take, unwrap_or, after_first, before_first, position, position_or_len};
+ghost use Rattle.std.specs.Prelude.{◌≡◌, ◌==◌, ◌||◌, ◌+◌, ◌<◌, ◌≤◌, IfSome, drop, length, take, unwrap_or, position};
+ghost use Rattle.langtag_scan.specs.Prelude.{after_first, before_first, position_or_len};
 
 /// Returns the string before the first `mark` and the string after it. If there is no `mark`, returns the whole string
 /// and an empty string.

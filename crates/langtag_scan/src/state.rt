@@ -25,7 +25,8 @@
 //! A state represents all positions after which the same bytes may follow and the same parts end. A position consists
 //! of a stage, what is known about the subtag after that stage, and the irregular tag that the bytes may become. It is
 //! proved that each step from one state to the next matches the step between the positions that the states represent.
-ghost use Rattle.langtag_scan.specs.Grammar.{◌≡◌, ℕ, ◌<◌, ◌++◌, ◌∷◌, [], List, true, false, MatchOption, position_of, part_before, ending_of, is_dead, Stands, IsPlace, next_number};
+ghost use Rattle.std.specs.Prelude.{◌≡◌, ℕ, ◌<◌, ◌++◌, ◌∷◌, [], List, true, false, MatchOption};
+ghost use Rattle.langtag_scan.specs.Grammar.{position_of, part_before, ending_of, is_dead, Stands, IsPlace, next_number};
 
 use crate::states::{CLASSES, NONE, START, TABLES};
 

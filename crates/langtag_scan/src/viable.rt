@@ -1,5 +1,6 @@
 //! The length of the longest prefix of a string with which some tag begins.
-ghost use Rattle.langtag_scan.specs.Grammar.{◌≤◌, ◌++◌, ◌∷◌, [], ◌^◌, IsViableLength};
+ghost use Rattle.std.specs.Prelude.{◌≤◌, ◌++◌, ◌∷◌, [], ◌^◌};
+ghost use Rattle.langtag_scan.specs.Grammar.{IsViableLength};
 
 use crate::metered::Metered;
 use crate::recogniser::read;

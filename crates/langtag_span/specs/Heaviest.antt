@@ -1,5 +1,6 @@
 -- Lookup for a header as a walk over its elements. Only contracts of private functions cite this page.
-use Rattle.langtag_scan.specs.Prelude.{ℕ, List, [], ◌∷◌, Option, None, Some, if◌then◌else◌, nat_lt, option_map_or}
+use Rattle.std.specs.Prelude.{ℕ, List, [], ◌∷◌, Option, None, Some, if◌then◌else◌, nat_lt}
+use Rattle.langtag_scan.specs.Prelude.{option_map_or}
 use Rattle.langtag_range.specs.Definitions.{Element, fallbacks}
 use Rattle.langtag_span.specs.LookUp.{first_index_alike}
 

@@ -1,6 +1,7 @@
 -- The keywords of `u` and the fields of `t` (RFC 6067 section 2.1, RFC 6497 section 2.2) that are left after a walk has
 -- passed some subtags.
-use Rattle.langtag_scan.specs.Grammar.{ℕ, Bool, List, drop, take, AllByRecursion, subtags}
+use Rattle.std.specs.Prelude.{ℕ, Bool, List, drop, take}
+use Rattle.langtag_scan.specs.Grammar.{AllByRecursion, subtags}
 use Rattle.langtag_scan.proofs.SubtagFacts.{IsSubtag}
 use Rattle.langtag_keyword.specs.Keywords.{Keyword, keywords_after}
 use Rattle.langtag_span.specs.Spans.{IsWithin, span_text}

@@ -1,6 +1,7 @@
 -- The tag that lookup finds for an Accept-Language header (RFC 9110 section 12.5.4, RFC 4647 section 3.4), and why a
 -- header is refused.
-use Rattle.langtag_scan.specs.Grammar.{◌≡◌, ℕ, false, List, [], ◌∷◌, Option, None, length, unwrap_or, position, option_map_or, option_or, are_alike}
+use Rattle.std.specs.Prelude.{◌≡◌, ℕ, false, List, [], ◌∷◌, Option, None, length, unwrap_or, position}
+use Rattle.langtag_scan.specs.Grammar.{option_map_or, option_or, are_alike}
 use Rattle.langtag_header.specs.AcceptLanguage.{IsByWeight, IsFirstBad, acceptable, elements}
 use Rattle.langtag_range.specs.Definitions.{Element, items, fallbacks}
 use Rattle.langtag_header.specs.declared.accept_language_error.ElementPart.{ElementPart}

@@ -1,5 +1,6 @@
 -- The spans of the variants and the singletons of a tag (RFC 5646 sections 2.2.5 and 2.2.6).
-use Rattle.langtag_scan.specs.Grammar.{ℕ, ◌+◌, List, ◌++◌, length, slice_get, take, Option, flat_map, option_and_then, option_map, to_region, to_variants, Record, Extension, extension_flat, join}
+use Rattle.std.specs.Prelude.{ℕ, ◌+◌, List, ◌++◌, length, slice_get, take, Option, flat_map, option_and_then, option_map}
+use Rattle.langtag_scan.specs.Grammar.{to_region, to_variants, Record, Extension, extension_flat, join}
 use Rattle.langtag_span.specs.declared.span.Span.{Span}
 
 -- the span of the element at an index, which depends on the elements before it and on the element itself; or `None` if

@@ -1,5 +1,6 @@
 -- Parts by number, and setting a part of a normal tag to a text, or removing it (RFC 5646 sections 2.2.1 to 2.2.7).
-use Rattle.langtag_scan.specs.Grammar.{◌≡◌, ℕ, List, [], ◌∷◌, slice_get, Option, IfSome, MatchOption, IsTrue, is_script, is_region}
+use Rattle.std.specs.Prelude.{◌≡◌, ℕ, List, [], ◌∷◌, slice_get, Option, IfSome, MatchOption, IsTrue}
+use Rattle.langtag_scan.specs.Grammar.{is_script, is_region}
 use Rattle.langtag.specs.Definitions.{IsLanguage, IsVariants, IsExtensions, IsPrivateUse, SetsLanguage, SetsScript, SetsRegion, SetsVariants, SetsExtensions, SetsPrivateUse, part_text}
 use Rattle.langtag_keyword.specs.Transform.{some_text}
 use Rattle.langtag.specs.declared.part.Part.{Part}

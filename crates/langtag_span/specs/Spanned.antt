@@ -1,5 +1,6 @@
 -- The tags and the language ranges in spans of a text.
-use Rattle.langtag_scan.specs.Grammar.{◌≡◌, ◌<◌, ℕ, if◌then◌else◌, List, [], ◌∷◌, Option, None, MatchOption, length, slice_index_or, cons_option, IsTag}
+use Rattle.std.specs.Prelude.{◌≡◌, ◌<◌, ℕ, if◌then◌else◌, List, [], ◌∷◌, Option, None, MatchOption, length, slice_index_or}
+use Rattle.langtag_scan.specs.Grammar.{cons_option, IsTag}
 use Rattle.langtag_range.specs.Definitions.{Element, listed}
 use Rattle.langtag_span.specs.Spans.{HasBytes, empty_at, has_bytes, span_text}
 use Rattle.langtag_span.specs.declared.span.Span.{Span}

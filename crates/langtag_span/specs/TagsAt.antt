@@ -1,6 +1,7 @@
 -- Whether a text is a tag, as a Boolean, and the tags in spans of a text. Only ghost members cite this page. Public
 -- contracts cite `IsTag`.
-use Rattle.langtag_scan.specs.Grammar.{◌≡◌, ℕ, Bool, true, ◌&&◌, ◌||◌, if◌then◌else◌, List, Option, None, Some, map, list_any, are_alike, irregular_texts}
+use Rattle.std.specs.Prelude.{◌≡◌, ℕ, Bool, true, ◌&&◌, ◌||◌, if◌then◌else◌, List, Option, None, Some, map}
+use Rattle.langtag_scan.specs.Grammar.{list_any, are_alike, irregular_texts}
 use Rattle.langtag_scan.proofs.NormalTexts.{normal_from_runs, runs_from_normal}
 use Rattle.langtag.specs.Definitions.{is_private_use_text}
 use Rattle.langtag_span.specs.Spans.{has_bytes, span_text}

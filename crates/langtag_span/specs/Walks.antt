@@ -1,5 +1,6 @@
 -- What a step removes from a span (RFC 5646 section 2.1).
-use Rattle.langtag_scan.specs.Grammar.{◌≡◌, ℕ, ◌<◌, ◌≤◌, List, slice_index, IsHyphenFree}
+use Rattle.std.specs.Prelude.{◌≡◌, ℕ, ◌<◌, ◌≤◌, List, slice_index}
+use Rattle.langtag_scan.specs.Grammar.{IsHyphenFree}
 use Rattle.langtag.specs.Definitions.{IsFirstExtension}
 use Rattle.langtag_span.specs.Spans.{end_of, span_between, span_text}
 use Rattle.langtag_span.specs.declared.span.Span.{Span}

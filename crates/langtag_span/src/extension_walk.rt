@@ -1,5 +1,6 @@
 //! Where the subtags of an extension are in a tag (RFC 5646 section 2.2.6).
-ghost use Rattle.langtag_scan.specs.Grammar.{◌≡◌, ◌∷◌, ◌+◌, ◌<◌, List, [], None, MatchOption, IfSome, option_map, option_map_or, extensions_part, EachRecord, Extension, join, IsNormal};
+ghost use Rattle.std.specs.Prelude.{◌≡◌, ◌∷◌, ◌+◌, ◌<◌, List, [], None, MatchOption, IfSome, option_map};
+ghost use Rattle.langtag_scan.specs.Grammar.{option_map_or, extensions_part, EachRecord, Extension, join, IsNormal};
 ghost use Rattle.langtag.specs.Definitions.{PartOf, IsExtensions, SpellsExtensions, find_extension};
 ghost use Rattle.langtag_keyword.specs.Keys.{length_with_hyphens, opens_keyword};
 ghost use Rattle.langtag_keyword.specs.Keywords as spec;

@@ -1,6 +1,7 @@
 //! The tag that lookup finds for an Accept-Language header (RFC 9110 section 12.5.4, RFC 4647 section 3.4), without
 //! allocating.
-ghost use Rattle.langtag_scan.specs.Grammar.{◌≡◌, ◌≤◌, true, false, IsTrue, None, MatchOption, length, position, option_map_or, are_alike};
+ghost use Rattle.std.specs.Prelude.{◌≡◌, ◌≤◌, true, false, IsTrue, None, MatchOption, length, position};
+ghost use Rattle.langtag_scan.specs.Grammar.{option_map_or, are_alike};
 ghost use Rattle.langtag_header.specs.AcceptLanguage.{are_good, bad_part, elements, is_good};
 ghost use Rattle.langtag_range.specs.Definitions.{is_comma, items, fallbacks};
 ghost use Rattle.langtag_header.specs.Text.{language_range_text};

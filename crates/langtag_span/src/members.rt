@@ -1,5 +1,6 @@
 //! Where the variants and the singletons of a tag are in its text (RFC 5646 sections 2.2.5 and 2.2.6).
-ghost use Rattle.langtag_scan.specs.Grammar.{◌≡◌, Some, EachRecord};
+ghost use Rattle.std.specs.Prelude.{◌≡◌, Some};
+ghost use Rattle.langtag_scan.specs.Grammar.{EachRecord};
 ghost use Rattle.langtag.specs.Definitions.{normal_lang_tag_text};
 ghost use Rattle.langtag_span.specs.Members.{member_span, singleton_place, variant_place};
 

@@ -1,5 +1,6 @@
 //! Reading bytes as tags.
-ghost use Rattle.langtag_scan.specs.Grammar.{◌≡◌, MatchOption, IsNormal, IsTag};
+ghost use Rattle.std.specs.Prelude.{◌≡◌, MatchOption};
+ghost use Rattle.langtag_scan.specs.Grammar.{IsNormal, IsTag};
 ghost use Rattle.langtag.specs.Definitions.{lang_tag_text, normal_lang_tag_text};
 
 use langtag::{LangTag, NormalLangTag};

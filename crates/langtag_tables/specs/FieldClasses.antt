@@ -1,5 +1,6 @@
 -- What each field is if it is not empty. Only contracts of private functions cite this page.
-use Rattle.langtag_scan.specs.Grammar.{ℕ, Bool, true, List, [], ◌∷◌, is_primary, is_script, is_region}
+use Rattle.std.specs.Prelude.{ℕ, Bool, true, List, [], ◌∷◌}
+use Rattle.langtag_scan.specs.Grammar.{is_primary, is_script, is_region}
 
 -- a field is empty, or a subtag of its class (RFC 5646 section 2.1)
 abbrev pub is_language_field : List ℕ → Bool

@@ -1,5 +1,6 @@
 -- The numbers that stand for short texts in the tables.
-use Rattle.langtag_scan.specs.Grammar.{ℕ, ◌+◌, ◌*◌, ◌-◌, ◌&&◌, nat_lt, Bool, true, false, List, [], ◌∷◌, fold, fold_byte}
+use Rattle.std.specs.Prelude.{ℕ, ◌+◌, ◌*◌, ◌-◌, ◌&&◌, nat_lt, Bool, true, false, List, [], ◌∷◌, fold}
+use Rattle.langtag_scan.specs.Grammar.{fold_byte}
 
 -- the position of a letter in the alphabet, which is 1 for `a`
 abbrev pub letter : ℕ → ℕ

@@ -1,5 +1,6 @@
 -- A law of the canonical forms of `u` and `t` (UTS #35, part 1, Annex C): the order of keywords changes nothing.
-use Rattle.langtag_scan.specs.Grammar.{◌≡◌, ℕ, Bool, true, false, List, [], ◌∷◌, ◌++◌, AllByRecursion, are_alike}
+use Rattle.std.specs.Prelude.{◌≡◌, ℕ, Bool, true, false, List, [], ◌∷◌, ◌++◌}
+use Rattle.langtag_scan.specs.Grammar.{AllByRecursion, are_alike}
 use Rattle.langtag_keyword.specs.Keywords.{before_key}
 
 -- `opens` says which subtags are keys

@@ -1,5 +1,6 @@
 -- The text of a keyword, and what an iterator will still return.
-use Rattle.langtag_scan.specs.Grammar.{ℕ, List, take, subtags, segments_left}
+use Rattle.std.specs.Prelude.{ℕ, List, take}
+use Rattle.langtag_scan.specs.Grammar.{subtags, segments_left}
 use Rattle.langtag_unicode.specs.declared.attributes_iter.AttributesIter.{AttributesIter}
 use Rattle.langtag_unicode.specs.declared.unicode_extension.KeyValue.{KeyValue}
 use Rattle.langtag_unicode.specs.declared.keywords_iter.KeywordsIter.{KeywordsIter}

@@ -1,5 +1,6 @@
 //! An iterator over the attributes of a tag.
-ghost use Rattle.langtag_scan.specs.Grammar.{◌≡◌, ◌<◌, ◌^◌, [], drop, length, ⊤, YieldsFirstRef, item_count, subtags};
+ghost use Rattle.std.specs.Prelude.{◌≡◌, ◌<◌, ◌^◌, [], drop, length, ⊤};
+ghost use Rattle.langtag_scan.specs.Grammar.{YieldsFirstRef, item_count, subtags};
 ghost use Rattle.langtag_keyword.specs.Keywords as spec;
 
 use langtag::Subtags;

@@ -1,5 +1,6 @@
 //! The subtags of an extension of a tag, as one string.
-ghost use Rattle.langtag_scan.specs.Grammar.{[], IsTrue, subtags};
+ghost use Rattle.std.specs.Prelude.{[], IsTrue};
+ghost use Rattle.langtag_scan.specs.Grammar.{subtags};
 ghost use Rattle.langtag.specs.Definitions.{PartOf, lang_tag_text, are_extension_subtags, singleton_byte};
 ghost use Rattle.langtag_keyword.specs.Keywords as spec;
 

@@ -1,5 +1,6 @@
 //! The canonical form of a tag's extensions `u` and `t` (UTS #35, part 1, Annex C).
-ghost use Rattle.langtag_scan.specs.Grammar.{◌≡◌, [], IfOk, None, to_variants};
+ghost use Rattle.std.specs.Prelude.{◌≡◌, [], IfOk, None};
+ghost use Rattle.langtag_scan.specs.Grammar.{to_variants};
 ghost use Rattle.langtag.specs.Definitions.{lang_tag_buf_text, lang_tag_text, normal_lang_tag_text, IsOnlyForm, IsAlikeForm, IsCounted, Pushes, WritesWhole};
 ghost use Rattle.langtag_scan.specs.Record as model;
 ghost use Rattle.langtag_keyword.specs.Form as spec;

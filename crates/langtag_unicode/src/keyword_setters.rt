@@ -1,5 +1,6 @@
 //! Setting and removing keywords (RFC 6067 section 2.1).
-ghost use Rattle.langtag_scan.specs.Grammar.{◌≡◌, ◌↔◌, ◌<◌, ◌≤◌, ◌+◌, ◌^◌, ℕ, List, [], None, Some, IfOk, IsErrOf, IsTrue, OnErr, is_ok, length, subtags, IsNormal};
+ghost use Rattle.std.specs.Prelude.{◌≡◌, ◌↔◌, ◌<◌, ◌≤◌, ◌+◌, ◌^◌, ℕ, List, [], None, Some, IfOk, IsErrOf, IsTrue, OnErr, is_ok, length};
+ghost use Rattle.langtag_scan.specs.Grammar.{subtags, IsNormal};
 ghost use Rattle.langtag.specs.Definitions.{lang_tag_text, normal_lang_tag_text, IsForm, IsCounted, Writes};
 ghost use Rattle.langtag_scan.specs.Record as model;
 ghost use Rattle.langtag_keyword.specs.Edit as spec;

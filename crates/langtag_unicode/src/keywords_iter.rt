@@ -1,5 +1,6 @@
 //! An iterator over the keywords of a tag.
-ghost use Rattle.langtag_scan.specs.Grammar.{◌≡◌, IsTrue, ⊤, YieldsFirstBy, item_count, segments_left, subtags};
+ghost use Rattle.std.specs.Prelude.{◌≡◌, IsTrue, ⊤};
+ghost use Rattle.langtag_scan.specs.Grammar.{YieldsFirstBy, item_count, segments_left, subtags};
 ghost use Rattle.langtag.specs.Definitions.{are_extension_subtags};
 ghost use Rattle.langtag_keyword.specs.Keys.{opens_keyword};
 ghost use Rattle.langtag_keyword.specs.Keywords as spec;

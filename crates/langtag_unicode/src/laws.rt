@@ -1,6 +1,7 @@
 //! Laws of keywords and fields (RFC 6067, RFC 6497). The toolchain checks only contracts, so each law is the clause of a
 //! function that does nothing.
-ghost use Rattle.langtag_scan.specs.Grammar.{◌≡◌, ℕ, List, [], None, Some, false, IsTrue, AllByRecursion, are_alike, is_extension_subtag};
+ghost use Rattle.std.specs.Prelude.{◌≡◌, ℕ, List, [], None, Some, false, IsTrue};
+ghost use Rattle.langtag_scan.specs.Grammar.{AllByRecursion, are_alike, is_extension_subtag};
 ghost use Rattle.langtag_keyword.specs.Edit as spec;
 ghost use Rattle.langtag_keyword.specs.Form.{extensions_record, transform_form, unicode_form};
 ghost use Rattle.langtag_keyword.specs.Keywords.{is_key, value_of};

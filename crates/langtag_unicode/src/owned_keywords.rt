@@ -1,5 +1,6 @@
 //! Setting and removing keywords of a tag that owns its text (RFC 6067 section 2.1).
-ghost use Rattle.langtag_scan.specs.Grammar.{◌≡◌, ◌↔◌, [], None, Some, IfOk, IsErrOf, OnErr, OnOk, alloc_error, IsOkUnless, subtags, IsNormal};
+ghost use Rattle.std.specs.Prelude.{◌≡◌, ◌↔◌, [], None, Some, IfOk, IsErrOf, OnErr, OnOk, alloc_error, IsOkUnless};
+ghost use Rattle.langtag_scan.specs.Grammar.{subtags, IsNormal};
 ghost use Rattle.langtag.specs.Definitions.{lang_tag_buf_text, normal_lang_tag_text, IsForm};
 ghost use Rattle.langtag_scan.specs.Record as model;
 ghost use Rattle.langtag_keyword.specs.Edit as spec;

@@ -1,5 +1,6 @@
 //! The parts of the extension `t`.
-ghost use Rattle.langtag_scan.specs.Grammar.{◌≡◌, ℕ, List, IsTrue, option_map, Alike, join, subtags};
+ghost use Rattle.std.specs.Prelude.{◌≡◌, ℕ, List, IsTrue, option_map};
+ghost use Rattle.langtag_scan.specs.Grammar.{Alike, join, subtags};
 ghost use Rattle.langtag.specs.Definitions.{are_extension_subtags};
 ghost use Rattle.langtag_keyword.specs.Keywords as keywords;
 ghost use Rattle.langtag_keyword.specs.Transform as spec;

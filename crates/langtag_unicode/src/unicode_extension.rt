@@ -1,5 +1,6 @@
 //! The extension `u` of a tag, which describes the locale.
-ghost use Rattle.langtag_scan.specs.Grammar.{◌≡◌, ℕ, List, [], None, IsTrue, option_map, Alike, join};
+ghost use Rattle.std.specs.Prelude.{◌≡◌, ℕ, List, [], None, IsTrue, option_map};
+ghost use Rattle.langtag_scan.specs.Grammar.{Alike, join};
 ghost use Rattle.langtag.specs.Definitions.{PartOf, lang_tag_text};
 ghost use Rattle.langtag_keyword.specs.Keywords as spec;
 ghost use Rattle.langtag_unicode.specs.Text.{attributes_left, keywords_left};

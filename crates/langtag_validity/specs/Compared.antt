@@ -1,6 +1,7 @@
 -- Faults have `==` and a hash that agrees with it, but no order. Two faults are equal if they have the same kind and
 -- their subtags are equal, ignoring case except in singletons (RFC 5646 section 2.1.1).
-use Rattle.langtag_scan.specs.Grammar.{◌≡◌, ◌==◌, Bool, false, are_alike}
+use Rattle.std.specs.Prelude.{◌≡◌, ◌==◌, Bool, false}
+use Rattle.langtag_scan.specs.Grammar.{are_alike}
 use Rattle.langtag.specs.Definitions.{primary_language_text, extended_lang_tag_text, script_text, region_text, variant_text, singleton_byte}
 use Rattle.langtag_validity.specs.contracts.invalid_subtag.InvalidSubtagPartialEq.TheImpl as fault_equality
 use Rattle.langtag_validity.specs.declared.invalid_subtag.InvalidSubtag.{InvalidSubtag}

@@ -1,5 +1,6 @@
 -- The faults that make a tag invalid, and the subtags at fault (RFC 5646 sections 2.2.2 and 2.2.9).
-use Rattle.langtag_scan.specs.Grammar.{ℕ, Bool, not, List, [], ◌∷◌, ◌++◌, map, Option, None, Some, if◌then◌else◌, list_any, position, are_alike, Record}
+use Rattle.std.specs.Prelude.{ℕ, Bool, not, List, [], ◌∷◌, ◌++◌, map, Option, None, Some, if◌then◌else◌, position}
+use Rattle.langtag_scan.specs.Grammar.{list_any, are_alike, Record}
 use Rattle.langtag.specs.Definitions.{primary_language_text, extended_lang_tag_text, script_text, region_text, variant_text, singleton_byte, repeat_index, are_alike_bytes}
 use Rattle.langtag_validity.specs.declared.invalid_subtag.InvalidSubtag.{InvalidSubtag}
 use Rattle.langtag_validity.specs.declared.invalid_subtag.InvalidSubtag.TheVariants.{Language, Extlang, SecondExtlang, Script, Region, Variant, RepeatedVariant, RepeatedSingleton}

@@ -1,6 +1,7 @@
 -- Which subtags a subtag should follow (RFC 5646 section 3.1.8). This is only a recommendation, and valid tags need not
 -- follow it.
-use Rattle.langtag_scan.specs.Grammar.{ℕ, Bool, true, List, [], ◌∷◌, ◌++◌, Option, None, Some, if◌then◌else◌, list_any, option_map_or, are_alike, Record, spell}
+use Rattle.std.specs.Prelude.{ℕ, Bool, true, List, [], ◌∷◌, ◌++◌, Option, None, Some, if◌then◌else◌}
+use Rattle.langtag_scan.specs.Grammar.{list_any, option_map_or, are_alike, Record, spell}
 use Rattle.langtag_range.specs.Definitions.{test_extended}
 use Rattle.langtag_fields.specs.Entry.{values_for}
 use Rattle.langtag_fields.specs.Fields.{extlang_prefix}

@@ -1,5 +1,6 @@
 //! Variants and extended languages that follow none of their prefixes (RFC 5646 section 3.1.8).
-ghost use Rattle.langtag_scan.specs.Grammar.{◌≡◌, [], get_or, option_map, EachRecord};
+ghost use Rattle.std.specs.Prelude.{◌≡◌, [], get_or, option_map};
+ghost use Rattle.langtag_scan.specs.Grammar.{EachRecord};
 ghost use Rattle.langtag.specs.Definitions.{extended_lang_tag_text, variant_text, normal_lang_tag_text};
 ghost use Rattle.langtag_range.specs.Definitions.{test_extended};
 ghost use Rattle.langtag_validity.specs.Matching.{AreMatching, prefixes};

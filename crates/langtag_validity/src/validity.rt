@@ -1,5 +1,6 @@
 //! Valid tags (RFC 5646 section 2.2.9).
-ghost use Rattle.langtag_scan.specs.Grammar.{◌≡◌, ◌↔◌, [], IsNone, Some, IfSome, IfErr, is_ok, map, true, slice_get, option_map, Record, EachRecord, subtags};
+ghost use Rattle.std.specs.Prelude.{◌≡◌, ◌↔◌, [], IsNone, Some, IfSome, IfErr, is_ok, map, true, slice_get, option_map};
+ghost use Rattle.langtag_scan.specs.Grammar.{Record, EachRecord, subtags};
 ghost use Rattle.langtag.specs.Definitions.{singleton_byte, EachLanguageSpelling, language_text, script_text, region_text, variants_text, are_alike_bytes, repeat, repeat_index, lang_tag_text, normal_lang_tag_text};
 ghost use Rattle.langtag_validity.specs.Compared.{FaultsCompareByKind};
 ghost use Rattle.langtag_validity.specs.Fault.{told, faults, fault_index, language_faults, script_faults, region_faults, variant_faults};
