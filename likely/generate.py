@@ -129,8 +129,12 @@ def table(name, doc, kind, items):
     return f"/// {doc}\n#[rattlefmt::skip]\npub(crate) static {name}: [{kind}; {len(items)}] = [\n{in_lines(items)}\n];\n"
 
 
-def numbers(name, doc, bits, items):
-    return table(name, doc, f"u{bits}", [f"0x{item:0{bits // 4}X}" for item in items])
+def keys(name, doc, bits, items):
+    return table(name, doc, f"u{bits}", [f"0x{item:X}" for item in items])
+
+
+def counts(name, doc, bits, items):
+    return table(name, doc, f"u{bits}", map(str, items))
 
 
 def names(name, doc, texts):
@@ -156,22 +160,22 @@ def tables(likely):
     return "\n".join([
         f"//! Unicode's CLDR {version()} in tables (the notice: likely/LICENSE-UNICODE). Written by likely/generate.py. Do not edit.\n",
         f"/// The version of Unicode's CLDR in this crate.\n" f'pub const CLDR_VERSION: &str = "{version()}";\n',
-        numbers("SCRIPT_KEYS", "The keys of the scripts, in ascending order: each key is the number whose base-256 digits are the lowercase bytes.", 32, map(folded_number, likely.scripts)),
+        keys("SCRIPT_KEYS", "The keys of the scripts, in ascending order: each key is the number whose base-256 digits are the lowercase bytes.", 32, map(folded_number, likely.scripts)),
         names("SCRIPT_NAMES", "The same scripts as text, in the same order.", likely.scripts),
-        numbers("REGION_KEYS", "The keys of the regions, in ascending order: each key is the number whose base-256 digits are the lowercase bytes.", 32, map(folded_number, likely.regions)),
+        keys("REGION_KEYS", "The keys of the regions, in ascending order: each key is the number whose base-256 digits are the lowercase bytes.", 32, map(folded_number, likely.regions)),
         names("REGION_NAMES", "The same regions as text, in the same order.", likely.regions),
         names("LANGUAGE_NAMES", "An empty entry for no language, and then the languages on the right sides of the rows of `OTHER_KEYS`.", likely.languages),
-        numbers("LANGUAGE_BITS", "A bit for each text of two letters, and then of three, in alphabetical order: it is set if the language has likely\n"
-                "/// subtags. The first text has the lowest bit of the first word.", 64, language_bits),
-        numbers("LANGUAGE_ENDS", "The number of bits that are set in each word and all words before it.", 16,
+        table("LANGUAGE_BITS", "A bit for each text of two letters, and then of three, in alphabetical order: it is set if the language has likely\n"
+                "/// subtags. The first text has the lowest bit of the first word.", "u64", [f"0x{word:016X}" for word in language_bits]),
+        counts("LANGUAGE_ENDS", "The number of bits that are set in each word and all words before it.", 16,
                 itertools.accumulate(word.bit_count() for word in language_bits)),
-        numbers("LANGUAGE_SCRIPTS", "The index of the likely script of each language of `LANGUAGE_BITS`, among the scripts.", 8, map(script, likely.of_languages)),
-        numbers("LANGUAGE_REGIONS", "The index of the likely region of each language of `LANGUAGE_BITS`, among the regions.", 8, map(region, likely.of_languages)),
-        numbers("OTHER_KEYS", "The left sides that are not only a language, in ascending order: language, script and region as one number.", 32, map(likely.key, likely.others)),
-        numbers("OTHER_LANGUAGES", "The index of the language on the right side of each row of `OTHER_KEYS`.", 8, [likely.languages.index(row[3]) for row in likely.others]),
-        numbers("OTHER_SCRIPTS", "The index of the script on the right side of each row of `OTHER_KEYS`.", 8, map(script, likely.others)),
-        numbers("OTHER_REGIONS", "The index of the region on the right side of each row of `OTHER_KEYS`.", 8, map(region, likely.others)),
-        numbers("RIGHT_TO_LEFT_KEYS", "The keys, in ascending order, of the scripts that are written from right to left, with variants of scripts that have codes of\n"
+        counts("LANGUAGE_SCRIPTS", "The index of the likely script of each language of `LANGUAGE_BITS`, among the scripts.", 8, map(script, likely.of_languages)),
+        counts("LANGUAGE_REGIONS", "The index of the likely region of each language of `LANGUAGE_BITS`, among the regions.", 8, map(region, likely.of_languages)),
+        keys("OTHER_KEYS", "The left sides that are not only a language, in ascending order: language, script and region as one number.", 32, map(likely.key, likely.others)),
+        counts("OTHER_LANGUAGES", "The index of the language on the right side of each row of `OTHER_KEYS`.", 8, [likely.languages.index(row[3]) for row in likely.others]),
+        counts("OTHER_SCRIPTS", "The index of the script on the right side of each row of `OTHER_KEYS`.", 8, map(script, likely.others)),
+        counts("OTHER_REGIONS", "The index of the region on the right side of each row of `OTHER_KEYS`.", 8, map(region, likely.others)),
+        keys("RIGHT_TO_LEFT_KEYS", "The keys, in ascending order, of the scripts that are written from right to left, with variants of scripts that have codes of\n"
                 "/// their own (ISO 15924).", 32, map(folded_number, right_to_left_scripts())),
     ])
 
@@ -180,16 +184,16 @@ def alias_tables(matching):
     scripts, regions = (sorted({""} | {row[i] for row in matching.aliases}, key=folded_number) for i in (2, 3))
     return "\n".join([
         f"//! The deprecated languages and regions of Unicode's CLDR {version()}, in tables (the notice: likely/LICENSE-UNICODE). Written by likely/generate.py. Do not edit.\n",
-        numbers("ALIAS_KEYS", "The keys of the languages that are replaced, in ascending order: each key is the number whose base-26 digits are the letters.", 16, [letter_number(row[0]) for row in matching.aliases]),
+        keys("ALIAS_KEYS", "The keys of the languages that are replaced, in ascending order: each key is the number whose base-26 digits are the letters.", 16, [letter_number(row[0]) for row in matching.aliases]),
         names("ALIAS_LANGUAGES", "The language that replaces each language of `ALIAS_KEYS`.", [row[1] for row in matching.aliases]),
         names("ALIAS_SCRIPT_NAMES", "An empty entry for no script, and then the scripts that come with a replacement.", scripts),
-        numbers("ALIAS_SCRIPTS", "The index of the script that comes with each replacement.", 8, [scripts.index(row[2]) for row in matching.aliases]),
+        counts("ALIAS_SCRIPTS", "The index of the script that comes with each replacement.", 8, [scripts.index(row[2]) for row in matching.aliases]),
         names("ALIAS_REGION_NAMES", "An empty entry for no region, and then the regions that come with a replacement.", regions),
-        numbers("ALIAS_REGIONS", "The index of the region that comes with each replacement.", 8, [regions.index(row[3]) for row in matching.aliases]),
-        numbers("REGION_ALIAS_KEYS", "The keys of the regions that are replaced, in ascending order: each key is the number whose base-256 digits are the lowercase bytes.", 32,
+        counts("ALIAS_REGIONS", "The index of the region that comes with each replacement.", 8, [regions.index(row[3]) for row in matching.aliases]),
+        keys("REGION_ALIAS_KEYS", "The keys of the regions that are replaced, in ascending order: each key is the number whose base-256 digits are the lowercase bytes.", 32,
                 [folded_number(row[0]) for row in matching.region_aliases]),
         names("REGION_ALIAS_NAMES", "The region that replaces each region of `REGION_ALIAS_KEYS`, or the first of several.", [row[1] for row in matching.region_aliases]),
-        numbers("REPLACEMENT_KEYS", "The keys, in ascending order, of the regions that another region replaces, including codes of three digits.", 32,
+        keys("REPLACEMENT_KEYS", "The keys, in ascending order, of the regions that another region replaces, including codes of three digits.", 32,
                 [folded_number(row[0]) for row in matching.replacements]),
         names("REPLACEMENT_NAMES", "The region that replaces each region of `REPLACEMENT_KEYS`.", [row[1] for row in matching.replacements]),
     ])
@@ -198,14 +202,14 @@ def alias_tables(matching):
 def matching_tables(matching):
     return "\n".join([
         f"//! The rules of language matching of Unicode's CLDR {version()}, in tables (the notice: likely/LICENSE-UNICODE). Written by likely/generate.py. Do not edit.\n",
-        numbers("LANGUAGE_RULE_KEYS", "The desired and the supported language of each rule, as one number, in ascending order.", 32, map(matching.language_key, matching.languages)),
-        numbers("LANGUAGE_RULE_DISTANCES", "The distance that each rule of `LANGUAGE_RULE_KEYS` gives.", 8, [row[2] for row in matching.languages]),
-        numbers("SHORT_ALIAS_KEYS", "The keys, in ascending order, of the two-letter languages that are replaced.", 16,
+        keys("LANGUAGE_RULE_KEYS", "The desired and the supported language of each rule, as one number, in ascending order.", 32, map(matching.language_key, matching.languages)),
+        counts("LANGUAGE_RULE_DISTANCES", "The distance that each rule of `LANGUAGE_RULE_KEYS` gives.", 8, [row[2] for row in matching.languages]),
+        keys("SHORT_ALIAS_KEYS", "The keys, in ascending order, of the two-letter languages that are replaced.", 16,
                 [letter_number(row[0]) for row in matching.aliases if len(row[0]) == 2]),
-        numbers("SCRIPT_RULE_KEYS", "The desired and the supported language of each rule, both with their scripts, as one number, in ascending order.", 64, map(matching.script_key, matching.scripts)),
-        numbers("SCRIPT_RULE_DISTANCES", "The distance that each rule of `SCRIPT_RULE_KEYS` gives.", 8, [row[2] for row in matching.scripts]),
+        keys("SCRIPT_RULE_KEYS", "The desired and the supported language of each rule, both with their scripts, as one number, in ascending order.", 64, map(matching.script_key, matching.scripts)),
+        counts("SCRIPT_RULE_DISTANCES", "The distance that each rule of `SCRIPT_RULE_KEYS` gives.", 8, [row[2] for row in matching.scripts]),
     ] + [
-        numbers(f"{const}_{part.upper()}", f"The keys, in ascending order, of the regions that are {'wholly' if part == 'inside' else 'partly'} in {name}.", 32, map(folded_number, texts))
+        keys(f"{const}_{part.upper()}", f"The keys, in ascending order, of the regions that are {'wholly' if part == 'inside' else 'partly'} in {name}.", 32, map(folded_number, texts))
         for name, const in SETS for part, texts in zip(("inside", "partly"), matching.sets[name])
     ])
 
