@@ -25,7 +25,7 @@ WRONG = {
     "a growth is not asked for": ("erased/tag/text_of_parts.rs", "whole.try_push_str(", "whole.push_str("),
     "from_checked is public": ("erased/place/script.rs", "pub(crate) fn from_checked", "pub fn from_checked"),
     "a message is another": ("erased/place/variant.rs", '"invalid variant"', '"invalid variants"'),
-    "a message has another variant": ("erased/registry/invalid_subtag.rs", "InvalidSubtag::Script(value)", "InvalidSubtag::Region(value)"),
+    "a message has another variant": ("erased/validity/invalid_subtag.rs", "InvalidSubtag::Script(value)", "InvalidSubtag::Region(value)"),
     "a type is compared by derives": ("erased/tag/lang_tag.rs", "by_text!(LangTag<'_>);", ""),
     "a derive is lost": ("erased/place/script.rs", "PartialOrd, Ord, Hash)]\npub struct Script<", "PartialOrd, Ord)]\npub struct Script<"),
     "a name is imported from elsewhere": ("erased/place/script.rs", "use crate::erased::scan::{is_script,", "use crate::erased::scan::{is_region as is_script,"),
