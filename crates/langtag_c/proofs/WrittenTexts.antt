@@ -2,7 +2,7 @@
 use Rattle.langtag_scan.proofs.Prelude.{◌≡◌, ℕ, ◌+◌, ◌≤◌, true, List, [], ◌∷◌, leb, length, Option, None, refl, arith, ◌↔◌, Some, unwrap_or, sym, subst, ◌∙◌, inl, and_parts, false≢true, false_from_ne_true, IsUtf8-from_ascii, IsAscii-nil, IsAscii-cons, AllByRecursion, nat_tests, IsUtf8, IfSome, MatchOption}
 use Rattle.langtag.specs.Form.{IsForm}
 use Rattle.langtag_output.specs.Writes.{Writes}
-use Rattle.langtag_scan.proofs.Laws.{alphanumeric_below, IsAscii-each, length-join, IsSubtag, of_extension_subtag, of_primary, of_region, join-subtags, tag_normal}
+use Rattle.langtag_scan.proofs.Laws.{alphanumeric_below, IsAscii-each, length-join, IsSubtag, of_extension_subtag, of_primary, of_region, join-subtags}
 use Rattle.langtag_scan.specs.Grammar.{is_alphanumeric, is_extension_subtag, is_letter, is_primary, is_region, subtags, IsNormal, IsTag}
 use Rattle.langtag_keyword.specs.Edit.{edited_record, invalid_type, invalid_type_from, is_unicode_key, keyword_error}
 use Rattle.langtag_span.proofs.TagLengths.{IsUtf8-joined, some_tag}
@@ -49,9 +49,6 @@ accepted key value none = grind (arith, nat_tests)
 pub IsUtf8-keyword_key : (key : List ℕ) (value : List (List ℕ)) → keyword_error key value ≡ None → IsUtf8 key
 IsUtf8-keyword_key key value none = IsUtf8-key key (accepted key value none).0
 
-pub IsUtf8-removed_key : (key : List ℕ) → keyword_error key [] ≡ None → IsUtf8 key
-IsUtf8-removed_key key none = IsUtf8-keyword_key key [] none
-
 pub IsUtf8-keyword_value : (key value : List ℕ) → keyword_error key (subtags value) ≡ None → IsUtf8 value
 IsUtf8-keyword_value key value none =
     IsUtf8-joined (subtags value) value (types_subtags 0 (subtags value) (accepted key (subtags value) none).1) (join-subtags value)
@@ -67,8 +64,6 @@ pub some_written :
     (key : List ℕ) (value : Option (List (List ℕ))) (old before after : List ℕ) (len : ℕ) →
     Writes (IsForm (edited_record key value) old) before after len → IsNormal old → len ≡ 0 → ⊥
 some_written key value old before after len w normal zero = absurd (omega (arith, zero, w.whole, some_edited key value old w.text normal w.is_so))
-
-pub ruleset keyword_texts = (IsUtf8-keyword_key, IsUtf8-removed_key, IsUtf8-keyword_value, some_written, tag_normal)
 
 -- ---- the forms of a tag, and the tag of a name, are not empty
 
