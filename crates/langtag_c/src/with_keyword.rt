@@ -30,7 +30,6 @@ use langtag_unicode::{write_with_keyword, write_without_keyword};
 ///    key, key_len, buffer, 0) returns 0.
 /// 2. A subtag of the value does not have three to eight letters or digits: this call with the tag "und" returns 0.
 /// 3. Otherwise the tag is not `LANGTAG_NORMAL`, and has no place for a keyword.
-#[tactic(auto)]
 #[unsafe(no_mangle)]
 pub extern "C" fn langtag_with_keyword(
     tag: &[u8],
@@ -67,7 +66,6 @@ pub extern "C" fn langtag_with_keyword(
 ///
 /// Returns 0 and writes nothing if the tag is not `LANGTAG_NORMAL`, or if the key does not consist of a letter or digit
 /// and then a letter.
-#[tactic(auto)]
 #[unsafe(no_mangle)]
 pub extern "C" fn langtag_without_keyword(tag: &[u8], key: &[u8], buffer: &mut [u8]) -> usize
     // law: the call does what `write_without_keyword` does
