@@ -93,7 +93,7 @@ pub use private_use_lang_tag::{PrivateUseLangTag, PrivateUseLangTagBuf};
 pub use refusal::{Refusal, RefusalKind};
 pub use typed_lang_tag::TypedLangTag;
 
-// For langtag_registry, langtag_likely, langtag_unicode, langtag_locale and langtag_c.
+// For the crates above that write or make tags.
 pub use part::write_part;
 pub use push::push_private_use;
 pub use written::tag_of;

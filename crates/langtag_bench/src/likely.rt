@@ -1,4 +1,4 @@
-//! Calls of langtag_likely that allocate.
+//! Calls of langtag_likely and langtag_posix that allocate.
 ghost use Rattle.std.specs.Prelude.{◌≡◌};
 ghost use Rattle.langtag_scan.specs.Grammar.{IsTag};
 

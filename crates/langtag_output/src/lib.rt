@@ -5,6 +5,6 @@
 mod output;
 mod write;
 
-// For langtag_registry, langtag_likely, langtag_unicode and langtag_c.
+// For langtag and the crates above it.
 pub use output::Output;
 pub use write::{write_pieces, write_text};

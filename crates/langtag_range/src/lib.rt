@@ -28,7 +28,7 @@ pub use wanted::{WantedRange, WantedRanges, split_wanted, wanted_ranges};
 pub use weight::weight_of;
 pub use white_space::is_empty_element;
 
-// For langtag_match, langtag_registry, langtag_choice and langtag_c.
+// For langtag_header, langtag_validity, langtag_distance and langtag_c.
 pub use basic::matches_basic;
 pub use basic_form::is_range;
 pub use extended::matches_extended;

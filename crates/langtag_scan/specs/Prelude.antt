@@ -1,4 +1,4 @@
--- The words of std that specs and contracts use: a page or a file imports them from here in one line. Declares nothing.
+-- The words that specs and contracts use of std's other pages than its Prelude. Declares nothing.
 pub use Rattle.std.specs.Borrow.{Bor, MutBor}
 pub use Rattle.std.specs.Char.{to_ascii_uppercase, is_ascii_alphabetic, is_ascii_digit, to_ascii_lowercase}
 pub use Rattle.std.specs.Cmp.{IsEquivalence, IsPartialEquivalence, IsTotalOrder, IsPartialOrder, Agrees, partial_equiv_from_equiv, on_equiv, on_total, unsigned_ties, partial_order_from_agreeing_total}

@@ -5,5 +5,5 @@
 
 mod letter_numbers;
 
-// For langtag_registry and langtag_likely.
+// For langtag_fields and langtag_cldr.
 pub use letter_numbers::letter_number;

@@ -39,6 +39,6 @@ pub use subtags::{
 };
 pub use tables::FILE_DATE;
 
-// For langtag_registry.
+// For langtag_validity and langtag_canonical.
 pub(crate) use preferred::preferred_for;
 pub(crate) use prefixes::{prefix_of_language, variant_prefixes};

@@ -6,6 +6,6 @@
 mod output;
 mod write;
 
-// For langtag_registry, langtag_likely, langtag_unicode and langtag_c.
+// For langtag and the crates above it.
 pub(crate) use output::Output;
 pub(crate) use write::{write_pieces, write_text};

@@ -30,7 +30,7 @@ pub use wanted::{split_wanted, wanted_ranges, WantedRange, WantedRanges};
 pub use weight::weight_of;
 pub use white_space::is_empty_element;
 
-// For langtag_match, langtag_registry, langtag_choice and langtag_c.
+// For langtag_header, langtag_validity, langtag_distance and langtag_c.
 pub(crate) use basic::matches_basic;
 pub(crate) use basic_form::is_range;
 pub(crate) use extended::matches_extended;

@@ -114,7 +114,7 @@ pub use private_use_lang_tag::PrivateUseLangTagBuf;
 pub use refusal::{Refusal, RefusalKind};
 pub use typed_lang_tag::TypedLangTag;
 
-// For langtag_registry, langtag_likely, langtag_unicode, langtag_locale and langtag_c.
+// For the crates above that write or make tags.
 pub(crate) use part::write_part;
 pub(crate) use push::push_private_use;
 #[cfg(feature = "alloc")]
