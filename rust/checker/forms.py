@@ -13,6 +13,8 @@ CRATES = {
     "langtag_place": "place",
     "langtag_extension": "extension",
     "langtag_private": "private",
+    "langtag_refusal": "refusal",
+    "langtag_edit": "edit",
     "langtag": "tag",
     "langtag_range": "range",
     "langtag_header": "header",

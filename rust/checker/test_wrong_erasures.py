@@ -19,7 +19,7 @@ WRONG = {
     "a condition is lost": ("erased/place/script.rs", "if !is_script(text.as_bytes()) {\n            return Err(InvalidScript(text));\n        }\n", ""),
     "a clause swallows the body": ("erased/tag/kind.rs", "matches!(self, Kind::Normal)", ""),
     "two parts change places": ("erased/tag/normal_lang_tag.rs", "self.part(self.ends.language, self.ends.script)", "self.part(self.ends.script, self.ends.language)"),
-    "a field is lost": ("erased/tag/part.rs", "    pub hyphen: &'static str,\n", ""),
+    "a field is lost": ("erased/edit/replacement.rs", "    pub hyphen: &'static str,\n", ""),
     "a `?` is lost": ("erased/tag/text_of_parts.rs", "whole.try_push_str(language)?;", "let _ = whole.try_push_str(language);"),
     "allocation ends the program": ("erased/place/region.rs", "try_string(self.as_str())?", "String::from(self.as_str())"),
     "a growth is not asked for": ("erased/tag/text_of_parts.rs", "whole.try_push_str(", "whole.push_str("),

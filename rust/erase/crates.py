@@ -18,6 +18,8 @@ MODULES = [
     Module("langtag_place", "src/erased/place", "crate::erased::place"),
     Module("langtag_extension", "src/erased/extension", "crate::erased::extension"),
     Module("langtag_private", "src/erased/private", "crate::erased::private"),
+    Module("langtag_refusal", "src/erased/refusal", "crate::erased::refusal"),
+    Module("langtag_edit", "src/erased/edit", "crate::erased::edit"),
     Module("langtag", "src/erased/tag", "crate::erased::tag"),
     Module("langtag_range", "src/erased/range", "crate::erased::range"),
     Module("langtag_header", "src/erased/header", "crate::erased::header"),

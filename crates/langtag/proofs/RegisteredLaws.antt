@@ -1,8 +1,8 @@
--- The variants of `GrandfatheredLangTag` and `GRANDFATHERED`, and the irregular tags, beside the table of registered tags.
-use Rattle.langtag_scan.proofs.Prelude.{◌≡◌, ◌↔◌, ℕ, true, Bool, IsTrue, List, [], length, take, slice_get, Some, ap, ◌∙◌, arith, ◌<◌, ◌≤◌, false, cond, ltb, map, get_or, Option, None, refl, sym, subst, list_any, position, position_or_len, Any-from_list_any, list_any_at, slice_get_read, slice_get_within, get_or_from_slice_get, slice_get-get_or, slice_get-map, common_steps, option_map_or, lt-ltb, cases_lt, both_ways, get_or-map, position-Some, fails_before_first, nat_tests}
-use Rattle.std.proofs.Common.{Decides, zero-add, bytes_eq}
+-- The variants of `GrandfatheredLangTag` and `GRANDFATHERED`, beside the table of registered tags.
+use Rattle.langtag_scan.proofs.Prelude.{◌≡◌, ℕ, true, Bool, List, [], length, slice_get, Some, ap, ◌∙◌, arith, ◌<◌, ◌≤◌, false, cond, ltb, map, get_or, Option, None, refl, sym, subst, position, position_or_len, slice_get_within, get_or_from_slice_get, slice_get-get_or, slice_get-map, common_steps, option_map_or, lt-ltb, cases_lt, both_ways, get_or-map, position-Some, fails_before_first, nat_tests}
+use Rattle.std.proofs.Common.{zero-add, bytes_eq}
 use Rattle.std.specs.List.{range_with_len}
-use Rattle.langtag_scan.specs.Grammar.{Alike, are_alike, fold_byte, fold_text, are_alike-decides, irregular_texts, Grandfathered, grandfathered_tags, IsIrregular, IsIrregularAt, IsNormal, IsTag, IsIrregularPrefix, is_letter, is_primary, EachRecord, segments}
+use Rattle.langtag_scan.specs.Grammar.{Alike, are_alike, fold_byte, fold_text, are_alike-decides, irregular_texts, Grandfathered, grandfathered_tags, IsIrregular, IsIrregularAt, IsNormal, IsTag, is_letter, is_primary, EachRecord, segments}
 use Rattle.std.proofs.lemmas.List.FromFn.{get_or-range_with_len}
 use Rattle.langtag_scan.proofs.CaseLaw.{alike_tag}
 use Rattle.langtag_scan.proofs.NormalTexts.{spelled_segments}
@@ -11,30 +11,6 @@ use Rattle.langtag.specs.Definitions.{IsLanguage, index_of, text_of, language_of
 use Rattle.langtag.specs.declared.grandfathered.GrandfatheredLangTag.{GrandfatheredLangTag}
 use Rattle.langtag.specs.declared.grandfathered.GrandfatheredLangTag.TheVariants.{EnGbOed}
 use Rattle.langtag.specs.declared.grandfathered.TheConstants.{GRANDFATHERED}
-
--- some irregular tag has a property exactly where one passes the test that decides it
-module _ (test : List ℕ → Bool) (P : List ℕ → Type 0) (decides : (name : List ℕ) → Decides (test name) (P name)) where
-  from_test : list_any test irregular_texts ≡ true → (k : ℕ) × (name : List ℕ) × (slice_get irregular_texts k ≡ Some name) × P name
-  from_test found = grind (arith, common_steps, Any-from_list_any, slice_get_read)
-
-  to_test : (k : ℕ) (name : List ℕ) → slice_get irregular_texts k ≡ Some name → P name → list_any test irregular_texts ≡ true
-  to_test k name at is = grind (arith, nat_tests, list_any_at, slice_get_within irregular_texts k name at, get_or_from_slice_get irregular_texts k name [] at)
-
-pub begins_some : (p : List ℕ) → IsTrue (list_any (λ name. are_alike p (take (length p) name)) irregular_texts) ↔ IsIrregularPrefix p
-unfolding IsIrregularPrefix
-begins_some p = (
-  λ found. from_test (λ name. are_alike p (take (length p) name)) (λ name. Alike p (take (length p) name)) (λ name. are_alike-decides p (take (length p) name)) found,
-  λ is. to_test (λ name. are_alike p (take (length p) name)) (λ name. Alike p (take (length p) name)) (λ name. are_alike-decides p (take (length p) name)) is.0 is.1 is.2 is.3,
-)
-
-pub alike_some : (t : List ℕ) → IsTrue (list_any (λ name. are_alike name t) irregular_texts) ↔ IsIrregular t
-unfolding IsIrregular IsIrregularAt
-alike_some t = (
-  λ found.
-      let (k, name, at, alike) = from_test (λ name. are_alike name t) (λ name. Alike name t) (λ name. are_alike-decides name t) found in
-      (k, (name, at, alike)),
-  λ is. to_test (λ name. are_alike name t) (λ name. Alike name t) (λ name. are_alike-decides name t) is.0 is.1.0 is.1.1 is.1.2,
-)
 
 -- ---- the table
 

@@ -3,7 +3,6 @@ pub use Rattle.langtag.specs.Edit.{with_script, with_region, with_language, with
 pub use Rattle.langtag.specs.Form.{IsForm, IsAlikeForm, IsOnlyForm}
 pub use Rattle.langtag.specs.Kinds.{AreOfOneKind}
 pub use Rattle.langtag.specs.Part.{PartOf}
-pub use Rattle.langtag.specs.Refusal.{AlphanumericWithin, EndsTooSoon, IsFirstOther, IsRefusedSubtag}
 pub use Rattle.langtag.specs.Registered.{index_of, text_of, language_of}
 unfoldable pub use Rattle.langtag.specs.Registered.{IsGrandfathered, IsGrandfatheredAt}
 pub use Rattle.langtag.specs.Text.{lang_tag_text, normal_lang_tag_text, lang_tag_buf_text, normal_lang_tag_buf_text, part_text}
@@ -24,6 +23,7 @@ pub use Rattle.langtag_place.specs.Variants.{SpellsVariants, IsVariants}
 pub use Rattle.langtag_private.specs.Decided.{is_private_use_text}
 pub use Rattle.langtag_private.specs.PrivateUse.{IsPrivateUse}
 pub use Rattle.langtag_private.specs.Text.{private_use_subtags_left, private_use_text}
+pub use Rattle.langtag_refusal.specs.Refusal.{AlphanumericWithin, EndsTooSoon, IsFirstOther, IsRefusedSubtag}
 pub use Rattle.langtag_scan.specs.Case.{Alike, are_alike, case_cmp}
 pub use Rattle.langtag_scan.specs.Parts.{extensions_part, language_part, private_use_part, variants_part}
 pub use Rattle.langtag_scan.specs.Record.{EachRecord, Record, Spells, spell}

@@ -12,7 +12,6 @@ pub mod Order
 pub mod Part
 pub mod PartPlaces
 pub mod Recognised
-pub mod Refusal
 pub mod Registered
 pub mod Text
 pub mod Typed
@@ -32,6 +31,7 @@ pub use Rattle.langtag_place.specs.Variants
 pub use Rattle.langtag_private.specs.Compared as PrivateCompared
 pub use Rattle.langtag_private.specs.PrivateUse
 pub use Rattle.langtag_private.specs.Text as PrivateText
+pub use Rattle.langtag_refusal.specs.Refusal
 pub use Rattle.langtag_scan.specs.AlikeRecords
 pub use Rattle.langtag_scan.specs.Case
 pub use Rattle.langtag_scan.specs.CaseLaws

@@ -5,7 +5,7 @@ ghost use Rattle.langtag.specs.Registered.{text_of};
 
 use crate::lang_tag::LangTag;
 use langtag_language::Language;
-use langtag_scan::case_insensitive_eq;
+use langtag_scan::{GRANDFATHERED_TEXTS, case_insensitive_eq};
 use std::convert::TryFrom;
 use std::fmt;
 use std::fmt::Debug;
@@ -214,34 +214,7 @@ impl GrandfatheredLangTag {
     pub fn as_str(&self) -> &'static str
         ensures { result.now ≡ text_of self.now }
     {
-        match self {
-            GrandfatheredLangTag::EnGbOed => "en-GB-oed",
-            GrandfatheredLangTag::IAmi => "i-ami",
-            GrandfatheredLangTag::IBnn => "i-bnn",
-            GrandfatheredLangTag::IDefault => "i-default",
-            GrandfatheredLangTag::IEnochian => "i-enochian",
-            GrandfatheredLangTag::IHak => "i-hak",
-            GrandfatheredLangTag::IKlingon => "i-klingon",
-            GrandfatheredLangTag::ILux => "i-lux",
-            GrandfatheredLangTag::IMingo => "i-mingo",
-            GrandfatheredLangTag::INavajo => "i-navajo",
-            GrandfatheredLangTag::IPwn => "i-pwn",
-            GrandfatheredLangTag::ITao => "i-tao",
-            GrandfatheredLangTag::ITay => "i-tay",
-            GrandfatheredLangTag::ITsu => "i-tsu",
-            GrandfatheredLangTag::SgnBeFr => "sgn-BE-FR",
-            GrandfatheredLangTag::SgnBeNl => "sgn-BE-NL",
-            GrandfatheredLangTag::SgnChDe => "sgn-CH-DE",
-            GrandfatheredLangTag::ArtLojban => "art-lojban",
-            GrandfatheredLangTag::CelGaulish => "cel-gaulish",
-            GrandfatheredLangTag::NoBok => "no-bok",
-            GrandfatheredLangTag::NoNyn => "no-nyn",
-            GrandfatheredLangTag::ZhGuoyu => "zh-guoyu",
-            GrandfatheredLangTag::ZhHakka => "zh-hakka",
-            GrandfatheredLangTag::ZhMin => "zh-min",
-            GrandfatheredLangTag::ZhMinNan => "zh-min-nan",
-            GrandfatheredLangTag::ZhXiang => "zh-xiang",
-        }
+        GRANDFATHERED_TEXTS[*self as usize]
     }
 
     /// Returns the tag with the registered spelling: `GrandfatheredLangTag::ILux.as_lang_tag().kind()` is

@@ -11,13 +11,13 @@ ghost use Rattle.langtag.specs.Recognised.{finding_of};
 ghost use Rattle.langtag.specs.Edit.{ComesBack, with_language, with_script, with_region, with_variants, with_extensions, with_private_use, SetsLanguage, SetsScript, SetsRegion, SetsVariants, SetsExtensions, SetsPrivateUse};
 
 use crate::edit::set_part;
-use crate::edit_error::EditError;
 use crate::lang_tag::{InvalidLangTag, LangTag};
 use crate::normal_lang_tag_buf::NormalLangTagBuf;
 use crate::part::Part;
 use crate::recognise_text::recognise_text;
 use crate::recognised::Recognised;
 use crate::recommended_case::put_recommended_case;
+use langtag_edit::EditError;
 use langtag_extension::Extensions;
 use langtag_language::Language;
 use langtag_place::{Region, Script, Variants};

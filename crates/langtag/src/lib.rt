@@ -36,7 +36,6 @@
 #![tactic(auto)]
 
 mod edit;
-mod edit_error;
 mod grandfathered;
 mod kind;
 mod lang_tag;
@@ -50,18 +49,17 @@ mod push;
 mod recognise_text;
 mod recognised;
 mod recommended_case;
-mod refusal;
 mod repeats;
 mod text_of_parts;
 mod typed_lang_tag;
 mod written;
 
-pub use edit_error::EditError;
 pub use grandfathered::{GRANDFATHERED, GrandfatheredLangTag, InvalidGrandfatheredTag};
 pub use kind::Kind;
 pub use lang_tag::{InvalidLangTag, LangTag};
 pub use lang_tag_buf::LangTagBuf;
 pub use langtag_case::{InRecommendedCase, is_in_recommended_case, make_recommended_case};
+pub use langtag_edit::{EditError, Replacement};
 pub use langtag_extension::{
     Extension, ExtensionBuf, ExtensionIter, ExtensionSubtag, ExtensionSubtagBuf, Extensions,
     ExtensionsBuf, ExtensionsIter, InvalidExtension, InvalidExtensionSubtag, InvalidExtensions,
@@ -80,6 +78,7 @@ pub use langtag_private::{
     InvalidPrivateUse, InvalidPrivateUseSubtag, PrivateUse, PrivateUseBuf, PrivateUseIter,
     PrivateUseSubtag, PrivateUseSubtagBuf,
 };
+pub use langtag_refusal::{Refusal, RefusalKind};
 pub use langtag_scan::{
     ByteSource, Ends, Found, Metered, Subtags, case_insensitive_cmp, case_insensitive_eq,
     case_insensitive_hash, into_smallcase, is_extended, is_extension_subtag, is_mark, is_primary,
@@ -88,9 +87,8 @@ pub use langtag_scan::{
 };
 pub use normal_lang_tag::{InvalidNormalLangTag, NormalLangTag};
 pub use normal_lang_tag_buf::NormalLangTagBuf;
-pub use part::{Part, Replacement, put_part};
+pub use part::{Part, put_part};
 pub use private_use_lang_tag::{PrivateUseLangTag, PrivateUseLangTagBuf};
-pub use refusal::{Refusal, RefusalKind};
 pub use typed_lang_tag::TypedLangTag;
 
 // For the crates above that write or make tags.

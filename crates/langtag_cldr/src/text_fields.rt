@@ -8,7 +8,8 @@ ghost use Rattle.langtag_cldr.specs.Definitions.{after_language, after_script, l
 
 use crate::fields::known;
 use crate::tag_fields::TagFields;
-use langtag_scan::{is_extended, is_primary, is_region, is_script, split_at_either};
+use langtag_range::split_at_either;
+use langtag_scan::{is_extended, is_primary, is_region, is_script};
 
 impl<'a> TagFields<'a> {
     /// Returns the fields of a string in which `_` is read as `-`, or `None` if it does not begin with a language.

@@ -10,8 +10,7 @@ use crate::element::element_at;
 use crate::lookup::tag_for;
 use crate::weighted_range::WeightedRange;
 use langtag::LangTag;
-use langtag_range::is_empty_element;
-use langtag_scan::split_at_byte;
+use langtag_range::{is_empty_element, split_at_byte};
 use std::alloc::{AllocError, Global};
 use std::cmp::Reverse;
 

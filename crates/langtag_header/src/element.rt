@@ -8,8 +8,7 @@ ghost use Rattle.langtag_header.specs.Text.{language_range_text, weighted_range_
 use crate::accept_language_error::ElementPart;
 use crate::language_range::LanguageRange;
 use crate::weighted_range::WeightedRange;
-use langtag_range::{is_basic_range, trimmed_place, weight_of};
-use langtag_scan::len_before;
+use langtag_range::{is_basic_range, len_before, trimmed_place, weight_of};
 
 /// An element of a header, and the offset of its range.
 ///
@@ -63,7 +62,7 @@ pub fn element_at(item: &[u8]) -> Result<Element<'_>, ElementPart>
 }
 
 /// Returns the weight after the first `;`, or 1000 if there is no `;`.
-#[tactic(auto, using(langtag_scan::proofs::Places::any_at_first, langtag_scan::proofs::Places::none_at_length, std::proofs::lemmas::List::take_rest))]
+#[tactic(auto, using(langtag_range::proofs::Places::any_at_first, langtag_range::proofs::Places::none_at_length, std::proofs::lemmas::List::take_rest))]
 fn weight_after(item: &[u8], semicolon: usize) -> Option<u32>
     requires within { semicolon ≤ length item.now }
     requires first { semicolon ≡ position_or_len is_semicolon item.now }

@@ -9,7 +9,8 @@ ghost use Rattle.langtag_cldr.specs.Definitions.{script_codes};
 use langtag::case_insensitive_eq;
 use langtag_cldr::script_codes;
 use langtag_place::Script;
-use langtag_scan::{is_script, split_at_byte};
+use langtag_range::split_at_byte;
+use langtag_scan::is_script;
 
 /// Returns the modifier of a locale name if [`write_from_posix`] and `from_posix` drop it because they do not know
 /// it: `b"foo"` for `de_DE@foo`.

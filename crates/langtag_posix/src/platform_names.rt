@@ -5,7 +5,8 @@ ghost use Rattle.langtag_posix.specs.ToPosix.{marked};
 
 use crate::modifiers::is_script_code;
 use langtag_output::write_pieces;
-use langtag_scan::{case_insensitive_eq, is_primary, is_region, split_at_byte};
+use langtag_range::split_at_byte;
+use langtag_scan::{case_insensitive_eq, is_primary, is_region};
 
 /// The greatest length of a language and a territory, in bytes.
 pub(crate) const MOST: usize = 255;

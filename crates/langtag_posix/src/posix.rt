@@ -13,8 +13,7 @@ use crate::posix_variant::{MOST_WITH_KEYWORD, tag_with_keyword};
 use langtag::{LangTag, LangTagBuf, Part, tag_of, write_part};
 use langtag_output::write_text;
 use langtag_place::{Script, Variants};
-use langtag_range::locale_place;
-use langtag_scan::{split_at_byte, split_at_either};
+use langtag_range::{locale_place, split_at_byte, split_at_either};
 use std::alloc::{AllocError, Global};
 
 /// The greatest length of a language and a territory with the keyword `va-posix` and a script, in bytes.

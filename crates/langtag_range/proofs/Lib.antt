@@ -1,3 +1,4 @@
+pub mod Places
 pub mod BasicForms
 pub mod AlikeTexts
 pub mod WantedTexts

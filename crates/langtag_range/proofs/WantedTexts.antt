@@ -5,7 +5,7 @@ use Rattle.langtag_range.specs.Definitions.{from_first, is_ows, is_space, items,
 use Rattle.langtag_range.specs.Weight.{is_qvalue, thousandths}
 use Rattle.langtag_scan.specs.Grammar.{has_length, are_digits, are_letters, is_private_subtag, segments, subtags}
 use Rattle.langtag_scan.proofs.SubtagFacts.{letters_alphanumeric}
-use Rattle.langtag_scan.proofs.Places.{any_at_first, none_at_length}
+use Rattle.langtag_range.proofs.Places.{any_at_first, none_at_length}
 
 module _ (text : List ℕ) (start : ℕ) (within : start < length text) where
   -- one more byte of it

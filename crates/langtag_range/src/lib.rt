@@ -17,6 +17,7 @@ mod fallback;
 mod listed;
 mod locale;
 mod range_text;
+mod split;
 mod wanted;
 mod wanted_element;
 mod weight;
@@ -28,11 +29,12 @@ pub use wanted::{WantedRange, WantedRanges, split_wanted, wanted_ranges};
 pub use weight::weight_of;
 pub use white_space::is_empty_element;
 
-// For langtag_header, langtag_validity, langtag_distance and langtag_c.
+// For the crates above that read ranges, lists and names.
 pub use basic::matches_basic;
 pub use basic_form::is_range;
 pub use extended::matches_extended;
 pub use fallback::{ends_in_single, shortened_len};
 pub use range_text::{is_basic_range, is_language_range};
+pub use split::{first_place, len_before, split_at_byte, split_at_either};
 pub use wanted_element::is_separator;
 pub use white_space::trimmed_place;

@@ -6,9 +6,9 @@ ghost use Rattle.langtag_range.specs.Definitions.{are_range_subtags, is_language
 
 use crate::locale::locale_place;
 use crate::range_text::{is_first_subtag, is_range_subtag};
+use crate::split::split_at_either;
 use crate::wanted::WantedRange;
 use crate::wanted_element::{is_separator, is_star, trimmed};
-use langtag_scan::split_at_either;
 
 /// Reads a string as a language range, basic or extended, with the weight 1. As in a header, `_` is read as `-`. White
 /// space around the range is dropped, and so is everything from the first `.`, `@` or `_#` on. Returns `None` if the

@@ -2,7 +2,7 @@
 ghost use Rattle.std.specs.Prelude.{◌≡◌};
 ghost use Rattle.langtag_range.specs.Definitions.{locale_place, without_mark};
 
-use langtag_scan::{split_at_byte, split_at_either};
+use crate::split::{split_at_byte, split_at_either};
 
 /// Returns the language and the territory of a POSIX locale name (IEEE Std 1003.1, section 8.2), without the codeset,
 /// the modifier, and the script that Java and Android print after `_#`. The result need not be a tag.

@@ -4,8 +4,8 @@ ghost use Rattle.langtag_scan.specs.Prelude.{YieldsFirstBy, item_count, option_m
 ghost use Rattle.langtag_range.specs.Range.{is_basic_range};
 ghost use Rattle.langtag_range.specs.Wanted as spec;
 
+use crate::split::split_at_byte;
 use crate::wanted_element::wanted_at;
-use langtag_scan::split_at_byte;
 
 /// A language range of a header, and its weight. Its bytes may have `_` instead of a hyphen.
 ///

@@ -7,10 +7,11 @@ ghost use Rattle.langtag_range.specs.Wanted as spec;
 
 use crate::locale::locale_place;
 use crate::range_text::is_first_subtag;
+use crate::split::{first_place, split_at_byte, split_at_either};
 use crate::wanted::WantedRange;
 use crate::weight::{are_digits, digit_at};
 use crate::white_space::trimmed_place;
-use langtag_scan::{first_place, is_private_subtag, split_at_byte, split_at_either};
+use langtag_scan::is_private_subtag;
 
 /// Returns the range of an item of a header, with its weight. `behind` is what follows the comma after the item.
 #[tactic(auto, unfolding(crate::specs::Wanted::wanted))]

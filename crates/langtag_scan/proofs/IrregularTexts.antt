@@ -1,6 +1,7 @@
 -- The irregular texts, and which of them a text may still become; no text is of two kinds of tags, and each grandfathered text is a tag.
-use Rattle.langtag_scan.proofs.Prelude.{◌≡◌, ℕ, ◌<◌, Bool, true, eqb, ◌&&◌, List, [], ◌∷◌, ◌++◌, length, get_or, drop, refl, sym, ◌∙◌, arith, false, map, ltb, ◌||◌, slice_get, None, Some, inl, inr, ap, eq-eqb, and_parts, and_from, agree_below, agree_below_at, both_ways, ltb-true, or_cases, nat_tests, map-append, drop-map, length-map, get_or-map, slice_get-get_or, slice_get_within, get_or_from_slice_get, common_steps, bytes_decides, bytes_eq, eqb-true}
-use Rattle.langtag_scan.specs.Grammar.{fold_byte, fold_text, grandfathered_tags, irregular_texts, Grandfathered, folded_texts, folded_at, is_prefix, is_possible, IsIrregularAt, IsNormal, IsPrivate, IsIrregular, IsTag, is_letter, is_digit, is_primary, is_extended, is_script, is_region, is_variant, is_extension_subtag, is_private_subtag, is_mark, is_singleton, segments, Start}
+use Rattle.langtag_scan.proofs.Prelude.{◌≡◌, ◌↔◌, ℕ, ◌<◌, Bool, true, eqb, ◌&&◌, List, [], ◌∷◌, ◌++◌, length, get_or, take, drop, IsTrue, list_any, list_any_at, Any-from_list_any, slice_get_read, refl, sym, ◌∙◌, arith, false, map, ltb, ◌||◌, slice_get, None, Some, inl, inr, ap, eq-eqb, and_parts, and_from, agree_below, agree_below_at, both_ways, ltb-true, or_cases, nat_tests, map-append, drop-map, length-map, get_or-map, slice_get-get_or, slice_get_within, get_or_from_slice_get, common_steps, bytes_decides, bytes_eq, eqb-true}
+use Rattle.std.proofs.Common.{Decides}
+use Rattle.langtag_scan.specs.Grammar.{fold_byte, fold_text, grandfathered_tags, irregular_texts, Grandfathered, folded_texts, folded_at, is_prefix, is_possible, Alike, are_alike, are_alike-decides, IsIrregularPrefix, IsIrregularAt, IsNormal, IsPrivate, IsIrregular, IsTag, is_letter, is_digit, is_primary, is_extended, is_script, is_region, is_variant, is_extension_subtag, is_private_subtag, is_mark, is_singleton, segments, Start}
 use Rattle.langtag_scan.specs.Irregular.{has_at}
 use Rattle.langtag_scan.proofs.NormalTexts.{runs_from_normal, runs_private, runs_from_private, one_no_primary, normal_from_runs}
 use Rattle.langtag_scan.proofs.CaseLaw.{runs-fold, runs_private-fold, segments_test-fold}
@@ -140,3 +141,29 @@ registered_tag k entry at =
     let none : Grandfathered = record { text = []; language = None } in
     let accepted = agree_below_at (λ j. is_accepted j (get_or grandfathered_tags j none).text) (λ j. true) 26 k refl (slice_get_within grandfathered_tags k entry at) in
     accepted_tag k entry.text (ap (λ e. is_accepted k e.text) (sym (get_or_from_slice_get grandfathered_tags k entry none at)) ∙ accepted)
+
+-- ---- one of the texts
+
+-- some irregular tag has a property exactly where one passes the test that decides it
+module _ (test : List ℕ → Bool) (P : List ℕ → Type 0) (decides : (name : List ℕ) → Decides (test name) (P name)) where
+  from_test : list_any test irregular_texts ≡ true → (k : ℕ) × (name : List ℕ) × (slice_get irregular_texts k ≡ Some name) × P name
+  from_test found = grind (arith, common_steps, Any-from_list_any, slice_get_read)
+
+  to_test : (k : ℕ) (name : List ℕ) → slice_get irregular_texts k ≡ Some name → P name → list_any test irregular_texts ≡ true
+  to_test k name at is = grind (arith, nat_tests, list_any_at, slice_get_within irregular_texts k name at, get_or_from_slice_get irregular_texts k name [] at)
+
+pub begins_some : (p : List ℕ) → IsTrue (list_any (λ name. are_alike p (take (length p) name)) irregular_texts) ↔ IsIrregularPrefix p
+unfolding IsIrregularPrefix
+begins_some p = (
+  λ found. from_test (λ name. are_alike p (take (length p) name)) (λ name. Alike p (take (length p) name)) (λ name. are_alike-decides p (take (length p) name)) found,
+  λ is. to_test (λ name. are_alike p (take (length p) name)) (λ name. Alike p (take (length p) name)) (λ name. are_alike-decides p (take (length p) name)) is.0 is.1 is.2 is.3,
+)
+
+pub alike_some : (t : List ℕ) → IsTrue (list_any (λ name. are_alike name t) irregular_texts) ↔ IsIrregular t
+unfolding IsIrregular IsIrregularAt
+alike_some t = (
+  λ found.
+      let (k, name, at, alike) = from_test (λ name. are_alike name t) (λ name. Alike name t) (λ name. are_alike-decides name t) found in
+      (k, (name, at, alike)),
+  λ is. to_test (λ name. are_alike name t) (λ name. Alike name t) (λ name. are_alike-decides name t) is.0 is.1.0 is.1.1 is.1.2,
+)

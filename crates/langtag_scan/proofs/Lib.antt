@@ -21,5 +21,4 @@ pub mod FoundLaws
 pub mod IrregularTexts
 pub mod Digits
 pub mod FoldedNumbers
-pub mod Places
 pub mod Laws

@@ -1,6 +1,7 @@
 //! What a recogniser found.
-ghost use Rattle.std.specs.Prelude.{◌≡◌, ◌↔◌, IsTrue};
-ghost use Rattle.langtag_scan.specs.Grammar.{finding, is_normal, is_private_use, irregular_index, normal_ends, IsOfOneKind};
+ghost use Rattle.std.specs.Prelude.{◌≡◌, ◌↔◌, IsTrue, map};
+ghost use Rattle.langtag_scan.specs.Grammar.{finding, is_normal, is_private_use, irregular_index, normal_ends, IsOfOneKind, grandfathered_tags};
+ghost use Rattle.langtag_scan.specs.declared.grandfathered.TheConstants.{GRANDFATHERED_TEXTS};
 
 use crate::ends::Ends;
 use crate::finding::Finding;
@@ -63,8 +64,12 @@ impl Found {
     /// let found = recognise(&mut Metered::new("i-AMI"));
     /// found.and_then(|found| found.irregular()); // Some(1)
     /// ```
+    #[tactic(auto, unfolding(crate::specs::Grandfathered::grandfathered_tags))]
     pub fn irregular(&self) -> Option<usize>
-        ensures { result ≡ irregular_index (finding self.now) }
+        ensures index { result ≡ irregular_index (finding self.now) }
+
+        // law: the texts of the grandfathered tags, in the order of the table
+        ensures texts { map (λ text. text.now) GRANDFATHERED_TEXTS ≡ map (λ tag. tag.text) grandfathered_tags }
     {
         match self.finding {
             Finding::Irregular(index) => Some(index),

@@ -15,7 +15,7 @@
 //! viable_len(b"zh_Hant");                                // 2: no tag begins with `zh_`
 //! ```
 //!
-//! `Caseless` and `folded_number` serve the crates of this workspace that build the string types.
+//! `Caseless`, `folded_number` and `GRANDFATHERED_TEXTS` serve the crates of this workspace that build the string types.
 #![tactic(auto)]
 
 mod case;
@@ -24,11 +24,11 @@ mod class;
 mod ends;
 mod finding;
 mod found;
+mod grandfathered;
 mod metered;
 mod recogniser;
 mod segment;
 mod source;
-mod split;
 mod state;
 mod states;
 mod subtags;
@@ -44,10 +44,10 @@ pub use class::{
 };
 pub use ends::Ends;
 pub use found::Found;
+pub use grandfathered::GRANDFATHERED_TEXTS;
 pub use metered::Metered;
 pub use recogniser::{recognise, recognise_normal};
 pub use segment::{segment_end, segment_start};
 pub use source::ByteSource;
-pub use split::{first_place, len_before, split_at_byte, split_at_either};
 pub use subtags::Subtags;
 pub use viable::{viable_len, viable_len_with_hyphen};

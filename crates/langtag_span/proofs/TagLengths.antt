@@ -4,7 +4,7 @@ use Rattle.langtag_scan.proofs.Prelude.{MatchOption, IsUtf8-from_ascii}
 use Rattle.langtag_scan.specs.Grammar.{grandfathered_tags, irregular_texts, IsNormal, IsTag}
 use Rattle.langtag_scan.proofs.Laws.{of_extended, of_region, of_script, IsAscii-private, IsAscii-spelled, tag_private}
 use Rattle.langtag_private.proofs.Rules.{is_private_use-from_rule, IsPrivate-from_test}
-use Rattle.langtag.proofs.RegisteredLaws.{alike_some}
+use Rattle.langtag_scan.proofs.IrregularTexts.{alike_some}
 use Rattle.langtag_extension.proofs.Rules.{all_subtags-flat}
 use Rattle.langtag.specs.Text.{part_text}
 use Rattle.langtag.specs.declared.part.Part.{Part}

@@ -10,7 +10,7 @@ use Rattle.langtag_private.proofs.Rules.{IsPrivate-from_test, is_private_use-fro
 use Rattle.langtag_span.specs.Spanned.{AreTagsAt, HasTag, IsTagAt, range_at, ranges_at}
 use Rattle.langtag_span.specs.Spans.{HasBytes, empty_at, end_of, has_bytes, span_text}
 use Rattle.langtag_span.specs.TagsAt.{is_tag, tag_at, tags_at}
-use Rattle.langtag.proofs.RegisteredLaws.{alike_some}
+use Rattle.langtag_scan.proofs.IrregularTexts.{alike_some}
 use Rattle.langtag_span.specs.declared.span.Span.{Span}
 
 abbrev pub width : List ℕ → ℕ

@@ -7,8 +7,7 @@ ghost use Rattle.langtag_span.specs.Spans.{HasBytes, IsWithin, span_text};
 
 use crate::span::Span;
 use langtag_header::ElementPart;
-use langtag_range::is_empty_element;
-use langtag_scan::len_before;
+use langtag_range::{is_empty_element, len_before};
 
 /// Removes the first item that is not empty from a list, together with the comma after it.
 #[tactic(auto, using(crate::proofs::LookUps::nothing_filled))]

@@ -12,6 +12,8 @@ pub mod choice;
 pub mod cldr;
 #[path = "../../src/erased/distance/mod.rs"]
 pub mod distance;
+#[path = "../../src/erased/edit/mod.rs"]
+pub mod edit;
 #[path = "../../src/erased/extension/mod.rs"]
 pub mod extension;
 #[path = "../../src/erased/fields/mod.rs"]
@@ -40,6 +42,8 @@ pub mod posix;
 pub mod private;
 #[path = "../../src/erased/range/mod.rs"]
 pub mod range;
+#[path = "../../src/erased/refusal/mod.rs"]
+pub mod refusal;
 #[path = "../../src/erased/registry/mod.rs"]
 pub mod registry;
 #[path = "../../src/erased/scan/mod.rs"]

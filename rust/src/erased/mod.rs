@@ -11,6 +11,7 @@ pub mod choice;
 pub mod cldr;
 #[cfg(feature = "data")]
 pub mod distance;
+pub mod edit;
 pub mod extension;
 #[cfg(feature = "data")]
 pub mod fields;
@@ -31,6 +32,7 @@ pub mod place;
 pub mod posix;
 pub mod private;
 pub mod range;
+pub mod refusal;
 #[cfg(feature = "data")]
 pub mod registry;
 pub mod scan;

@@ -4,7 +4,8 @@
 
 use crate::erased::cldr::fields::known;
 use crate::erased::cldr::tag_fields::TagFields;
-use crate::erased::scan::{is_extended, is_primary, is_region, is_script, split_at_either};
+use crate::erased::range::split_at_either;
+use crate::erased::scan::{is_extended, is_primary, is_region, is_script};
 
 impl<'a> TagFields<'a> {
     /// Returns the fields of a string in which `_` is read as `-`, or `None` if it does not begin

@@ -7,8 +7,7 @@ use crate::erased::header::accept_language_error::AcceptLanguageError;
 use crate::erased::header::element::element_at;
 use crate::erased::header::lookup::tag_for;
 use crate::erased::header::weighted_range::WeightedRange;
-use crate::erased::range::is_empty_element;
-use crate::erased::scan::split_at_byte;
+use crate::erased::range::{is_empty_element, split_at_byte};
 use crate::erased::tag::LangTag;
 #[cfg(feature = "alloc")]
 use crate::shim::{AllocError, TryItems};

@@ -6,8 +6,7 @@
 use crate::erased::header::accept_language_error::ElementPart;
 use crate::erased::header::language_range::LanguageRange;
 use crate::erased::header::weighted_range::WeightedRange;
-use crate::erased::range::{is_basic_range, trimmed_place, weight_of};
-use crate::erased::scan::len_before;
+use crate::erased::range::{is_basic_range, len_before, trimmed_place, weight_of};
 
 /// An element of a header, and the offset of its range.
 ///

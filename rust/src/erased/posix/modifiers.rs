@@ -4,7 +4,8 @@
 
 use crate::erased::cldr::script_codes;
 use crate::erased::place::Script;
-use crate::erased::scan::{is_script, split_at_byte};
+use crate::erased::range::split_at_byte;
+use crate::erased::scan::is_script;
 use crate::erased::tag::case_insensitive_eq;
 
 /// Returns the modifier of a locale name if [`write_from_posix`] and `from_posix` drop it because

@@ -4,7 +4,8 @@
 
 use crate::erased::output::write_pieces;
 use crate::erased::posix::modifiers::is_script_code;
-use crate::erased::scan::{case_insensitive_eq, is_primary, is_region, split_at_byte};
+use crate::erased::range::split_at_byte;
+use crate::erased::scan::{case_insensitive_eq, is_primary, is_region};
 
 /// The greatest length of a language and a territory, in bytes.
 pub(crate) const MOST: usize = 255;

@@ -9,8 +9,7 @@ use crate::erased::posix::platform_names::{read_place, MOST, MOST_READ};
 #[cfg(feature = "alloc")]
 use crate::erased::posix::posix_error::PosixError;
 use crate::erased::posix::posix_variant::{tag_with_keyword, MOST_WITH_KEYWORD};
-use crate::erased::range::locale_place;
-use crate::erased::scan::{split_at_byte, split_at_either};
+use crate::erased::range::{locale_place, split_at_byte, split_at_either};
 #[cfg(feature = "alloc")]
 use crate::erased::tag::{tag_of, LangTagBuf};
 use crate::erased::tag::{write_part, LangTag, Part};

@@ -4,9 +4,9 @@
 
 use crate::erased::range::locale::locale_place;
 use crate::erased::range::range_text::{is_first_subtag, is_range_subtag};
+use crate::erased::range::split::split_at_either;
 use crate::erased::range::wanted::WantedRange;
 use crate::erased::range::wanted_element::{is_separator, is_star, trimmed};
-use crate::erased::scan::split_at_either;
 
 /// Reads a string as a language range, basic or extended, with the weight 1. As in a header, `_` is
 /// read as `-`. White space around the range is dropped, and so is everything from the first `.`,

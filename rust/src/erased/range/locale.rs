@@ -2,7 +2,7 @@
 
 //! The language and the territory of a POSIX locale name.
 
-use crate::erased::scan::{split_at_byte, split_at_either};
+use crate::erased::range::split::{split_at_byte, split_at_either};
 
 /// Returns the language and the territory of a POSIX locale name (IEEE Std 1003.1, section 8.2),
 /// without the codeset, the modifier, and the script that Java and Android print after `_#`. The

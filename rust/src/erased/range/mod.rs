@@ -19,6 +19,7 @@ mod fallback;
 mod listed;
 mod locale;
 mod range_text;
+mod split;
 mod wanted;
 mod wanted_element;
 mod weight;
@@ -30,11 +31,12 @@ pub use wanted::{split_wanted, wanted_ranges, WantedRange, WantedRanges};
 pub use weight::weight_of;
 pub use white_space::is_empty_element;
 
-// For langtag_header, langtag_validity, langtag_distance and langtag_c.
+// For the crates above that read ranges, lists and names.
 pub(crate) use basic::matches_basic;
 pub(crate) use basic_form::is_range;
 pub(crate) use extended::matches_extended;
 pub(crate) use fallback::{ends_in_single, shortened_len};
 pub(crate) use range_text::{is_basic_range, is_language_range};
+pub(crate) use split::{first_place, len_before, split_at_byte, split_at_either};
 pub(crate) use wanted_element::is_separator;
 pub(crate) use white_space::trimmed_place;

@@ -2,8 +2,8 @@
 
 //! The language ranges of a header, read leniently.
 
+use crate::erased::range::split::split_at_byte;
 use crate::erased::range::wanted_element::wanted_at;
-use crate::erased::scan::split_at_byte;
 
 /// A language range of a header, and its weight. Its bytes may have `_` instead of a hyphen.
 ///

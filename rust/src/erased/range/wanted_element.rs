@@ -4,10 +4,11 @@
 
 use crate::erased::range::locale::locale_place;
 use crate::erased::range::range_text::is_first_subtag;
+use crate::erased::range::split::{first_place, split_at_byte, split_at_either};
 use crate::erased::range::wanted::WantedRange;
 use crate::erased::range::weight::{are_digits, digit_at};
 use crate::erased::range::white_space::trimmed_place;
-use crate::erased::scan::{first_place, is_private_subtag, split_at_byte, split_at_either};
+use crate::erased::scan::is_private_subtag;
 
 /// Returns the range of an item of a header, with its weight. `behind` is what follows the comma
 /// after the item.

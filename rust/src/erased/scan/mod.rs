@@ -23,7 +23,8 @@
 //! # }
 //! ```
 //!
-//! `Caseless` and `folded_number` serve the crates of this workspace that build the string types.
+//! `Caseless`, `folded_number` and `GRANDFATHERED_TEXTS` serve the crates of this workspace that
+//! build the string types.
 
 mod case;
 mod caseless;
@@ -31,11 +32,11 @@ mod class;
 mod ends;
 mod finding;
 mod found;
+mod grandfathered;
 mod metered;
 mod recogniser;
 mod segment;
 mod source;
-mod split;
 mod state;
 mod states;
 mod subtags;
@@ -50,10 +51,10 @@ pub use class::{
 };
 pub use ends::Ends;
 pub use found::Found;
+pub use grandfathered::GRANDFATHERED_TEXTS;
 pub use metered::Metered;
 pub use recogniser::{recognise, recognise_normal};
 pub(crate) use segment::{segment_end, segment_start};
 pub use source::ByteSource;
-pub use split::{first_place, len_before, split_at_byte, split_at_either};
 pub use subtags::Subtags;
 pub use viable::{viable_len, viable_len_with_hyphen};

@@ -3,7 +3,7 @@
 //! The grandfathered tags (RFC 5646 section 2.2.8).
 
 use crate::erased::language::Language;
-use crate::erased::scan::case_insensitive_eq;
+use crate::erased::scan::{case_insensitive_eq, GRANDFATHERED_TEXTS};
 use crate::erased::tag::lang_tag::LangTag;
 use core::fmt;
 
@@ -207,34 +207,7 @@ impl GrandfatheredLangTag {
     #[inline]
     #[must_use]
     pub fn as_str(&self) -> &'static str {
-        match self {
-            GrandfatheredLangTag::EnGbOed => "en-GB-oed",
-            GrandfatheredLangTag::IAmi => "i-ami",
-            GrandfatheredLangTag::IBnn => "i-bnn",
-            GrandfatheredLangTag::IDefault => "i-default",
-            GrandfatheredLangTag::IEnochian => "i-enochian",
-            GrandfatheredLangTag::IHak => "i-hak",
-            GrandfatheredLangTag::IKlingon => "i-klingon",
-            GrandfatheredLangTag::ILux => "i-lux",
-            GrandfatheredLangTag::IMingo => "i-mingo",
-            GrandfatheredLangTag::INavajo => "i-navajo",
-            GrandfatheredLangTag::IPwn => "i-pwn",
-            GrandfatheredLangTag::ITao => "i-tao",
-            GrandfatheredLangTag::ITay => "i-tay",
-            GrandfatheredLangTag::ITsu => "i-tsu",
-            GrandfatheredLangTag::SgnBeFr => "sgn-BE-FR",
-            GrandfatheredLangTag::SgnBeNl => "sgn-BE-NL",
-            GrandfatheredLangTag::SgnChDe => "sgn-CH-DE",
-            GrandfatheredLangTag::ArtLojban => "art-lojban",
-            GrandfatheredLangTag::CelGaulish => "cel-gaulish",
-            GrandfatheredLangTag::NoBok => "no-bok",
-            GrandfatheredLangTag::NoNyn => "no-nyn",
-            GrandfatheredLangTag::ZhGuoyu => "zh-guoyu",
-            GrandfatheredLangTag::ZhHakka => "zh-hakka",
-            GrandfatheredLangTag::ZhMin => "zh-min",
-            GrandfatheredLangTag::ZhMinNan => "zh-min-nan",
-            GrandfatheredLangTag::ZhXiang => "zh-xiang",
-        }
+        GRANDFATHERED_TEXTS[*self as usize]
     }
 
     /// Returns the tag with the registered spelling.

@@ -2,6 +2,8 @@
 
 //! Language tags of every kind that own their text.
 
+#[cfg(feature = "alloc")]
+use crate::erased::edit::EditError;
 use crate::erased::extension::Extensions;
 use crate::erased::language::Language;
 use crate::erased::place::{Region, Script, Variants};
@@ -11,8 +13,6 @@ use crate::erased::private::PrivateUseBuf;
 use crate::erased::scan::Caseless;
 #[cfg(feature = "alloc")]
 use crate::erased::tag::edit::set_part;
-#[cfg(feature = "alloc")]
-use crate::erased::tag::edit_error::EditError;
 use crate::erased::tag::lang_tag::{InvalidLangTag, LangTag};
 #[cfg(feature = "alloc")]
 use crate::erased::tag::normal_lang_tag_buf::NormalLangTagBuf;

@@ -44,7 +44,6 @@
 //! exports all these types, and also the parser over bytes, [`recognise`].
 
 mod edit;
-mod edit_error;
 mod grandfathered;
 mod kind;
 mod lang_tag;
@@ -58,13 +57,15 @@ mod push;
 mod recognise_text;
 mod recognised;
 mod recommended_case;
-mod refusal;
 mod repeats;
 mod text_of_parts;
 mod typed_lang_tag;
 mod written;
 
 pub use crate::erased::case::{is_in_recommended_case, make_recommended_case, InRecommendedCase};
+#[cfg(feature = "alloc")]
+pub use crate::erased::edit::EditError;
+pub use crate::erased::edit::Replacement;
 pub use crate::erased::extension::{
     Extension, ExtensionIter, ExtensionSubtag, Extensions, ExtensionsIter, InvalidExtension,
     InvalidExtensionSubtag, InvalidExtensions, InvalidSingleton, Singleton,
@@ -90,6 +91,7 @@ pub use crate::erased::private::{
 };
 #[cfg(feature = "alloc")]
 pub use crate::erased::private::{PrivateUseBuf, PrivateUseSubtagBuf};
+pub use crate::erased::refusal::{Refusal, RefusalKind};
 pub use crate::erased::scan::{
     case_insensitive_cmp, case_insensitive_eq, case_insensitive_hash, into_smallcase, is_extended,
     is_extension_subtag, is_mark, is_primary, is_private_subtag, is_region, is_script,
@@ -97,8 +99,6 @@ pub use crate::erased::scan::{
     Metered, Subtags,
 };
 pub(crate) use crate::erased::scan::{segment_end, segment_start};
-#[cfg(feature = "alloc")]
-pub use edit_error::EditError;
 pub use grandfathered::{GrandfatheredLangTag, InvalidGrandfatheredTag, GRANDFATHERED};
 pub use kind::Kind;
 pub use lang_tag::{InvalidLangTag, LangTag};
@@ -107,11 +107,10 @@ pub use lang_tag_buf::LangTagBuf;
 pub use normal_lang_tag::{InvalidNormalLangTag, NormalLangTag};
 #[cfg(feature = "alloc")]
 pub use normal_lang_tag_buf::NormalLangTagBuf;
-pub use part::{put_part, Part, Replacement};
+pub use part::{put_part, Part};
 pub use private_use_lang_tag::PrivateUseLangTag;
 #[cfg(feature = "alloc")]
 pub use private_use_lang_tag::PrivateUseLangTagBuf;
-pub use refusal::{Refusal, RefusalKind};
 pub use typed_lang_tag::TypedLangTag;
 
 // For the crates above that write or make tags.

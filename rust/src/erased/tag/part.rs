@@ -3,6 +3,7 @@
 //! The parts of a normal tag (RFC 5646 section 2.1), and how a new part is put into the string of a
 //! tag.
 
+use crate::erased::edit::Replacement;
 use crate::erased::extension::Extensions;
 use crate::erased::language::Language;
 use crate::erased::output::write_pieces;
@@ -41,31 +42,6 @@ pub enum Part<'a> {
     Extensions(Extensions<'a>),
     /// The private use part (section 2.2.7): `x-mine`.
     PrivateUse(Option<PrivateUse<'a>>),
-}
-
-/// A change of a tag's string, which [`put_part`] returns: the bytes to replace, and the string
-/// that replaces them. Offsets are in bytes.
-///
-/// ```
-/// # fn main() -> Result<(), Box<dyn std::error::Error>> {
-/// use langtag::erased::tag::{NormalLangTag, Part, put_part};
-///
-/// let new = put_part(NormalLangTag::new("de-DE-1996")?, Part::Region(None));
-/// assert_eq!((new.start, new.end, new.hyphen, new.part), (2, 5, "", ""));
-/// # Ok(())
-/// # }
-/// ```
-#[derive(Debug)]
-pub struct Replacement<'a> {
-    /// The offset of the first byte to replace: 2 in `de-x-a`, for a private use part.
-    pub start: usize,
-    /// The offset after the last byte to replace: 6 in `de-x-a`. It equals `start` if the tag has
-    /// no such part.
-    pub end: usize,
-    /// The hyphen before the part. It is empty for a language, and if the part is removed.
-    pub hyphen: &'static str,
-    /// The string of the part, which is empty if the part is removed.
-    pub part: &'a str,
 }
 
 /// Returns the change of a normal tag's string that sets this part (RFC 5646 sections 2.2.1 to

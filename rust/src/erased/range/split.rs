@@ -1,4 +1,4 @@
-// Made by rust/erase from crates/langtag_scan/src/split.rt. Change that file, not this one.
+// Made by rust/erase from crates/langtag_range/src/split.rt. Change that file, not this one.
 
 //! Splitting a string at the first byte of a given value.
 

@@ -1,6 +1,6 @@
 //! Why a tag could not be edited.
 ghost use Rattle.std.specs.Prelude.{◌≡◌};
-ghost use Rattle.langtag.specs.declared.edit_error.EditError.TheVariants.{Memory};
+ghost use Rattle.langtag_edit.specs.declared.edit_error.EditError.TheVariants.{Memory};
 
 use std::alloc::AllocError;
 use thiserror::Error;

@@ -1,12 +1,11 @@
-// Made by rust/erase from crates/langtag/src/refusal.rt. Change that file, not this one.
+// Made by rust/erase from crates/langtag_refusal/src/refusal.rt. Change that file, not this one.
 
 //! Where the first fault is in a string that is not a tag (RFC 5646 section 2.1).
 
 use crate::erased::scan::{
-    case_insensitive_eq, segment_end, segment_start, viable_len_with_hyphen,
+    case_insensitive_eq, recognise, segment_end, segment_start, viable_len_with_hyphen, Metered,
+    GRANDFATHERED_TEXTS,
 };
-use crate::erased::tag::grandfathered::{GrandfatheredLangTag, GRANDFATHERED};
-use crate::erased::tag::lang_tag::LangTag;
 
 /// The reason why bytes are not a tag ([RFC 5646 section 2.1]).
 ///
@@ -109,7 +108,7 @@ impl Refusal {
 /// Returns whether the bytes are a tag.
 #[inline]
 fn is_tag(bytes: &[u8]) -> bool {
-    LangTag::from_bytes(bytes).is_ok()
+    recognise(&mut Metered::of_bytes(bytes)).is_some()
 }
 
 /// Returns whether bytes that are not a tag end too soon. `viable` is the viable length of the
@@ -152,19 +151,19 @@ fn is_alphanumeric(byte: u8) -> bool {
     byte.is_ascii_alphanumeric()
 }
 
-/// The number of irregular grandfathered tags, which come first in [`GRANDFATHERED`].
+/// The number of irregular grandfathered tags, which come first in [`GRANDFATHERED_TEXTS`].
 const IRREGULAR: usize = 17;
 
 /// Returns whether some irregular tag begins with the bytes (section 2.2.8).
 #[inline]
 fn begins_irregular(bytes: &[u8]) -> bool {
-    begin_any(bytes, &GRANDFATHERED[..IRREGULAR])
+    begins_any(bytes, &GRANDFATHERED_TEXTS[..IRREGULAR])
 }
 
-/// Returns whether one of the tags begins with the bytes.
+/// Returns whether one of these strings begins with the bytes.
 #[inline]
-fn begin_any(bytes: &[u8], tags: &[GrandfatheredLangTag]) -> bool {
-    tags.iter().any(|tag| begins(bytes, tag.as_bytes()))
+fn begins_any(bytes: &[u8], texts: &[&str]) -> bool {
+    texts.iter().any(|text| begins(bytes, text.as_bytes()))
 }
 
 /// Returns whether a string begins with the bytes, ignoring the case of letters.

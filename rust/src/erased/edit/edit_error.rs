@@ -1,4 +1,4 @@
-// Made by rust/erase from crates/langtag/src/edit_error.rt. Change that file, not this one.
+// Made by rust/erase from crates/langtag_edit/src/edit_error.rt. Change that file, not this one.
 
 //! Why a tag could not be edited.
 

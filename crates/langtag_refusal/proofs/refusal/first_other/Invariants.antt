@@ -1,6 +1,6 @@
 use Rattle.std.proofs.Common.{◌-◌, ◌≤◌}
-use Rattle.langtag.specs.Refusal.{AlphanumericWithin}
-use Rattle.langtag.proofs.refusal.first_other.Given as goal
+use Rattle.langtag_refusal.specs.Refusal.{AlphanumericWithin}
+use Rattle.langtag_refusal.proofs.refusal.first_other.Given as goal
 
 abbrev pub invariant-loop-index : goal.invariant-loop-index
 invariant-loop-index l = record {

@@ -1,15 +1,15 @@
 //! Where the first fault is in a string that is not a tag (RFC 5646 section 2.1).
 ghost use Rattle.std.specs.Prelude.{◌≡◌, ◌↔◌, ◌≤◌, ◌<◌, ◌++◌, ◌∷◌, [], IsTrue, IsNone, IfSome, false, length, take, slice_index};
 ghost use Rattle.langtag_scan.specs.Grammar.{list_any, are_alike, IsTag, IsViableLength, IsIrregularPrefix, is_alphanumeric};
-ghost use Rattle.langtag.specs.Refusal.{AlphanumericWithin, EndsTooSoon, IsFirstOther, IsOpen, IsRefusedEnd, IsRefusedSubtag};
-ghost use Rattle.langtag.specs.Registered.{text_of};
-ghost use Rattle.langtag.specs.declared.refusal.Refusal.{Refusal};
-ghost use Rattle.langtag.specs.declared.refusal.RefusalKind.{RefusalKind};
-ghost use Rattle.langtag.specs.declared.refusal.RefusalKind.TheVariants as kind;
+ghost use Rattle.langtag_refusal.specs.Refusal.{AlphanumericWithin, EndsTooSoon, IsFirstOther, IsOpen, IsRefusedEnd, IsRefusedSubtag};
+ghost use Rattle.langtag_refusal.specs.declared.refusal.Refusal.{Refusal};
+ghost use Rattle.langtag_refusal.specs.declared.refusal.RefusalKind.{RefusalKind};
+ghost use Rattle.langtag_refusal.specs.declared.refusal.RefusalKind.TheVariants as kind;
 
-use crate::grandfathered::{GRANDFATHERED, GrandfatheredLangTag};
-use crate::lang_tag::LangTag;
-use langtag_scan::{case_insensitive_eq, segment_end, segment_start, viable_len_with_hyphen};
+use langtag_scan::{
+    GRANDFATHERED_TEXTS, Metered, case_insensitive_eq, recognise, segment_end, segment_start,
+    viable_len_with_hyphen,
+};
 
 /// The reason why bytes are not a tag (RFC 5646 section 2.1).
 ///
@@ -107,10 +107,11 @@ impl Refusal {
 }
 
 /// Returns whether the bytes are a tag.
+#[tactic(auto, using(langtag_scan::proofs::FoundLaws::tag_found))]
 fn is_tag(bytes: &[u8]) -> bool
     ensures { IsTrue result ↔ IsTag bytes.now }
 {
-    LangTag::from_bytes(bytes).is_ok()
+    recognise(&mut Metered::of_bytes(bytes)).is_some()
 }
 
 /// Returns whether bytes that are not a tag end too soon. `viable` is the viable length of the bytes followed by a
@@ -170,22 +171,22 @@ fn is_alphanumeric(byte: u8) -> bool
     byte.is_ascii_alphanumeric()
 }
 
-/// The number of irregular grandfathered tags, which come first in [`GRANDFATHERED`].
+/// The number of irregular grandfathered tags, which come first in [`GRANDFATHERED_TEXTS`].
 const IRREGULAR: usize = 17;
 
 /// Returns whether some irregular tag begins with the bytes (section 2.2.8).
-#[tactic(auto, using(crate::proofs::RegisteredLaws::begins_some), unfolding(langtag_scan::specs::Grandfathered::irregular_texts, langtag_scan::specs::Grandfathered::grandfathered_tags))]
+#[tactic(auto, using(langtag_scan::proofs::IrregularTexts::begins_some), unfolding(langtag_scan::specs::Grandfathered::irregular_texts, langtag_scan::specs::Grandfathered::grandfathered_tags))]
 fn begins_irregular(bytes: &[u8]) -> bool
     ensures { IsTrue result ↔ IsIrregularPrefix bytes.now }
 {
-    begin_any(bytes, &GRANDFATHERED[..IRREGULAR])
+    begins_any(bytes, &GRANDFATHERED_TEXTS[..IRREGULAR])
 }
 
-/// Returns whether one of the tags begins with the bytes.
-fn begin_any(bytes: &[u8], tags: &[GrandfatheredLangTag]) -> bool
-    ensures { result ≡ list_any (λ tag. are_alike bytes.now (take (length bytes.now) (text_of tag))) tags.now }
+/// Returns whether one of these strings begins with the bytes.
+fn begins_any(bytes: &[u8], texts: &[&str]) -> bool
+    ensures { result ≡ list_any (λ text. are_alike bytes.now (take (length bytes.now) text.now)) texts.now }
 {
-    tags.iter().any(|tag| begins(bytes, tag.as_bytes()))
+    texts.iter().any(|text| begins(bytes, text.as_bytes()))
 }
 
 /// Returns whether a string begins with the bytes, ignoring the case of letters.

@@ -2,7 +2,7 @@
 use Rattle.langtag_scan.proofs.Prelude.{◌≡◌, ◌↔◌, ℕ, ◌+◌, ◌<◌, ◌≤◌, ◌⊎◌, List, [], ◌∷◌, ◌++◌, length, take, slice_index, inl, inr, sym, subst, ◌∙◌, arith, append-nil, take-length, cases_lt, take-append-le, take_all, take_more, length_push, common_steps}
 use Rattle.langtag_scan.specs.Grammar.{NoHyphenWithin, IsTag, IsViable, IsViableLength, IsIrregularPrefix}
 use Rattle.langtag_scan.proofs.TagLaws.{prefixes_viable, viable_from_tag}
-use Rattle.langtag.specs.Refusal.{MayStand, IsRefusedEnd, EndsTooSoon, IsOpen}
+use Rattle.langtag_refusal.specs.Refusal.{MayStand, IsRefusedEnd, EndsTooSoon, IsOpen}
 
 -- the text up to the end of a subtag, and a hyphen
 hyphened : (t : List ℕ) (k : ℕ) → k ≤ length t → (k < length t → slice_index t k ≡ 45) → take (k + 1) (t ++ 45 ∷ []) ≡ take k t ++ 45 ∷ []

@@ -1,5 +1,5 @@
 use Rattle.std.proofs.Common.{◌≡◌, ◌==◌, ◌++◌, ℕ, false, List, [], ◌∷◌, length, sym, ◌∙◌}
-use Rattle.langtag.proofs.edit.replace.Goals as goal
+use Rattle.langtag_edit.proofs.replacement.replace.Goals as goal
 
 not_empty : (hyphen part : List ℕ) → (length part == 0) ≡ false → hyphen ++ part ≡ [] → ⊥
 not_empty [] [] other nothing = cc
