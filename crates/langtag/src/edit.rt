@@ -1,4 +1,4 @@
-//! Where the parts of a tag's string end after one of them is set.
+//! How a part of a tag's string is set, and where the parts of the new string end.
 #![tactic(auto, using(langtag_scan::proofs::SpelledTexts::offsets_kept))]
 
 ghost use Rattle.std.specs.Prelude.{◌≡◌, [], IfOk, OnOk, OnErr, IsOk, string_bytes};

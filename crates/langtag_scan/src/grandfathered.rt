@@ -1,7 +1,7 @@
 //! The texts of the grandfathered tags.
 
-/// The registered spellings of the grandfathered tags, in the order of RFC 5646 section 2.1. The first
-/// 17 are irregular: they do not follow the grammar of other tags (section 2.2.8).
+/// The registered spellings of the grandfathered tags, in the order of RFC 5646 section 2.1. The first 17 are
+/// irregular: they do not follow the grammar of other tags (section 2.2.8).
 pub const GRANDFATHERED_TEXTS: [&str; 26] = [
     "en-GB-oed",
     "i-ami",

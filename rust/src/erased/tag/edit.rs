@@ -1,6 +1,6 @@
 // Made by rust/erase from crates/langtag/src/edit.rt. Change that file, not this one.
 
-//! Where the parts of a tag's string end after one of them is set.
+//! How a part of a tag's string is set, and where the parts of the new string end.
 
 #[cfg(feature = "alloc")]
 use crate::erased::edit::replace;
