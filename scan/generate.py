@@ -1,5 +1,5 @@
 #!/usr/bin/env python3
-"""Writes the states of the recogniser (RFC 5646 section 2.1): the tables of the crate langtag_scan, and the page of definitions
+"""Writes the states of the recogniser (RFC 5646 section 2.1): the tables of the crate langtag_recogniser, and the page of definitions
 that says which state represents which position.
 
 usage: generate.py           writes them
@@ -14,7 +14,7 @@ import pathlib
 import sys
 from typing import NamedTuple
 
-CRATE = pathlib.Path(__file__).resolve().parent.parent / "crates" / "langtag_scan"
+CRATE = pathlib.Path(__file__).resolve().parent.parent / "crates" / "langtag_recogniser"
 
 # Section 2.2.8, in the order of section 2.1, in lowercase.
 IRREGULAR = ("en-gb-oed i-ami i-bnn i-default i-enochian i-hak i-klingon i-lux i-mingo i-navajo i-pwn i-tao i-tay i-tsu "

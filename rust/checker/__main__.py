@@ -93,8 +93,10 @@ class Checker:
 
 
 def faults_of_laws(path, ghosts):
-    """Yields a fault if a module of laws has more than functions that do nothing."""
+    """Yields a fault if a module of laws has more than imports and functions that do nothing."""
     words = without_ghosts(words_of(path.read_text(encoding="utf-8")), ghosts)
+    while words[:1] == ["use"]:
+        words = words[words.index(";") + 1 :]
     for at in range(0, len(words), 6):
         if words[at : at + 1] + words[at + 2 : at + 6] != ["fn", "(", ")", "{", "}"]:
             yield f"{path.parent.parent.name}/src/{path.name}: it has more than functions that do nothing"

@@ -6,6 +6,7 @@ from words import group_end, skip_to, starts, words_of
 
 CRATES = {
     "langtag_scan": "scan",
+    "langtag_recogniser": "recogniser",
     "langtag_case": "case",
     "langtag_tables": "tables",
     "langtag_output": "output",

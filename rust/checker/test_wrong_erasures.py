@@ -14,7 +14,7 @@ sys.path.insert(0, str(HERE))
 
 WRONG = {
     "a literal is another": ("erased/scan/class.rs", "bytes.len() == 4", "bytes.len() == 5"),
-    "an operator is turned": ("erased/scan/metered.rs", "self.reach = index + 1", "self.reach = index - 1"),
+    "an operator is turned": ("erased/recogniser/metered.rs", "self.reach = index + 1", "self.reach = index - 1"),
     "a comparison is turned": ("erased/tag/normal_lang_tag.rs", "if before == end {", "if before != end {"),
     "a condition is lost": ("erased/place/script.rs", "if !is_script(text.as_bytes()) {\n            return Err(InvalidScript(text));\n        }\n", ""),
     "a clause swallows the body": ("erased/tag/kind.rs", "matches!(self, Kind::Normal)", ""),
@@ -43,7 +43,7 @@ WRONG = {
     "a comment says otherwise": ("erased/place/script.rs", "/// Returns", "/// Never returns"),
     "a comment is lost": ("erased/tag/kind.rs", "    /// Returns", "    // Returns"),
     "a comment is added": ("erased/scan/class.rs", "#[inline]\n#[must_use]\npub fn is_script", "// Any four bytes.\n#[inline]\n#[must_use]\npub fn is_script"),
-    "a link leads elsewhere": ("erased/scan/recogniser.rs", "rfc5646#section-2.1", "rfc5646#section-2.2"),
+    "a link leads elsewhere": ("erased/recogniser/recogniser.rs", "rfc5646#section-2.1", "rfc5646#section-2.2"),
     "a comment in a comment hides code": ("erased/scan/class.rs", "#[inline]\n#[must_use]\npub fn is_script", "/* /* */\n#[inline]\n#[must_use]\npub fn is_script"),
     "a folder is added": ("extra/mod.rs", None, "pub fn script(text: &str) -> crate::Script<'_> {\n    crate::Script::from_checked(text)\n}\n"),
     "a folder is added to the C library": ("../c/src/extra/mod.rs", None, "pub fn extra() {}\n"),

@@ -11,6 +11,7 @@ class Module(NamedTuple):
 # Each crate comes after the crates on which it depends. Another Rust crate would get its own lines, with its own folders.
 MODULES = [
     Module("langtag_scan", "src/erased/scan", "crate::erased::scan"),
+    Module("langtag_recogniser", "src/erased/recogniser", "crate::erased::recogniser"),
     Module("langtag_case", "src/erased/case", "crate::erased::case"),
     Module("langtag_tables", "src/erased/tables", "crate::erased::tables"),
     Module("langtag_output", "src/erased/output", "crate::erased::output"),
@@ -50,8 +51,9 @@ PUBLIC = {"scan", "matching", "registry", "likely", "choice", "unicode"}
 # EXPORTED_BY, the other Rattle crate has them.
 SHOWN_IN = {"langtag_locale": "langtag_unicode", "langtag_posix": "langtag_likely", "langtag_parent": "langtag_likely"}
 EXPORTED_BY = {
-    "langtag_keyword": "langtag_unicode", "langtag_case": "langtag_scan", "langtag_header": "langtag_match", "langtag_fields": "langtag_registry",
-    "langtag_validity": "langtag_registry", "langtag_canonical": "langtag_registry", "langtag_cldr": "langtag_likely", "langtag_distance": "langtag_choice",
+    "langtag_keyword": "langtag_unicode", "langtag_case": "langtag_scan", "langtag_recogniser": "langtag_scan", "langtag_header": "langtag_match",
+    "langtag_fields": "langtag_registry", "langtag_validity": "langtag_registry", "langtag_canonical": "langtag_registry", "langtag_cldr": "langtag_likely",
+    "langtag_distance": "langtag_choice",
 }
 
 # The crates whose modules need the feature `data`, and those of the C library. In a module of another crate every function is inlined.

@@ -4,7 +4,6 @@ pub mod SingletonRepeats
 pub mod KeptFound
 pub mod RegisteredLaws
 pub mod OrderLaws
-pub mod FormLaws
 -- what the crates above cite with the others
 pub use Rattle.langtag_scan.proofs.TagLaws
 pub use Rattle.langtag_place.proofs.RepeatLaws

@@ -1,6 +1,6 @@
 -- The definitions of tags and of their parts, for the crates that use them. Declares nothing.
 pub use Rattle.langtag.specs.Edit.{with_script, with_region, with_language, with_variants, with_extensions, with_private_use, base_record, of_parts, SpellsPrivateUse, SetsPart, ComesBack, with_old_part, SetsScript, SetsVariants, SetsLanguage, SetsRegion, SetsExtensions, SetsPrivateUse}
-pub use Rattle.langtag.specs.Form.{IsForm, IsAlikeForm, IsOnlyForm}
+pub use Rattle.langtag_output.specs.Form.{IsForm, IsAlikeForm, IsOnlyForm}
 pub use Rattle.langtag.specs.Kinds.{AreOfOneKind}
 pub use Rattle.langtag.specs.Part.{PartOf}
 pub use Rattle.langtag.specs.Registered.{index_of, text_of, language_of}

@@ -3,7 +3,6 @@
 pub mod Compared
 pub mod Definitions
 pub mod Edit
-pub mod Form
 pub mod Kinds
 pub mod Lengths
 pub mod LooksUp
@@ -24,6 +23,7 @@ pub use Rattle.langtag_extension.specs.Text as ExtensionText
 pub use Rattle.langtag_language.specs.Compared as LanguageCompared
 pub use Rattle.langtag_language.specs.Language
 pub use Rattle.langtag_language.specs.Text as LanguageText
+pub use Rattle.langtag_output.specs.Form
 pub use Rattle.langtag_place.specs.Compared as PlaceCompared
 pub use Rattle.langtag_place.specs.Repeat
 pub use Rattle.langtag_place.specs.Text as PlaceText
@@ -38,7 +38,7 @@ pub use Rattle.langtag_scan.specs.CaseLaws
 pub use Rattle.langtag_scan.specs.Class
 pub use Rattle.langtag_scan.specs.Compare
 pub use Rattle.langtag_scan.specs.Ends
-pub use Rattle.langtag_scan.specs.Found
+pub use Rattle.langtag_recogniser.specs.Found
 pub use Rattle.langtag_scan.specs.Grandfathered
 pub use Rattle.langtag_scan.specs.Parts
 pub use Rattle.langtag_scan.specs.Record

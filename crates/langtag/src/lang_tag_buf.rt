@@ -2,7 +2,8 @@
 ghost use Rattle.std.specs.Prelude.{◌≡◌, ◌↔◌, ℕ, List, [], Some, IsTrue, IsNone, IsOk, IsErrOf, IfOk, IfErr, OnOk, OnErr, is_ok, option_map, string_bytes};
 ghost use Rattle.langtag_scan.specs.Prelude.{string_vec, SameBlock};
 ghost use Rattle.langtag_case.specs.RecommendedCase.{recommended_record, recommended_text};
-ghost use Rattle.langtag_scan.specs.Grammar.{IsSpelledAlike, Alike, IsFoundOf, EachRecord, spell, IsNormal, IsTag};
+ghost use Rattle.langtag_scan.specs.Grammar.{IsSpelledAlike, Alike, EachRecord, spell, IsNormal, IsTag};
+ghost use Rattle.langtag_recogniser.specs.Definitions.{IsFoundOf};
 ghost use Rattle.langtag_language.specs.Text.{language_text};
 ghost use Rattle.langtag_place.specs.Text.{script_text, region_text, variants_text};
 ghost use Rattle.langtag_extension.specs.Text.{extensions_text};

@@ -78,12 +78,12 @@ pub use langtag_private::{
     InvalidPrivateUse, InvalidPrivateUseSubtag, PrivateUse, PrivateUseBuf, PrivateUseIter,
     PrivateUseSubtag, PrivateUseSubtagBuf,
 };
+pub use langtag_recogniser::{ByteSource, Found, Metered, recognise, recognise_normal, viable_len};
 pub use langtag_refusal::{Refusal, RefusalKind};
 pub use langtag_scan::{
-    ByteSource, Ends, Found, Metered, Subtags, case_insensitive_cmp, case_insensitive_eq,
-    case_insensitive_hash, into_smallcase, is_extended, is_extension_subtag, is_mark, is_primary,
-    is_private_subtag, is_region, is_script, is_singleton, is_variant, recognise, recognise_normal,
-    segment_end, segment_start, viable_len,
+    Ends, Subtags, case_insensitive_cmp, case_insensitive_eq, case_insensitive_hash,
+    into_smallcase, is_extended, is_extension_subtag, is_mark, is_primary, is_private_subtag,
+    is_region, is_script, is_singleton, is_variant, segment_end, segment_start,
 };
 pub use normal_lang_tag::{InvalidNormalLangTag, NormalLangTag};
 pub use normal_lang_tag_buf::NormalLangTagBuf;

@@ -2,7 +2,7 @@
 use Rattle.langtag_scan.proofs.Prelude.{arith, ◌≡◌, ◌∙◌, ℕ, Option, Some, List, [], ◌++◌, slice_get, ap, append_assoc, append-nil, subst, codes}
 use Rattle.langtag_scan.specs.Grammar.{EachRecord, IsTag, IsNormal}
 use Rattle.std.specs.Io.KnownBytes.{Appends}
-use Rattle.langtag_scan.proofs.Laws.{normal_no_private, normal_no_irregular, tag_private, tag_of_irregular}
+use Rattle.langtag_scan.proofs.TextLaws.{normal_no_private, normal_no_irregular, tag_private, tag_of_irregular}
 use Rattle.langtag_lines.specs.Lines.{ended}
 use Rattle.langtag_canonical.specs.Canonical.{IsCanonicalForm}
 use Rattle.langtag_validity.specs.Fault.{Told, faults}

@@ -1,9 +1,10 @@
 -- The ends that are kept of what was found of a normal tag are its ends.
 use Rattle.langtag_scan.proofs.Prelude.{arith, ◌≡◌, ℕ, List, MatchOption}
-use Rattle.langtag_scan.specs.Grammar.{HasEnds, IsFoundOf, normal_ends, IsTag, IsNormal, IsIrregular}
+use Rattle.langtag_scan.specs.Grammar.{HasEnds, IsTag, IsNormal, IsIrregular}
+use Rattle.langtag_recogniser.specs.Definitions.{IsFoundOf, normal_ends}
 use Rattle.langtag_scan.specs.declared.ends.Ends.{Ends}
-use Rattle.langtag_scan.specs.declared.finding.Finding.{Finding}
-use Rattle.langtag_scan.proofs.Laws.{tag_normal, normal_no_private, normal_no_irregular}
+use Rattle.langtag_recogniser.specs.declared.finding.Finding.{Finding}
+use Rattle.langtag_scan.proofs.TextLaws.{tag_normal, normal_no_private, normal_no_irregular}
 
 pub ends_kept :
     (text : List ℕ) (found : Finding) (same : Type 0) (left : Ends) → IsFoundOf text found →

@@ -1,9 +1,10 @@
 //! The recogniser over bytes, and over a string.
 ghost use Rattle.std.specs.Prelude.{◌≡◌, ◌↔◌, IsTrue, MatchOption};
-ghost use Rattle.langtag_scan.specs.Grammar.{HasEnds, finding, normal_ends, IsTag, IsNormal};
+ghost use Rattle.langtag_scan.specs.Grammar.{HasEnds, IsTag, IsNormal};
+ghost use Rattle.langtag_recogniser.specs.Definitions.{finding, normal_ends};
 ghost use Rattle.langtag_bench.specs.PartEnds.{ends_left};
 
-use langtag_scan::{Found, Metered, recognise};
+use langtag_recogniser::{Found, Metered, recognise};
 
 /// The ends of the parts of a normal tag, in bytes from its start, as `langtag_scan::Ends` has them.
 #[repr(C)]
@@ -17,7 +18,7 @@ pub struct PartEnds {
 }
 
 /// Returns whether the bytes are a tag. If the tag is normal, it writes the ends of its parts.
-#[tactic(auto, using(langtag_scan::proofs::FoundLaws::tag_found, crate::proofs::TagBytes::utf8_tag, crate::proofs::KeptEnds::ends_kept, crate::proofs::KeptEnds::no_ends))]
+#[tactic(auto, using(langtag_recogniser::proofs::FoundLaws::tag_found, crate::proofs::TagBytes::utf8_tag, crate::proofs::KeptEnds::ends_kept, crate::proofs::KeptEnds::no_ends))]
 #[unsafe(no_mangle)]
 pub extern "C" fn langtag_bench_recognise(bytes: &[u8], ends: &mut PartEnds) -> bool
     ensures tag { IsTrue result ↔ IsTag bytes.now }
@@ -33,7 +34,7 @@ pub extern "C" fn langtag_bench_recognise(bytes: &[u8], ends: &mut PartEnds) -> 
 }
 
 /// Does the same as [`langtag_bench_recognise`], but first checks that the bytes are UTF-8.
-#[tactic(auto, using(langtag_scan::proofs::FoundLaws::tag_found, crate::proofs::TagBytes::utf8_tag, crate::proofs::KeptEnds::ends_kept, crate::proofs::KeptEnds::no_ends))]
+#[tactic(auto, using(langtag_recogniser::proofs::FoundLaws::tag_found, crate::proofs::TagBytes::utf8_tag, crate::proofs::KeptEnds::ends_kept, crate::proofs::KeptEnds::no_ends))]
 #[unsafe(no_mangle)]
 pub extern "C" fn langtag_bench_recognise_text(bytes: &[u8], ends: &mut PartEnds) -> bool
     ensures tag { IsTrue result ↔ IsTag bytes.now }

@@ -1,8 +1,8 @@
 -- What is written for a caller: it is not empty where a text is due, and what is cut out of a text is UTF-8.
 use Rattle.langtag_scan.proofs.Prelude.{◌≡◌, ℕ, ◌+◌, ◌≤◌, true, List, [], ◌∷◌, leb, length, Option, None, refl, arith, ◌↔◌, Some, unwrap_or, sym, subst, ◌∙◌, inl, and_parts, false≢true, false_from_ne_true, IsUtf8-from_ascii, IsAscii-nil, IsAscii-cons, AllByRecursion, nat_tests, IsUtf8, IfSome, MatchOption}
-use Rattle.langtag.specs.Form.{IsForm}
+use Rattle.langtag_output.specs.Form.{IsForm}
 use Rattle.langtag_output.specs.Writes.{Writes}
-use Rattle.langtag_scan.proofs.Laws.{alphanumeric_below, IsAscii-each, length-join, IsSubtag, of_extension_subtag, of_primary, of_region, join-subtags}
+use Rattle.langtag_scan.proofs.TextLaws.{alphanumeric_below, IsAscii-each, length-join, IsSubtag, of_extension_subtag, of_primary, of_region, join-subtags}
 use Rattle.langtag_scan.specs.Grammar.{is_alphanumeric, is_extension_subtag, is_letter, is_primary, is_region, subtags, IsNormal, IsTag}
 use Rattle.langtag_keyword.specs.Edit.{edited_record, invalid_type, invalid_type_from, is_unicode_key, keyword_error}
 use Rattle.langtag_span.proofs.TagLengths.{IsUtf8-joined, some_tag}
@@ -11,7 +11,7 @@ use Rattle.langtag_canonical.specs.Canonical.{IsCanonicalForm}
 use Rattle.langtag_likely.proofs.Definitions.{IsMaximalForm, IsMinimalForm, maximal_record, minimal_record}
 use Rattle.langtag_posix.proofs.Definitions.{read_place, IsTagOfName, NamesTag, with_said, IsPosixName}
 use Rattle.langtag_range.specs.Locale.{locale_place}
-use Rattle.langtag.proofs.FormLaws.{form_is_tag}
+use Rattle.langtag_output.proofs.FormLaws.{form_is_tag}
 use Rattle.langtag_likely.proofs.GoodForms.{maximal_well_formed, minimal_well_formed}
 use Rattle.langtag_posix.proofs.PosixLaws.{said_well_formed}
 use Rattle.langtag_posix.proofs.PosixNameRead.{one_name, some_name}

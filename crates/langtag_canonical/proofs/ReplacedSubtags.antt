@@ -1,7 +1,7 @@
 -- What a subtag, a language or a whole tag becomes in a canonical form: one of its class, which is replaced by nothing more.
 use Rattle.langtag_scan.proofs.Prelude.{common_steps, ◌≡◌, ◌↔◌, ℕ, true, false, Bool, List, [], ◌∷◌, None, Some, refl, sym, ap, arith, ◌≤◌, not, leb, length, map, find, Option, is_some, IfSome, option_map, unwrap_or, ◌⊎◌, list_all, list_any, AllByRecursion, bytes_eq, bytes_decides, and_parts, leb-true, nat_tests}
 use Rattle.langtag_scan.specs.Grammar.{fold_byte, fold_text, are_alike, Alike, are_alike-decides, is_primary, is_letter, is_extended, join}
-use Rattle.langtag_scan.proofs.Laws.{of_primary}
+use Rattle.langtag_scan.proofs.TextLaws.{of_primary}
 use Rattle.langtag_fields.specs.Fields.{preferred_language, preferred_region, preferred_variant}
 use Rattle.langtag_fields.specs.Registered.{is_registered_extlang}
 use Rattle.langtag_fields.specs.Subtags.{extlang_subtags, language_preferred, region_preferred, variant_preferred}

@@ -4,7 +4,7 @@ use Prim.Native.Nat.{zero, suc}
 use Rattle.std.proofs.lemmas.Str.Ascii.{IsAscii-map}
 use Rattle.std.proofs.Math.ListN.{get_or-map}
 use Rattle.langtag_scan.specs.Grammar.{fold_byte, fold_text, Alike, is_single, is_digit, are_letters, are_digits, is_primary, is_extended, is_script, is_region, is_variant, is_hyphen, IsHyphenFree, join, segments, fold_extension, fold_private_use, EachRecord, Extension, PrivateUse, Record, IsWellFormed, extension_flat, one_flat, private_part_flat, spell}
-use Rattle.langtag_scan.proofs.Laws.{hyphen-fold, length-fold, segments-fold, join-fold, fold_text-twice, extensions-fold, private_part-fold, segments-join, segments-hyphen_free, spelled_segments}
+use Rattle.langtag_scan.proofs.TextLaws.{hyphen-fold, length-fold, segments-fold, join-fold, fold_text-twice, extensions-fold, private_part-fold, segments-join, segments-hyphen_free, spelled_segments}
 use Rattle.langtag_case.specs.Walk.{later}
 use Rattle.langtag_case.specs.RecommendedCase.{title_text, by_length, recommended_subtag, recommended_after, recommended_text, capital_text, recommended_record}
 use Rattle.langtag_scan.proofs.BoolFacts.{between_true}

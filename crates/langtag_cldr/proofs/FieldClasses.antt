@@ -7,7 +7,7 @@ use Rattle.langtag_tables.specs.FieldClasses.{is_language_field, is_script_field
 use Rattle.langtag_tables.specs.Fields.{Fields}
 use Rattle.langtag_cldr.specs.Definitions.{known, first_index}
 use Rattle.langtag_cldr.proofs.TableRows.{are_plain}
-use Rattle.langtag_scan.proofs.Laws.{script_four, region_two_three, of_primary, of_script, of_region, folded_number-tells}
+use Rattle.langtag_scan.proofs.TextLaws.{script_four, region_two_three, of_primary, of_script, of_region, folded_number-tells}
 use Rattle.langtag_tables.proofs.FieldClasses.{from_primary}
 use Rattle.langtag_cldr.specs.RightToLeft.{right_to_left_scripts}
 use Rattle.langtag_cldr.specs.declared.tables.TheConstants.{RIGHT_TO_LEFT_KEYS}

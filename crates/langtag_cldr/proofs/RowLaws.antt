@@ -9,7 +9,7 @@ use Rattle.langtag_tables.specs.Fields.{Fields}
 use Rattle.langtag_cldr.specs.Numbers.{name_text}
 use Rattle.langtag_cldr.specs.Rows.{of_language, places_of, places_for, no_row}
 use Rattle.langtag_cldr.proofs.TableRows.{are_plain, is_numbered, key_number-tells, found_by_number, likely_for-append, is_alone, long_nowhere, alone_nowhere, other_nowhere, rows_listed, is_short as is_short_row, are_good, has_bit}
-use Rattle.langtag_scan.proofs.Laws.{IsAscii-each, alphanumeric_below, folded_number-tells}
+use Rattle.langtag_scan.proofs.TextLaws.{IsAscii-each, alphanumeric_below, folded_number-tells}
 use Rattle.langtag_cldr.specs.declared.alias_tables.TheConstants as table
 use Rattle.langtag_cldr.specs.declared.alias_tables.TheConstants.{ALIAS_LANGUAGES, ALIAS_SCRIPT_NAMES, ALIAS_SCRIPTS, ALIAS_REGION_NAMES, ALIAS_REGIONS, REGION_ALIAS_NAMES}
 

@@ -3,7 +3,7 @@ use Rattle.langtag_keyword.proofs.Common.{common_steps, flat_map-append, ◌≡�
 use Rattle.langtag_scan.proofs.Prelude.{leb, leb-true, Bor}
 use Rattle.langtag_keyword.specs.Edit.{invalid_type, invalid_type_from, belongs, edited_record, is_place_of_u}
 use Rattle.langtag_output.specs.Output.{with_subtag}
-use Rattle.langtag_scan.proofs.Laws.{take-join}
+use Rattle.langtag_scan.proofs.TextLaws.{take-join}
 use Rattle.langtag_keyword.specs.Form.{extensions_record, is_language_id}
 
 -- no subtag is a key

@@ -1,7 +1,7 @@
 -- The maximal and the minimal record of a well-formed one are well-formed, and not much longer; the laws of both forms, over texts.
 use Rattle.langtag_scan.proofs.Prelude.{◌≡◌, ℕ, ◌≤◌, true, Bool, cond, List, [], ◌∷◌, length, Option, Some, option_map, IfSome, IsTrue, refl, arith, rules, codes, ◌+◌, length-append, sym, ap, ◌∙◌, and_parts, list_all, AllByRecursion, option_map_or, nat_tests}
 use Rattle.langtag_scan.specs.Grammar.{is_primary, is_extended, is_script, is_region, Record, IsWellFormed, one_flat, spell, IsNormal}
-use Rattle.langtag_scan.proofs.Laws.{script_four, region_short, hyphenated, length-spell, of_primary, spelled_once}
+use Rattle.langtag_scan.proofs.TextLaws.{script_four, region_short, hyphenated, length-spell, of_primary, spelled_once}
 use Rattle.langtag_tables.specs.FieldClasses.{is_language_field, is_script_field, is_region_field}
 use Rattle.langtag_tables.specs.Fields.{Fields}
 use Rattle.langtag.specs.Definitions.{IsForm, IsAlikeForm}
@@ -12,7 +12,7 @@ use Rattle.langtag_cldr.proofs.FieldClasses.{from_extended, known_good}
 use Rattle.langtag_cldr.proofs.TableRows.{are_good, rows_listed}
 use Rattle.langtag_tables.proofs.FieldClasses.{from_primary}
 use Rattle.langtag_likely.specs.MaximalLaws.{UndoesMinimal, UndoesMaximal, TellsAsMaximal, KeepsOthers}
-use Rattle.langtag.proofs.FormLaws.{alike_forms, composed, some_form, undone}
+use Rattle.langtag_output.proofs.FormLaws.{alike_forms, composed, some_form, undone}
 use Rattle.langtag_likely.proofs.FormsTwice.{maximal-twice, minimal-twice, minimal-of_maximal, maximal-of_minimal, maximal-alike, minimal-alike}
 
 -- ---- the fields

@@ -11,7 +11,7 @@ use Rattle.langtag_locale.specs.LocaleForm.{extension_at, locale_extension_form,
 use Rattle.langtag_locale.specs.LocaleForm.{new_variants, record_fields, transform_language_form}
 use Rattle.langtag_case.proofs.RecommendedLaws.{recommended_alike}
 use Rattle.langtag_cldr.specs.Matching.{language_replaced}
-use Rattle.langtag_scan.proofs.Laws.{alike_tag, region_two_three, script_four, variant_long, of_region, of_script}
+use Rattle.langtag_scan.proofs.TextLaws.{alike_tag, region_two_three, script_four, variant_long, of_region, of_script}
 use Rattle.langtag_tables.proofs.Letters.{primary_length}
 use Rattle.langtag_keyword.specs.Identifier.{identifier_flat}
 use Rattle.langtag_keyword.proofs.ExtensionsPut.{AreLeft, left-opens}

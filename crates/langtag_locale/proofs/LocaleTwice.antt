@@ -5,7 +5,7 @@ use Rattle.langtag.specs.Repeat.{are_alike_bytes, repeat}
 use Rattle.langtag_tables.specs.Fields.{Fields, subtag_of}
 use Rattle.langtag.specs.Definitions.{singletons}
 use Rattle.langtag_cldr.specs.Matching.{language_replaced}
-use Rattle.langtag_scan.proofs.Laws.{test_from_each, alike_parts}
+use Rattle.langtag_scan.proofs.TextLaws.{test_from_each, alike_parts}
 use Rattle.langtag_scan.specs.Case.{fold_byte}
 use Rattle.langtag_locale.specs.Locale.{is_unicode_subtag, is_locale_extension, is_locale_record, IsLocale}
 use Rattle.langtag_locale.specs.LocaleForm.{extension_at, extensions_in_order, forms, locale_extension_form, new_variants, identifier_form, locale_record}

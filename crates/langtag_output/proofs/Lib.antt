@@ -1,3 +1,4 @@
 pub mod Taken
 pub mod WithSubtag
 pub mod Pushed
+pub mod FormLaws

@@ -1,7 +1,7 @@
 -- Subtags that are put into an output, after a text.
 use Rattle.langtag_scan.proofs.Prelude.{◌≡◌, ℕ, ◌≤◌, List, [], ◌∷◌, ◌++◌, length, fold, Option, Some, None, sym, ap, subst, arith, append_assoc, append-nil, length-append, flat_map, fold-append, common_steps, option_map}
 use Rattle.langtag_scan.specs.Grammar.{PrivateUse, Record, IsWellFormed, extension_flat, private_use_flat, private_part_flat, one_flat, flat, spell, join}
-use Rattle.langtag_scan.proofs.Laws.{hyphenated, join-hyphenated, of_primary}
+use Rattle.langtag_scan.proofs.TextLaws.{hyphenated, join-hyphenated, of_primary}
 use Rattle.langtag_output.specs.declared.output.Output.{Output}
 use Rattle.langtag_output.specs.Output.{HasText, Pushes, with_subtag}
 use Rattle.langtag_output.proofs.WithSubtag.{with_subtag-some}

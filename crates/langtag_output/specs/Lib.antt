@@ -1,3 +1,4 @@
+pub mod Form
 pub mod Output
 pub mod Writes
 pub mod WritesWhole

@@ -2,7 +2,7 @@
 use Rattle.langtag_scan.proofs.Prelude.{◌≡◌, ℕ, Bool, true, false, ◌==◌, is_none, flat_map, suc, ◌+◌, ◌-◌, List, [], ◌∷◌, ◌++◌, length, take, take_at, Option, None, Some, append_assoc, append-nil, length-append, ap, sym, ◌∙◌, arith, subst, inl, slice_get, zero, refl, AllByRecursion, and_parts, nat_tests, common_steps}
 use Rattle.langtag_scan.specs.Grammar.{HasEnds, ends_of, to_variants, language_part, variants_part, EachRecord, Record, IsWellFormed, Spells, extension_flat, one_flat, private_part_flat, spell, join, IsNormal, IsTag}
 use Rattle.langtag_scan.specs.declared.ends.Ends.{Ends}
-use Rattle.langtag_scan.proofs.Laws.{hyphenated, join-append, length-join-append, ends_had}
+use Rattle.langtag_scan.proofs.TextLaws.{hyphenated, join-append, length-join-append, ends_had}
 use Rattle.langtag.specs.Definitions.{EachLanguageSpelling, SpellsVariants, with_region, with_script}
 use Rattle.langtag_parent.specs.Parent.{IsParent, is_base, is_empty, is_likely_script, likely_of, other_script, parent_of, parent_of_region, parent_of_script, plain_parent, unless_alike, usual_parent, without_last_variant}
 use Rattle.langtag_parent.specs.Plain.{IsLonger, IsPlain}

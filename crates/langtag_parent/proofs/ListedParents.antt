@@ -1,7 +1,7 @@
 -- CLDR's rows, by computation: a parent is written in the script of its tag.
 use Rattle.langtag_scan.proofs.Prelude.{◌≡◌, ℕ, ◌<◌, true, false, Bool, List, [], ◌∷◌, length, map, codes, Option, None, Some, refl, sym, ap, ◌∙◌, subst, arith, ◌&&◌, ◌||◌, not, option_map, unwrap_or, list_all, list_any, option_map_or, bytes_eq, bytes_decides, and_parts}
 use Rattle.langtag_scan.specs.Grammar.{AlikeRecords, fold_record, Alike, are_alike, fold_byte, fold_text, are_alike-decides, is_letter, is_digit, is_primary, is_script, is_region, Record, Spells, IsTag}
-use Rattle.langtag_scan.proofs.Laws.{alike_parts, length-fold, spelled_once}
+use Rattle.langtag_scan.proofs.TextLaws.{alike_parts, length-fold, spelled_once}
 use Rattle.langtag_tables.specs.Fields.{Fields}
 use Rattle.langtag_tables.proofs.Alike.{AlikeFields, alike_is}
 use Rattle.langtag_cldr.specs.Definitions.{Likely, likely_for, language_rows, other_rows, likely_subtags}

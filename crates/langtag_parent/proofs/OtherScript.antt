@@ -4,7 +4,7 @@ use Rattle.langtag_scan.specs.Grammar.{are_alike, fold_byte, Alike, fold_text, i
 use Rattle.langtag_cldr.proofs.AddedTwice.{found_row}
 use Rattle.langtag_parent.specs.ParentLocales.{parent_locales}
 use Rattle.langtag_parent.specs.declared.tables.TheConstants.{PARENT_LOCALES, SCRIPTED_LANGUAGES}
-use Rattle.langtag_scan.proofs.Laws.{length-fold, script_four}
+use Rattle.langtag_scan.proofs.TextLaws.{length-fold, script_four}
 use Rattle.langtag_tables.specs.Fields.{Fields}
 use Rattle.langtag.specs.Definitions.{EachLanguageSpelling, IsLanguage, SpellsLanguage}
 use Rattle.langtag_tables.proofs.Letters.{primary_length}

@@ -2,7 +2,7 @@
 -- the tag, or is one of a few texts whose chains are short.
 use Rattle.langtag_scan.proofs.Prelude.{◌≡◌, ℕ, ◌+◌, ◌-◌, ◌<◌, ◌⊎◌, inl, inr, true, false, List, [], ◌∷◌, ◌++◌, length, take, drop, find, is_none, Option, None, Some, IsTrue, refl, sym, ap, ◌∙◌, subst, arith, ◌&&◌, option_map, length-append, append-nil, zero, suc, ◌≤◌, Bool, ◌||◌, not, IfSome, MatchOption, flat_map, list_any, list_all, bytes_eq, and_parts, common_steps, length-take, take-append-drop, option_map_or, bytes_decides}
 use Rattle.langtag_scan.specs.Grammar.{Alike, are_alike, fold_byte, are_alike-decides, is_region, is_script, is_letter, is_digit, is_primary, EachRecord, Extension, IsWellFormed, PrivateUse, Record, Spells, extension_flat, flat, one_flat, private_part_flat, spell, IsNormal, subtags}
-use Rattle.langtag_scan.proofs.Laws.{alike_primary, script_four, normal_or_not, spelled_once, subtags-spelled}
+use Rattle.langtag_scan.proofs.TextLaws.{alike_primary, script_four, normal_or_not, spelled_once, subtags-spelled}
 use Rattle.langtag_tables.proofs.Letters.{primary_length}
 use Rattle.langtag_tables.specs.Fields.{Fields}
 use Rattle.langtag.specs.Definitions.{base_record, with_region, with_script}

@@ -1,7 +1,7 @@
 -- The text of a name, and that it is read as it stands: neither Android nor .NET writes a tag so.
 use Rattle.langtag_scan.proofs.Prelude.{◌≡◌, ℕ, ◌≤◌, not, true, false, Bool, cond, suc, List, [], ◌∷◌, ◌++◌, length, IfSome, refl, sym, ap, ◌∙◌, arith, flat_map, append_assoc, append-nil, unwrap_or, ◌<◌, ◌==◌, inl, inr, None, subst, ◌⊎◌, codes, length-append, AllByRecursion, after_first, before_first, list_any, and_parts, or_parts, false_from_ne_true, nat_tests, map-append, list_any-append, take_while-cons}
 use Rattle.langtag_scan.specs.Grammar.{Alike, fold_byte, are_alike, are_alphanumeric, is_alphanumeric, is_digit, is_letter, is_region, is_script, Record, extension_flat, one_flat, private_part_flat, spell, join, is_hyphen, are_alike-decides}
-use Rattle.langtag_scan.proofs.Laws.{drop-join, hyphenated, hyphenated-append, join-hyphenated, alike_region, region_short, script_four, of_region}
+use Rattle.langtag_scan.proofs.TextLaws.{drop-join, hyphenated, hyphenated-append, join-hyphenated, alike_region, region_short, script_four, of_region}
 use Rattle.langtag_range.specs.Wanted.{hyphened, hyphened_byte}
 use Rattle.langtag_posix.proofs.Definitions.{is_empty, is_script_code, after_variants, marked, is_plus, marked_region, platform_behind, platform_read, read_place, region_now}
 use Rattle.langtag_tables.proofs.Alike.{alike_is, alike_length}

@@ -1,7 +1,7 @@
 -- `from_posix` reads the name of a tag as the tag.
 use Rattle.langtag_scan.proofs.Prelude.{◌≡◌, ℕ, ◌+◌, ◌≤◌, not, true, false, Bool, cond, List, [], ◌∷◌, ◌++◌, length, Option, None, Some, IfSome, IsTrue, IsAscii, IsUtf8, ◌<◌, refl, sym, ap, subst, inl, inr, ◌∙◌, ◌⊎◌, arith, codes, find, flat_map, append_assoc, append-nil, length-append, option_map, unwrap_or, Bor, ◌&&◌, leb, AllByRecursion, after_first, before_first, list_all, list_any, option_and_then, and_parts, false_from_ne_true, leb-true, or_right, common_steps, nat_tests, list_any-append, IsAscii-append, IsUtf8-from_ascii, IsAscii-cons, IsAscii-nil, lowercase-uppercase}
 use Rattle.langtag_scan.specs.Grammar.{Alike, are_alike, fold_byte, fold_text, are_alike-decides, are_alphanumeric, are_letters, is_alphanumeric, is_digit, is_letter, is_region, is_script, is_variant, language_part, variants_part, Extension, IsWellFormed, Record, extension_flat, one_flat, spell, is_hyphen, join, IsNormal, IsTag}
-use Rattle.langtag_scan.proofs.Laws.{alike_primary, alike_region, fold_text-twice, hyphen-fold, length-fold, extended_three, region_short, hyphenated, length-join, IsAscii-each, alphanumeric_below, normal_or_not, letters_alphanumeric, of_primary, of_region, of_script, of_variant}
+use Rattle.langtag_scan.proofs.TextLaws.{alike_primary, alike_region, fold_text-twice, hyphen-fold, length-fold, extended_three, region_short, hyphenated, length-join, IsAscii-each, alphanumeric_below, normal_or_not, letters_alphanumeric, of_primary, of_region, of_script, of_variant}
 use Rattle.langtag_case.specs.RecommendedCase.{capital_text}
 use Rattle.langtag_tables.specs.Fields.{Fields}
 use Rattle.langtag.specs.Definitions.{with_script}

@@ -170,7 +170,7 @@ fn tag_with_script<'a>(
 }
 
 /// Writes a tag with its variants replaced by the given variant.
-#[tactic(auto, using(langtag::proofs::FormLaws::kept_written, crate::proofs::PosixLaws::is_variants))]
+#[tactic(auto, using(langtag_output::proofs::FormLaws::kept_written, crate::proofs::PosixLaws::is_variants))]
 fn write_with_variant(tag: LangTag<'_>, variant: Option<&'static str>, buffer: &mut [u8]) -> usize
     requires { IfSome variant (λ variant. IsTrue (is_variant variant.now)) }
     ensures { Writes (IsForm (with_said_variant (option_map (λ variant. variant.now) variant.entry)) (lang_tag_text tag.entry)) buffer.old buffer.new result }

@@ -2,7 +2,7 @@
 use Rattle.langtag_scan.proofs.Prelude.{◌≡◌, Bool, true, ℕ, List, [], ◌∷◌, refl, arith, ◌∙◌, ◌<◌, false, eqb, ◌||◌, ◌≤◌, not, ◌++◌, length, inl, inr, list_all, before_first, list_any, AllByRecursion, and_parts, or_cases, or_right, bytes_eq-Decides, common_steps, nat_tests, IsUtf8-from_ascii, All-from_recursion, filter, IsAscii, IsUtf8}
 use Rattle.langtag_scan.specs.Grammar.{subtags, segments, IsHyphenFree, join, is_letter, is_digit, is_alphanumeric, is_private_subtag, has_length, are_alphanumeric, Alike, fold_text}
 use Rattle.langtag_range.specs.Definitions.{is_star, is_language_range, are_basic_range, is_basic_range, is_range_subtag, are_extended_range, is_first_subtag, are_basic_subtags, are_range_subtags, ends_locale, is_hash, locale_place, hyphened, hyphened_byte, basic_text, basic_form, begins_with_wildcard}
-use Rattle.langtag_scan.proofs.Laws.{IsAscii-each, hyphenated, join-hyphenated, length-join, no_hyphen_each, of_private_subtag, join-subtags, segments-join, subtags-segments}
+use Rattle.langtag_scan.proofs.TextLaws.{IsAscii-each, hyphenated, join-hyphenated, length-join, no_hyphen_each, of_private_subtag, join-subtags, segments-join, subtags-segments}
 use Rattle.langtag_range.proofs.WantedTexts.{extended_parts, first_in_range}
 use Rattle.langtag_range.proofs.AlikeTexts.{hyphened-fold, mark-fold}
 use Rattle.langtag_range.proofs.Among.{basic_form-byte}

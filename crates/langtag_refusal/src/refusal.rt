@@ -6,10 +6,8 @@ ghost use Rattle.langtag_refusal.specs.declared.refusal.Refusal.{Refusal};
 ghost use Rattle.langtag_refusal.specs.declared.refusal.RefusalKind.{RefusalKind};
 ghost use Rattle.langtag_refusal.specs.declared.refusal.RefusalKind.TheVariants as kind;
 
-use langtag_scan::{
-    GRANDFATHERED_TEXTS, Metered, case_insensitive_eq, recognise, segment_end, segment_start,
-    viable_len_with_hyphen,
-};
+use langtag_recogniser::{GRANDFATHERED_TEXTS, Metered, recognise, viable_len_with_hyphen};
+use langtag_scan::{case_insensitive_eq, segment_end, segment_start};
 
 /// The reason why bytes are not a tag (RFC 5646 section 2.1).
 ///
@@ -107,7 +105,7 @@ impl Refusal {
 }
 
 /// Returns whether the bytes are a tag.
-#[tactic(auto, using(langtag_scan::proofs::FoundLaws::tag_found))]
+#[tactic(auto, using(langtag_recogniser::proofs::FoundLaws::tag_found))]
 fn is_tag(bytes: &[u8]) -> bool
     ensures { IsTrue result ↔ IsTag bytes.now }
 {

@@ -2,7 +2,7 @@
 use Rattle.langtag_keyword.proofs.Common.{◌≡◌, ℕ, ◌≤◌, List, [], ◌∷◌, length, arith, Option, None, Some, unwrap_or, refl, nat_tests, extension_flat, length-join, of_primary, IsSubtag, of_variant, AllByRecursion, flat_map, IsUtf8, common_steps, is_extended, is_variant, join, each_subtag, option_map}
 use Rattle.langtag_scan.proofs.Prelude.{MatchOption, IsUtf8-from_ascii}
 use Rattle.langtag_scan.specs.Grammar.{grandfathered_tags, irregular_texts, IsNormal, IsTag}
-use Rattle.langtag_scan.proofs.Laws.{of_extended, of_region, of_script, IsAscii-private, IsAscii-spelled, tag_private}
+use Rattle.langtag_scan.proofs.TextLaws.{of_extended, of_region, of_script, IsAscii-private, IsAscii-spelled, tag_private}
 use Rattle.langtag_private.proofs.Rules.{is_private_use-from_rule, IsPrivate-from_test}
 use Rattle.langtag_scan.proofs.IrregularTexts.{alike_some}
 use Rattle.langtag_extension.proofs.Rules.{all_subtags-flat}

@@ -5,7 +5,7 @@ use Rattle.langtag_scan.specs.Grammar.{IsTag}
 use Rattle.langtag_header.specs.AcceptLanguage.{StandsAt}
 use Rattle.langtag_range.specs.Definitions.{is_comma, items, listed}
 use Rattle.std.proofs.lemmas.Bool.{or_left}
-use Rattle.langtag_scan.proofs.Laws.{normal_from_runs, runs_from_normal, tag_normal, tag_private, tag_of_irregular}
+use Rattle.langtag_scan.proofs.TextLaws.{normal_from_runs, runs_from_normal, tag_normal, tag_private, tag_of_irregular}
 use Rattle.langtag_private.proofs.Rules.{IsPrivate-from_test, is_private_use-from_rule}
 use Rattle.langtag_span.specs.Spanned.{AreTagsAt, HasTag, IsTagAt, range_at, ranges_at}
 use Rattle.langtag_span.specs.Spans.{HasBytes, empty_at, end_of, has_bytes, span_text}

@@ -42,6 +42,8 @@ pub mod posix;
 pub mod private;
 #[path = "../../src/erased/range/mod.rs"]
 pub mod range;
+#[path = "../../src/erased/recogniser/mod.rs"]
+pub mod recogniser;
 #[path = "../../src/erased/refusal/mod.rs"]
 pub mod refusal;
 #[path = "../../src/erased/registry/mod.rs"]

@@ -32,6 +32,7 @@ pub mod place;
 pub mod posix;
 pub mod private;
 pub mod range;
+pub mod recogniser;
 pub mod refusal;
 #[cfg(feature = "data")]
 pub mod registry;

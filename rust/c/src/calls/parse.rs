@@ -2,7 +2,8 @@
 
 //! Whether bytes are a tag, of which kind, and where its parts are.
 
-use crate::erased::scan::{recognise, Ends, Found, Metered};
+use crate::erased::recogniser::{recognise, Found, Metered};
+use crate::erased::scan::Ends;
 use crate::spans::Span;
 
 /// Where each part of a tag is, for example in "zh-yue-Hant-HK-rozaj-1994-u-co-pinyin-x-mine":

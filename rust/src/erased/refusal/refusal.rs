@@ -2,10 +2,8 @@
 
 //! Where the first fault is in a string that is not a tag (RFC 5646 section 2.1).
 
-use crate::erased::scan::{
-    case_insensitive_eq, recognise, segment_end, segment_start, viable_len_with_hyphen, Metered,
-    GRANDFATHERED_TEXTS,
-};
+use crate::erased::recogniser::{recognise, viable_len_with_hyphen, Metered, GRANDFATHERED_TEXTS};
+use crate::erased::scan::{case_insensitive_eq, segment_end, segment_start};
 
 /// The reason why bytes are not a tag ([RFC 5646 section 2.1]).
 ///

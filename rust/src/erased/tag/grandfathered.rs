@@ -3,7 +3,8 @@
 //! The grandfathered tags (RFC 5646 section 2.2.8).
 
 use crate::erased::language::Language;
-use crate::erased::scan::{case_insensitive_eq, GRANDFATHERED_TEXTS};
+use crate::erased::recogniser::GRANDFATHERED_TEXTS;
+use crate::erased::scan::case_insensitive_eq;
 use crate::erased::tag::lang_tag::LangTag;
 use core::fmt;
 

@@ -91,12 +91,14 @@ pub use crate::erased::private::{
 };
 #[cfg(feature = "alloc")]
 pub use crate::erased::private::{PrivateUseBuf, PrivateUseSubtagBuf};
+pub use crate::erased::recogniser::{
+    recognise, recognise_normal, viable_len, ByteSource, Found, Metered,
+};
 pub use crate::erased::refusal::{Refusal, RefusalKind};
 pub use crate::erased::scan::{
     case_insensitive_cmp, case_insensitive_eq, case_insensitive_hash, into_smallcase, is_extended,
     is_extension_subtag, is_mark, is_primary, is_private_subtag, is_region, is_script,
-    is_singleton, is_variant, recognise, recognise_normal, viable_len, ByteSource, Ends, Found,
-    Metered, Subtags,
+    is_singleton, is_variant, Ends, Subtags,
 };
 pub(crate) use crate::erased::scan::{segment_end, segment_start};
 pub use grandfathered::{GrandfatheredLangTag, InvalidGrandfatheredTag, GRANDFATHERED};

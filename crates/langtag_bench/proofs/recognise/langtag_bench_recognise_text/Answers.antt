@@ -1,5 +1,5 @@
 use Rattle.std.proofs.Common.{◌∙◌, subst}
-use Rattle.langtag_scan.specs.Found.{IsFoundOf, finding}
+use Rattle.langtag_recogniser.specs.Found.{IsFoundOf, finding}
 use Rattle.langtag_bench.proofs.KeptEnds.{ends_kept}
 use Rattle.langtag_bench.proofs.recognise.langtag_bench_recognise_text.Goals as goal
 

@@ -4,7 +4,7 @@ use Rattle.langtag.specs.Text.{normal_lang_tag_text}
 use Rattle.langtag_cldr.specs.Definitions.{field_texts}
 use Rattle.langtag_likely.proofs.Definitions.{put_fields}
 use Rattle.langtag_cldr.proofs.FieldClasses.{language_length, script_length, region_length}
-use Rattle.langtag.proofs.FormLaws.{rewritten}
+use Rattle.langtag_output.proofs.FormLaws.{rewritten}
 use Rattle.langtag_likely.proofs.PutLaws.{put_length, put_spelled}
 use Rattle.langtag_likely.proofs.put.write_fields.Goals as goal
 

@@ -1,7 +1,7 @@
 use Rattle.std.proofs.Common.{◌≡◌, length, sym, ap, subst, arith, take_at}
 use Rattle.langtag_range.specs.Locale.{locale_place}
 use Rattle.langtag_posix.proofs.Definitions.{IsTagOfName, with_said, read_place}
-use Rattle.langtag.proofs.FormLaws.{written_whole}
+use Rattle.langtag_output.proofs.FormLaws.{written_whole}
 use Rattle.langtag_posix.proofs.PosixLaws.{written_of}
 use Rattle.langtag_posix.proofs.posix.bytes_of.Goals as goal
 

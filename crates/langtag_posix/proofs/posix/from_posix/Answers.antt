@@ -1,7 +1,7 @@
 use Rattle.std.proofs.Common.{sym, subst}
 use Rattle.langtag_range.specs.Locale.{locale_place}
 use Rattle.langtag_posix.proofs.Definitions.{IsTagOfName, with_said, read_place}
-use Rattle.langtag.proofs.FormLaws.{form_is_tag, one_form}
+use Rattle.langtag_output.proofs.FormLaws.{form_is_tag, one_form}
 use Rattle.langtag_posix.proofs.PosixLaws.{said_well_formed}
 use Rattle.langtag_posix.proofs.posix.from_posix.Goals as goal
 

@@ -3,7 +3,7 @@ use Rattle.langtag.specs.Definitions.{lang_tag_text, script_text, IsForm}
 use Rattle.langtag_range.specs.Locale.{locale_place}
 use Rattle.langtag_cldr.specs.Definitions.{or_else}
 use Rattle.langtag_posix.proofs.Definitions.{modifier_script, modifier_variant, IsLocalePlace, modifier_of, posix_replaced, said_script, script_behind, with_said_script, with_said_variant, read_place}
-use Rattle.langtag.proofs.FormLaws.{rewritten}
+use Rattle.langtag_output.proofs.FormLaws.{rewritten}
 use Rattle.langtag_posix.proofs.PosixLaws.{form_composed, modifier_variant-fits, said_script-fits, script_or, script_well_formed, variant_of, posix_well_formed}
 use Rattle.langtag_posix.proofs.posix.write_from_posix.Goals as goal
 

@@ -1,6 +1,6 @@
 use Rattle.langtag_scan.proofs.Prelude.{ap, ◌∙◌, slice_get, option_and_then, YieldsList-from_first, nth_from_yields_List}
 use Rattle.langtag_scan.specs.Grammar.{is_variant, subtags}
-use Rattle.langtag_scan.proofs.Laws.{of_variant, each_subtag, subtags-joined}
+use Rattle.langtag_scan.proofs.TextLaws.{of_variant, each_subtag, subtags-joined}
 use Rattle.langtag_place.specs.Text.{variant_text, variants_left}
 use Rattle.langtag.proofs.normal_lang_tag.NormalLangTag.repeated_variant.Goals as goal
 

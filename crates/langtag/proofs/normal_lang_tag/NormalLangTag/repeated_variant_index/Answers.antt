@@ -1,6 +1,6 @@
 use Rattle.std.proofs.Common.{ap, ◌∙◌}
 use Rattle.langtag_scan.specs.Grammar.{are_alike, is_variant, subtags}
-use Rattle.langtag_scan.proofs.Laws.{of_variant, each_subtag, subtags-joined}
+use Rattle.langtag_scan.proofs.TextLaws.{of_variant, each_subtag, subtags-joined}
 use Rattle.langtag_place.specs.Repeat.{repeat_index}
 use Rattle.langtag.proofs.normal_lang_tag.NormalLangTag.repeated_variant_index.Goals as goal
 

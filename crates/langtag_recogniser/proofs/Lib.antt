@@ -1,0 +1,5 @@
+mod Running
+pub mod FoundLaws
+mod ReadingLaws
+mod PositionLaws
+mod StateTables
