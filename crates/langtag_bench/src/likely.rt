@@ -3,7 +3,7 @@ ghost use Rattle.std.specs.Prelude.{◌≡◌};
 ghost use Rattle.langtag_scan.specs.Grammar.{IsTag};
 
 use crate::matching::tag_of;
-use crate::written::{count, write_text};
+use crate::written::{count, write_made, write_text};
 use langtag_likely::{maximized, minimized};
 use langtag_posix::{PosixError, from_posix, to_posix};
 use std::alloc::Global;
@@ -19,12 +19,9 @@ pub extern "C" fn langtag_bench_maximized(
 ) -> usize
     ensures { (IsTag bytes.now → ⊥) → result ≡ 0 }
 {
-    let Some(tag) = tag_of(bytes) else {
-        return 0;
-    };
-    match maximized(alloc, tag) {
-        Ok(form) => write_text(form.as_str(), into),
-        Err(_) => count(refused),
+    match tag_of(bytes) {
+        Some(tag) => write_made(maximized(alloc, tag), into, refused),
+        None => 0,
     }
 }
 
@@ -38,12 +35,9 @@ pub extern "C" fn langtag_bench_minimized(
 ) -> usize
     ensures { (IsTag bytes.now → ⊥) → result ≡ 0 }
 {
-    let Some(tag) = tag_of(bytes) else {
-        return 0;
-    };
-    match minimized(alloc, tag) {
-        Ok(form) => write_text(form.as_str(), into),
-        Err(_) => count(refused),
+    match tag_of(bytes) {
+        Some(tag) => write_made(minimized(alloc, tag), into, refused),
+        None => 0,
     }
 }
 

@@ -4,8 +4,8 @@ ghost use Rattle.langtag_scan.specs.Grammar.{IsTag, IsNormal};
 
 use crate::matching::tag_of;
 use crate::memory::normal_of;
-use crate::written::{count, write_text};
-use langtag::{ExtendedLangTag, LangTag, NormalLangTag, PrimaryLanguage, Region, Script, Variant};
+use crate::written::write_made;
+use langtag::{ExtendedLangTag, LangTag, NormalLangTag, PrimaryLanguage, Region, Variant};
 use langtag_registry::{
     canonical, extlang_form, extlang_prefix, is_deprecated_extlang, is_deprecated_language,
     is_deprecated_region, is_deprecated_tag, is_deprecated_variant, is_registered_extlang,
@@ -26,12 +26,9 @@ pub extern "C" fn langtag_bench_canonical(
 ) -> usize
     ensures { (IsTag bytes.now → ⊥) → result ≡ 0 }
 {
-    let Some(tag) = tag_of(bytes) else {
-        return 0;
-    };
-    match canonical(alloc, tag) {
-        Ok(form) => write_text(form.as_str(), into),
-        Err(_) => count(refused),
+    match tag_of(bytes) {
+        Some(tag) => write_made(canonical(alloc, tag), into, refused),
+        None => 0,
     }
 }
 
@@ -45,12 +42,9 @@ pub extern "C" fn langtag_bench_extlang_form(
 ) -> usize
     ensures { (IsTag bytes.now → ⊥) → result ≡ 0 }
 {
-    let Some(tag) = tag_of(bytes) else {
-        return 0;
-    };
-    match extlang_form(alloc, tag) {
-        Ok(form) => write_text(form.as_str(), into),
-        Err(_) => count(refused),
+    match tag_of(bytes) {
+        Some(tag) => write_made(extlang_form(alloc, tag), into, refused),
+        None => 0,
     }
 }
 
@@ -126,12 +120,9 @@ fn is_known_extlang(extlang: ExtendedLangTag<'_>) -> bool {
 
 /// Returns whether the registry has a field for the script or the region of a tag.
 fn is_known_place(tag: NormalLangTag<'_>) -> bool {
-    tag.script().map_or(false, is_known_script) | tag.region().map_or(false, is_known_region)
-}
-
-/// Returns whether the registry has a script.
-fn is_known_script(script: Script<'_>) -> bool {
-    is_registered_script(script)
+    tag.script()
+        .is_some_and(|script| is_registered_script(script))
+        | tag.region().is_some_and(is_known_region)
 }
 
 /// Returns whether the registry has a field for a region.

@@ -3,7 +3,7 @@ ghost use Rattle.std.specs.Prelude.{◌≡◌};
 ghost use Rattle.langtag_scan.specs.Grammar.{IsTag};
 
 use crate::matching::tag_of;
-use crate::written::{count, write_text};
+use crate::written::{count, write_made, write_text};
 use langtag_locale::locale_form;
 use langtag_unicode::{SetKeywordError, extensions_form, remove_keyword, set_keyword};
 use std::alloc::Global;
@@ -19,12 +19,9 @@ pub extern "C" fn langtag_bench_extensions_form(
 ) -> usize
     ensures { (IsTag bytes.now → ⊥) → result ≡ 0 }
 {
-    let Some(tag) = tag_of(bytes) else {
-        return 0;
-    };
-    match extensions_form(alloc, tag) {
-        Ok(form) => write_text(form.as_str(), into),
-        Err(_) => count(refused),
+    match tag_of(bytes) {
+        Some(tag) => write_made(extensions_form(alloc, tag), into, refused),
+        None => 0,
     }
 }
 

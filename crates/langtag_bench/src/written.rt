@@ -4,7 +4,8 @@ ghost use Rattle.std.specs.Prelude.{◌≡◌, ◌≤◌, length};
 ghost use Rattle.langtag_scan.specs.Grammar.{IsTag};
 
 use crate::matching::tag_of;
-use std::alloc::Global;
+use langtag::LangTagBuf;
+use std::alloc::{AllocError, Global};
 
 /// Writes a tag in its recommended case into a buffer, if there is room, and returns its length. Returns 0 if the
 /// string is not a tag, or if an allocation fails. A failed allocation is counted in `refused`.
@@ -17,12 +18,9 @@ pub extern "C" fn langtag_bench_recommended(
 ) -> usize
     ensures { (IsTag bytes.now → ⊥) → result ≡ 0 }
 {
-    let Some(tag) = tag_of(bytes) else {
-        return 0;
-    };
-    match tag.try_to_recommended_case(alloc) {
-        Ok(owned) => write_text(owned.as_str(), into),
-        Err(_) => count(refused),
+    match tag_of(bytes) {
+        Some(tag) => write_made(tag.try_to_recommended_case(alloc), into, refused),
+        None => 0,
     }
 }
 
@@ -41,6 +39,18 @@ pub extern "C" fn langtag_bench_displayed(
     };
     match format!(in alloc; "{}", tag.in_recommended_case()) {
         Ok(displayed) => write_text(displayed.as_str(), into),
+        Err(_) => count(refused),
+    }
+}
+
+/// Writes a tag that was made, as [`write_text`] does. Returns 0 if an allocation failed, and counts it.
+pub(crate) fn write_made(
+    made: Result<LangTagBuf, AllocError>,
+    into: &mut [u8],
+    refused: &mut usize,
+) -> usize {
+    match made {
+        Ok(tag) => write_text(tag.as_str(), into),
         Err(_) => count(refused),
     }
 }
