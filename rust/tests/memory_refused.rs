@@ -3,6 +3,8 @@
 #![cfg(all(feature = "alloc", feature = "data"))]
 use std::alloc::{GlobalAlloc, Layout, System};
 use std::cell::Cell;
+use std::panic;
+use std::sync::Once;
 
 use langtag::likely::{from_posix, try_maximized, try_minimized, try_to_posix, PosixError};
 use langtag::matching::{tag_for_header, AcceptLanguage, AcceptLanguageError, LanguageRange};
@@ -58,9 +60,22 @@ unsafe impl GlobalAlloc for Refusing {
 #[global_allocator]
 static ALLOCATOR: Refusing = Refusing;
 
+/// Lets each panic have memory for its message. Otherwise a test that fails while memory is refused may wait for ever.
+fn grant_to_panics() {
+    static HOOK: Once = Once::new();
+    HOOK.call_once(|| {
+        let hook = panic::take_hook();
+        panic::set_hook(Box::new(move |info| {
+            GRANTED.set(None);
+            hook(info);
+        }));
+    });
+}
+
 /// Repeats a call with one more request granted each time, until no request is refused. `call` returns whether memory
 /// was refused.
 fn refuse_each(name: &str, call: impl Fn() -> bool) {
+    grant_to_panics();
     for granted in 0.. {
         GRANTED.set(Some(granted));
         REFUSED.set(0);
@@ -233,6 +248,7 @@ fn setters_of_keywords() {
 #[test]
 fn taking_a_part_out_needs_no_memory() {
     let mut held = Held::of("sl-Latn-IT-rozaj-a-bb-x-mine");
+    grant_to_panics();
     GRANTED.set(Some(0));
     let results = [
         held.normal.set_script(None),
