@@ -75,7 +75,7 @@ impl Found {
 
     /// Returns the ends of the parts of a normal tag (section 2.1): in `fr-FR`, the language and
     /// the absent script end at 2, and all other ends are 5. Returns `None` for `x-a`. It is proved
-    /// that a clone of the ends, or of a `Found`, is the same value.
+    /// that a clone is the same value.
     ///
     /// ```
     /// use langtag::scan::{recognise, Metered};
