@@ -2,7 +2,7 @@
 use Rattle.langtag_scan.proofs.Prelude.{◌≡◌, ℕ, ◌≤◌, IsTrue, List, [], ◌∷◌, ◌++◌, length, Option, None, Some, IfSome, unwrap_or, refl, ap, arith, append_assoc, append-nil, option_map, sym, ◌∙◌, AllByRecursion, flat_map, replace_range, common_steps}
 use Rattle.langtag_scan.specs.Grammar.{is_script, is_region, is_variant, ends_of, HasEnds, Extension, PrivateUse, Record, EachRecord, IsWellFormed, Spells, extension_flat, one_flat, private_part_flat, spell, join, IsPrivate}
 use Rattle.langtag_scan.specs.declared.ends.Ends.{Ends}
-use Rattle.langtag_scan.proofs.TextLaws.{hyphenated, join-hyphenated, join-append, drop-join, length-join, length-hyphenated, join-replaced, join-around, ends_equal, ends_each, ends_had, ends_ordered, ends_whole, of_script, of_region, of_variant, spelled_once}
+use Rattle.langtag_scan.proofs.Laws.{hyphenated, join-hyphenated, join-append, drop-join, length-join, length-hyphenated, join-replaced, join-around, ends_equal, ends_each, ends_had, ends_ordered, ends_whole, of_script, of_region, of_variant, spelled_once}
 use Rattle.langtag.specs.Definitions.{SpellsLanguage, region_text, script_text, variants_text, SpellsVariants, SpellsExtensions, of_parts, with_language, with_script, with_region, with_variants, with_extensions, with_private_use, SpellsPrivateUse, SetsPart, ComesBack, with_old_part, language_text, extensions_text}
 use Rattle.langtag_place.specs.declared.region.Region.{Region}
 use Rattle.langtag_place.specs.declared.script.Script.{Script}

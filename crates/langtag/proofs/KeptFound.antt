@@ -1,11 +1,9 @@
 -- What the finding that a tag keeps says of its text, and of each text that is alike.
 use Rattle.langtag_scan.proofs.Prelude.{◌≡◌, ◌↔◌, ℕ, ◌<◌, List, Some, IsTrue, sym, subst, arith, ◌∙◌, IsAscii, IsUtf8, common_steps}
-use Rattle.langtag_scan.specs.Grammar.{Alike, IsNormal, IsPrivate, IsIrregularAt, IsIrregular, IsTag, are_alike-decides, HasEnds}
-use Rattle.langtag_recogniser.specs.Definitions.{IsFoundOf, is_normal, is_private_use}
-use Rattle.langtag_recogniser.specs.Found.{irregular_index}
-use Rattle.langtag_recogniser.specs.declared.finding.Finding.{Finding}
-use Rattle.langtag_scan.proofs.TextLaws.{alike_parts, alike_normal, alike_private, alike_irregular, irregular_fold, normal_no_private, normal_no_irregular, private_no_irregular, offsets_kept, IsAscii-tag, IsUtf8-tag}
-use Rattle.langtag_recogniser.proofs.FoundLaws.{tag_found, normal_found, private_found, found_had}
+use Rattle.langtag_scan.specs.Grammar.{Alike, IsFoundOf, is_normal, is_private_use, IsNormal, IsPrivate, IsIrregularAt, IsIrregular, IsTag, are_alike-decides, HasEnds}
+use Rattle.langtag_scan.specs.Found.{irregular_index}
+use Rattle.langtag_scan.specs.declared.finding.Finding.{Finding}
+use Rattle.langtag_scan.proofs.Laws.{alike_parts, alike_normal, alike_private, alike_irregular, tag_found, normal_found, private_found, found_had, irregular_fold, normal_no_private, normal_no_irregular, private_no_irregular, offsets_kept, IsAscii-tag, IsUtf8-tag}
 use Rattle.langtag_private.proofs.Rules.{IsPrivate-from_test}
 use Rattle.langtag.specs.Kinds.{IsOfKind, AreOfOneKind}
 use Rattle.langtag.specs.Recognised.{finding_of}
@@ -13,7 +11,7 @@ use Rattle.langtag.specs.Typed.{IsTypedAs, kind_of_tag}
 use Rattle.langtag.specs.declared.recognised.Recognised.{Recognised}
 use Rattle.langtag.specs.declared.typed_lang_tag.TypedLangTag.{TypedLangTag}
 use Rattle.langtag_scan.specs.declared.ends.Ends.{Ends}
-use Rattle.langtag_recogniser.specs.declared.finding.Finding.TheVariants.{Normal, PrivateUse, Irregular}
+use Rattle.langtag_scan.specs.declared.finding.Finding.TheVariants.{Normal, PrivateUse, Irregular}
 
 -- the text is a tag, of the kind that was found
 pub record TellsKind (text : List ℕ) (found : Finding) : Type 0 where

@@ -3,7 +3,7 @@ use Rattle.langtag_scan.proofs.Prelude.{◌≡◌, ℕ, List, [], take, unwrap_o
 use Rattle.langtag_scan.specs.Grammar.{Record, EachRecord, IsWellFormed, spell, PrivateUse, IsWellFormedPrivateUse, Spells, extension_flat, one_flat, private_part_flat, private_use_flat, IsNormal, IsPrivate, HasEnds, ends_of, to_variants, language_part, variants_part, extensions_part, private_use_part, text_between, is_variant, is_script, is_region, subtags, join}
 use Rattle.langtag.specs.Part.{PartOf}
 use Rattle.langtag_scan.specs.declared.ends.Ends.{Ends}
-use Rattle.langtag_scan.proofs.TextLaws.{unwrap_or-joined, take-join, language_between, script_between, region_between, variants_between, extensions_between, private_use_between, ends_equal, ends_each, ends_had, offsets_kept, of_variant, each_subtag, subtags-joined}
+use Rattle.langtag_scan.proofs.Laws.{unwrap_or-joined, take-join, language_between, script_between, region_between, variants_between, extensions_between, private_use_between, ends_equal, ends_each, ends_had, offsets_kept, of_variant, each_subtag, subtags-joined}
 use Rattle.langtag.specs.Offsets.{PartsStandIn}
 use Rattle.langtag.specs.Definitions.{IsLanguage, SpellsLanguage, IsVariants, IsExtensions, base_record}
 

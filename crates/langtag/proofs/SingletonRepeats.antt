@@ -2,7 +2,7 @@
 use Rattle.langtag_scan.proofs.Prelude.{◌≡◌, ℕ, ◌+◌, ◌<◌, Bool, true, false, ◌==◌, List, [], ◌∷◌, length, get_or, set, take, drop, map, slice_get, slice_index, Option, refl, ap, sym, subst, ◌∙◌, arith, option_map, list_any, or-false, eqb_tells, or_right, get_or-set_at, common_steps, get_or-set_other, drop-map, slice_get-map, lowercase_ascii}
 use Rattle.std.proofs.lemmas.List.Folds.{list_any_more}
 use Rattle.langtag_scan.specs.Grammar.{fold_byte, is_singleton, Extension}
-use Rattle.langtag_scan.proofs.TextLaws.{alphanumeric_below, singleton_alphanumeric}
+use Rattle.langtag_scan.proofs.Laws.{alphanumeric_below, singleton_alphanumeric}
 use Rattle.langtag_place.proofs.RepeatLaws.{IsAt, IsAt-drop}
 use Rattle.langtag_extension.specs.Spelling.{extension_spelling}
 use Rattle.langtag_extension.proofs.ExtensionLookUp.{first_byte-spelling}

@@ -1,7 +1,7 @@
 -- What a tag stores about its text, as a `Finding` of langtag_scan. Only invariants and contracts of private functions
 -- cite this page.
-use Rattle.langtag_recogniser.specs.declared.finding.Finding.{Finding}
-use Rattle.langtag_recogniser.specs.declared.finding.Finding.TheVariants as found
+use Rattle.langtag_scan.specs.declared.finding.Finding.{Finding}
+use Rattle.langtag_scan.specs.declared.finding.Finding.TheVariants as found
 use Rattle.langtag.specs.Registered.{index_of}
 use Rattle.langtag.specs.declared.recognised.Recognised.{Recognised}
 use Rattle.langtag.specs.declared.recognised.Recognised.TheVariants.{Normal, PrivateUse, Irregular}

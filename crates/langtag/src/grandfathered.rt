@@ -5,8 +5,7 @@ ghost use Rattle.langtag.specs.Registered.{text_of};
 
 use crate::lang_tag::LangTag;
 use langtag_language::Language;
-use langtag_recogniser::GRANDFATHERED_TEXTS;
-use langtag_scan::case_insensitive_eq;
+use langtag_scan::{GRANDFATHERED_TEXTS, case_insensitive_eq};
 use std::convert::TryFrom;
 use std::fmt;
 use std::fmt::Debug;

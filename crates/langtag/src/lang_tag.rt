@@ -1,9 +1,8 @@
 //! Language tags of every kind: rule `Language-Tag` of RFC 5646 section 2.1.
 ghost use Rattle.std.specs.Prelude.{◌≡◌, ◌↔◌, ◌<◌, ◌^◌, ℕ, List, [], Some, None, IsTrue, IfOk, IfErr, IfSome, is_ok, is_some, length, option_map};
-ghost use Rattle.langtag_case.specs.RecommendedCase.{recommended_text};
-ghost use Rattle.langtag_case.specs.Text.{in_recommended_case_text};
-ghost use Rattle.langtag_scan.specs.Grammar.{IsSpelledAlike, EndsFirst, are_alike, case_cmp, language_part, variants_part, extensions_part, private_use_part, private_use_subtags, EachRecord, flat, spell, subtags, IsNormal, IsPrivate, IsIrregular, IsTag};
-ghost use Rattle.langtag_recogniser.specs.Definitions.{IsFoundOf};
+ghost use Rattle.langtag_text.specs.RecommendedCase.{recommended_text};
+ghost use Rattle.langtag_text.specs.Text.{in_recommended_case_text};
+ghost use Rattle.langtag_scan.specs.Grammar.{IsSpelledAlike, EndsFirst, are_alike, case_cmp, IsFoundOf, language_part, variants_part, extensions_part, private_use_part, private_use_subtags, EachRecord, flat, spell, subtags, IsNormal, IsPrivate, IsIrregular, IsTag};
 ghost use Rattle.langtag.specs.Edit.{base_record};
 ghost use Rattle.langtag.specs.Recognised.{finding_of};
 
@@ -15,12 +14,12 @@ use crate::private_use_lang_tag::PrivateUseLangTag;
 use crate::recognise_text::{recognise_bytes, recognise_text};
 use crate::recognised::Recognised;
 use crate::typed_lang_tag::TypedLangTag;
-use langtag_case::{InRecommendedCase, is_in_recommended_case};
 use langtag_extension::Extensions;
 use langtag_language::Language;
 use langtag_place::{Region, Script, Variants};
 use langtag_private::{PrivateUse, PrivateUseIter};
 use langtag_scan::{Caseless, Subtags};
+use langtag_text::{InRecommendedCase, is_in_recommended_case};
 use std::alloc::{AllocError, Global};
 use std::cmp::Ordering;
 use std::fmt;
@@ -469,7 +468,7 @@ impl<'a> LangTag<'a> {
     /// LangTag::new("x-a")?.language(); // None
     /// ```
     pub fn language(&self) -> Option<Language<'a>>
-        ensures { PartOf (lang_tag_text self.now) (λ r. Some (language_part r)) None (option_map language_text result) }
+        ensures part { PartOf (lang_tag_text self.now) (λ r. Some (language_part r)) None (option_map language_text result) }
     {
         Some(self.as_normal()?.language())
     }
@@ -484,7 +483,7 @@ impl<'a> LangTag<'a> {
     /// LangTag::new("sl-IT")?.script(); // None
     /// ```
     pub fn script(&self) -> Option<Script<'a>>
-        ensures { PartOf (lang_tag_text self.now) (λ r. r.script) None (option_map script_text result) }
+        ensures part { PartOf (lang_tag_text self.now) (λ r. r.script) None (option_map script_text result) }
     {
         self.as_normal()?.script()
     }
@@ -499,7 +498,7 @@ impl<'a> LangTag<'a> {
     /// LangTag::new("es")?.region(); // None
     /// ```
     pub fn region(&self) -> Option<Region<'a>>
-        ensures { PartOf (lang_tag_text self.now) (λ r. r.region) None (option_map region_text result) }
+        ensures part { PartOf (lang_tag_text self.now) (λ r. r.region) None (option_map region_text result) }
     {
         self.as_normal()?.region()
     }
@@ -513,7 +512,7 @@ impl<'a> LangTag<'a> {
     /// LangTag::new("x-a")?.variants().as_str(); // ""
     /// ```
     pub fn variants(&self) -> Variants<'a>
-        ensures { PartOf (lang_tag_text self.now) variants_part [] (variants_text result) }
+        ensures part { PartOf (lang_tag_text self.now) variants_part [] (variants_text result) }
     {
         let Some(tag) = self.as_normal() else {
             return Variants::EMPTY;
@@ -530,7 +529,7 @@ impl<'a> LangTag<'a> {
     /// LangTag::new("x-a")?.extensions().as_str(); // ""
     /// ```
     pub fn extensions(&self) -> Extensions<'a>
-        ensures { PartOf (lang_tag_text self.now) extensions_part [] (extensions_text result) }
+        ensures part { PartOf (lang_tag_text self.now) extensions_part [] (extensions_text result) }
     {
         let Some(tag) = self.as_normal() else {
             return Extensions::EMPTY;
@@ -549,7 +548,7 @@ impl<'a> LangTag<'a> {
     /// LangTag::new("x-y")?.private_use(); // None
     /// ```
     pub fn private_use(&self) -> Option<PrivateUse<'a>>
-        ensures { PartOf (lang_tag_text self.now) private_use_part None (option_map private_use_text result) }
+        ensures part { PartOf (lang_tag_text self.now) private_use_part None (option_map private_use_text result) }
     {
         self.as_normal()?.private_use()
     }
@@ -586,7 +585,7 @@ impl<'a> LangTag<'a> {
     /// subtags.next(); // None
     /// ```
     pub fn private_use_subtags(&self) -> PrivateUseIter<'a>
-        ensures { PartOf (lang_tag_text self.now) private_use_subtags [] (private_use_subtags_left result) }
+        ensures part { PartOf (lang_tag_text self.now) private_use_subtags [] (private_use_subtags_left result) }
     {
         let Some(tag) = self.as_normal() else {
             return PrivateUseIter::empty();

@@ -1,9 +1,8 @@
 //! Language tags of every kind that own their text.
-ghost use Rattle.std.specs.Prelude.{◌≡◌, ◌↔◌, ℕ, List, [], Some, IsTrue, IsNone, IsOk, IsErrOf, IfOk, IfErr, OnOk, OnErr, is_ok, option_map, string_bytes};
+ghost use Rattle.std.specs.Prelude.{◌≡◌, ◌↔◌, ◌≤◌, ℕ, List, [], Some, IsTrue, IsNone, IsOk, IsErrOf, IfOk, IfErr, OnOk, OnErr, is_ok, option_map, string_bytes, string_capacity};
 ghost use Rattle.langtag_scan.specs.Prelude.{string_vec, SameBlock};
-ghost use Rattle.langtag_case.specs.RecommendedCase.{recommended_record, recommended_text};
-ghost use Rattle.langtag_scan.specs.Grammar.{IsSpelledAlike, Alike, EachRecord, spell, IsNormal, IsTag};
-ghost use Rattle.langtag_recogniser.specs.Definitions.{IsFoundOf};
+ghost use Rattle.langtag_text.specs.RecommendedCase.{recommended_record, recommended_text};
+ghost use Rattle.langtag_scan.specs.Grammar.{IsSpelledAlike, Alike, IsFoundOf, EachRecord, spell, IsNormal, IsTag};
 ghost use Rattle.langtag_language.specs.Text.{language_text};
 ghost use Rattle.langtag_place.specs.Text.{script_text, region_text, variants_text};
 ghost use Rattle.langtag_extension.specs.Text.{extensions_text};
@@ -18,12 +17,12 @@ use crate::part::Part;
 use crate::recognise_text::recognise_text;
 use crate::recognised::Recognised;
 use crate::recommended_case::put_recommended_case;
-use langtag_edit::EditError;
 use langtag_extension::Extensions;
 use langtag_language::Language;
 use langtag_place::{Region, Script, Variants};
 use langtag_private::{PrivateUse, PrivateUseBuf};
 use langtag_scan::Caseless;
+use langtag_text::EditError;
 use std::alloc::Global;
 use std::fmt;
 
@@ -155,7 +154,7 @@ impl LangTagBuf {
     /// tag.make_recommended_case();
     /// tag.as_str(); // "mn-Cyrl-MN"
     /// ```
-    #[tactic(auto, using(crate::proofs::KeptFound::ascii_found, crate::proofs::KeptFound::found_alike, langtag_case::proofs::RecommendedLaws::alike_of_recommended, langtag_case::proofs::RecommendedLaws::alike_recommended, langtag_case::proofs::RecommendedLaws::spelled_in_case, crate::proofs::KeptFound::alike_kinds, langtag_scan::proofs::CaseLaw::alike_parts))]
+    #[tactic(auto, using(crate::proofs::KeptFound::ascii_found, crate::proofs::KeptFound::found_alike, langtag_text::proofs::RecommendedLaws::alike_of_recommended, langtag_text::proofs::RecommendedLaws::alike_recommended, langtag_text::proofs::RecommendedLaws::spelled_in_case, crate::proofs::KeptFound::alike_kinds, langtag_scan::proofs::CaseLaw::alike_parts))]
     pub fn make_recommended_case(&mut self)
         ensures case { lang_tag_buf_text self.new ≡ recommended_text (lang_tag_buf_text self.old) }
         // law: the `String` keeps its allocation
@@ -176,7 +175,7 @@ impl LangTagBuf {
 
 #[tactic(auto, using(crate::proofs::KeptFound::found_kept, langtag_scan::proofs::SpelledTexts::offsets_kept))]
 impl LangTagBuf {
-    ghost use Rattle.langtag.specs.Text.{lang_tag_buf_text};
+    ghost use Rattle.langtag.specs.Text.{lang_tag_buf_string, lang_tag_buf_text};
 
     /// Sets the language, as [`NormalLangTagBuf::set_language`] does: with `zh-yue`, `sl-IT` becomes `zh-yue-IT`.
     ///
@@ -227,6 +226,8 @@ impl LangTagBuf {
         ensures comes_back { OnOk result (ComesBack (λ new old. with_script new old.script) (lang_tag_buf_text self.old) (lang_tag_buf_text self.new)) }
         // law: removing a part of a normal tag is Ok
         ensures taken_out { IsNone script.entry → IsNormal (lang_tag_buf_text self.old) → IsOk result }
+        // law: removing a part does not shrink the room of the `String`
+        ensures room_kept { IsNone script.entry → string_capacity (lang_tag_buf_string self.old) ≤ string_capacity (lang_tag_buf_string self.new) }
     {
         self.put(alloc, Part::Script(script))
     }
@@ -252,6 +253,7 @@ impl LangTagBuf {
         ensures unchanged { OnErr result (self.new ≡ self.old) }
         ensures comes_back { OnOk result (ComesBack (λ new old. with_region new old.region) (lang_tag_buf_text self.old) (lang_tag_buf_text self.new)) }
         ensures taken_out { IsNone region.entry → IsNormal (lang_tag_buf_text self.old) → IsOk result }
+        ensures room_kept { IsNone region.entry → string_capacity (lang_tag_buf_string self.old) ≤ string_capacity (lang_tag_buf_string self.new) }
     {
         self.put(alloc, Part::Region(region))
     }
@@ -277,6 +279,7 @@ impl LangTagBuf {
         ensures unchanged { OnErr result (self.new ≡ self.old) }
         ensures comes_back { OnOk result (ComesBack (λ new old. with_variants new old.variants) (lang_tag_buf_text self.old) (lang_tag_buf_text self.new)) }
         ensures taken_out { variants_text variants.entry ≡ [] → IsNormal (lang_tag_buf_text self.old) → IsOk result }
+        ensures room_kept { variants_text variants.entry ≡ [] → string_capacity (lang_tag_buf_string self.old) ≤ string_capacity (lang_tag_buf_string self.new) }
     {
         self.put(alloc, Part::Variants(variants))
     }
@@ -306,6 +309,7 @@ impl LangTagBuf {
         ensures unchanged { OnErr result (self.new ≡ self.old) }
         ensures comes_back { OnOk result (ComesBack (λ new old. with_extensions new old.extensions) (lang_tag_buf_text self.old) (lang_tag_buf_text self.new)) }
         ensures taken_out { extensions_text extensions.entry ≡ [] → IsNormal (lang_tag_buf_text self.old) → IsOk result }
+        ensures room_kept { extensions_text extensions.entry ≡ [] → string_capacity (lang_tag_buf_string self.old) ≤ string_capacity (lang_tag_buf_string self.new) }
     {
         self.put(alloc, Part::Extensions(extensions))
     }
@@ -335,6 +339,7 @@ impl LangTagBuf {
         ensures unchanged { OnErr result (self.new ≡ self.old) }
         ensures comes_back { OnOk result (ComesBack (λ new old. with_private_use new old.private_use) (lang_tag_buf_text self.old) (lang_tag_buf_text self.new)) }
         ensures taken_out { IsNone private_use.entry → IsNormal (lang_tag_buf_text self.old) → IsOk result }
+        ensures room_kept { IsNone private_use.entry → string_capacity (lang_tag_buf_string self.old) ≤ string_capacity (lang_tag_buf_string self.new) }
     {
         self.put(alloc, Part::PrivateUse(private_use))
     }
@@ -343,7 +348,7 @@ impl LangTagBuf {
 #[tactic(auto, using(crate::proofs::EditLaws::part_comes_back, crate::proofs::KeptFound::found_kept, langtag_scan::proofs::SpelledTexts::offsets_kept))]
 impl LangTagBuf {
     ghost use Rattle.langtag.specs.Edit.{SetsPart, ComesBack, with_old_part};
-    ghost use Rattle.langtag.specs.Text.{lang_tag_buf_text, part_text};
+    ghost use Rattle.langtag.specs.Text.{lang_tag_buf_string, lang_tag_buf_text, part_text};
 
     /// Sets a part of a normal tag, or removes it.
     fn put(&mut self, alloc: Global, part: Part<'_>) -> Result<(), EditError>
@@ -352,6 +357,7 @@ impl LangTagBuf {
         ensures not_normal { IsErrOf result EditError.NotNormal ↔ (IsNormal (lang_tag_buf_text self.old) → ⊥) }
         ensures unchanged { OnErr result (self.new ≡ self.old) }
         ensures taken_out { part_text part.entry ≡ [] → IsNormal (lang_tag_buf_text self.old) → IsOk result }
+        ensures room_kept { part_text part.entry ≡ [] → string_capacity (lang_tag_buf_string self.old) ≤ string_capacity (lang_tag_buf_string self.new) }
     {
         let Some(ends) = self.found.ends() else {
             return Err(EditError::NotNormal);

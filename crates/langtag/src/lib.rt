@@ -49,6 +49,7 @@ mod push;
 mod recognise_text;
 mod recognised;
 mod recommended_case;
+mod refusal;
 mod repeats;
 mod text_of_parts;
 mod typed_lang_tag;
@@ -58,8 +59,6 @@ pub use grandfathered::{GRANDFATHERED, GrandfatheredLangTag, InvalidGrandfathere
 pub use kind::Kind;
 pub use lang_tag::{InvalidLangTag, LangTag};
 pub use lang_tag_buf::LangTagBuf;
-pub use langtag_case::{InRecommendedCase, is_in_recommended_case, make_recommended_case};
-pub use langtag_edit::{EditError, Replacement};
 pub use langtag_extension::{
     Extension, ExtensionBuf, ExtensionIter, ExtensionSubtag, ExtensionSubtagBuf, Extensions,
     ExtensionsBuf, ExtensionsIter, InvalidExtension, InvalidExtensionSubtag, InvalidExtensions,
@@ -78,17 +77,20 @@ pub use langtag_private::{
     InvalidPrivateUse, InvalidPrivateUseSubtag, PrivateUse, PrivateUseBuf, PrivateUseIter,
     PrivateUseSubtag, PrivateUseSubtagBuf,
 };
-pub use langtag_recogniser::{ByteSource, Found, Metered, recognise, recognise_normal, viable_len};
-pub use langtag_refusal::{Refusal, RefusalKind};
 pub use langtag_scan::{
-    Ends, Subtags, case_insensitive_cmp, case_insensitive_eq, case_insensitive_hash,
-    into_smallcase, is_extended, is_extension_subtag, is_mark, is_primary, is_private_subtag,
-    is_region, is_script, is_singleton, is_variant, segment_end, segment_start,
+    ByteSource, Ends, Found, Metered, Subtags, case_insensitive_cmp, case_insensitive_eq,
+    case_insensitive_hash, into_smallcase, is_extended, is_extension_subtag, is_mark, is_primary,
+    is_private_subtag, is_region, is_script, is_singleton, is_variant, recognise, recognise_normal,
+    segment_end, segment_start, viable_len,
+};
+pub use langtag_text::{
+    EditError, InRecommendedCase, Replacement, is_in_recommended_case, make_recommended_case,
 };
 pub use normal_lang_tag::{InvalidNormalLangTag, NormalLangTag};
 pub use normal_lang_tag_buf::NormalLangTagBuf;
 pub use part::{Part, put_part};
 pub use private_use_lang_tag::{PrivateUseLangTag, PrivateUseLangTagBuf};
+pub use refusal::{Refusal, RefusalKind};
 pub use typed_lang_tag::TypedLangTag;
 
 // For the crates above that write or make tags.

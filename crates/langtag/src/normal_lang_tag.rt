@@ -1,7 +1,7 @@
 //! Normal tags, which are made of parts: rule `langtag` of RFC 5646 section 2.1.
 ghost use Rattle.std.specs.Prelude.{◌≡◌, ◌↔◌, ◌<◌, ◌≤◌, ◌^◌, ℕ, List, [], Some, IsTrue, IfOk, IfErr, is_ok, length, take, map, unwrap_or, option_map};
-ghost use Rattle.langtag_case.specs.RecommendedCase.{recommended_text};
-ghost use Rattle.langtag_case.specs.Text.{in_recommended_case_text};
+ghost use Rattle.langtag_text.specs.RecommendedCase.{recommended_text};
+ghost use Rattle.langtag_text.specs.Text.{in_recommended_case_text};
 ghost use Rattle.langtag_scan.specs.Grammar.{IsSpelledAlike, EndsFirst, are_alike, case_cmp, ends_of, HasEnds, language_part, variants_part, extensions_part, private_use_part, private_use_subtags, parts, text_between, Record, EachRecord, IsWellFormed, flat, spell, join, subtags, IsNormal};
 ghost use Rattle.langtag.specs.Edit.{base_record};
 ghost use Rattle.langtag.specs.Offsets.{PartsStandIn};
@@ -12,12 +12,12 @@ use crate::normal_lang_tag_buf::NormalLangTagBuf;
 use crate::recognise_text::normal_ends;
 use crate::recognised::Recognised;
 use crate::repeats::first_repeated_singleton;
-use langtag_case::{InRecommendedCase, is_in_recommended_case};
 use langtag_extension::{Extensions, Singleton};
 use langtag_language::Language;
 use langtag_place::{Region, Script, Variant, Variants, first_repeated_variant};
 use langtag_private::{PrivateUse, PrivateUseIter};
 use langtag_scan::{Caseless, Ends, Subtags};
+use langtag_text::{InRecommendedCase, is_in_recommended_case};
 use std::alloc::{AllocError, Global};
 use std::cmp::Ordering;
 use std::fmt;
@@ -238,7 +238,7 @@ impl<'a> NormalLangTag<'a> {
     /// ```
     #[tactic(auto, using(crate::proofs::PartRules::language_rules))]
     pub fn language(&self) -> Language<'a>
-        ensures { EachRecord (normal_lang_tag_text self.now) (λ r. language_text result ≡ language_part r) }
+        ensures part { EachRecord (normal_lang_tag_text self.now) (λ r. language_text result ≡ language_part r) }
     {
         Language::from_checked(self.language_str())
     }
@@ -254,7 +254,7 @@ impl<'a> NormalLangTag<'a> {
     /// ```
     #[tactic(auto, using(crate::proofs::PartRules::script_rules))]
     pub fn script(&self) -> Option<Script<'a>>
-        ensures { EachRecord (normal_lang_tag_text self.now) (λ r. option_map script_text result ≡ r.script) }
+        ensures part { EachRecord (normal_lang_tag_text self.now) (λ r. option_map script_text result ≡ r.script) }
     {
         let script = self.part(self.ends.language, self.ends.script)?;
         Some(Script::from_checked(script))
@@ -271,7 +271,7 @@ impl<'a> NormalLangTag<'a> {
     /// ```
     #[tactic(auto, using(crate::proofs::PartRules::region_rules))]
     pub fn region(&self) -> Option<Region<'a>>
-        ensures { EachRecord (normal_lang_tag_text self.now) (λ r. option_map region_text result ≡ r.region) }
+        ensures part { EachRecord (normal_lang_tag_text self.now) (λ r. option_map region_text result ≡ r.region) }
     {
         let region = self.part(self.ends.script, self.ends.region)?;
         Some(Region::from_checked(region))
@@ -287,7 +287,7 @@ impl<'a> NormalLangTag<'a> {
     /// ```
     #[tactic(auto, using(crate::proofs::PartRules::variants_rules))]
     pub fn variants(&self) -> Variants<'a>
-        ensures { EachRecord (normal_lang_tag_text self.now) (λ r. variants_text result ≡ variants_part r) }
+        ensures part { EachRecord (normal_lang_tag_text self.now) (λ r. variants_text result ≡ variants_part r) }
     {
         Variants::from_checked(self.part_or_empty(self.ends.region, self.ends.variants))
     }
@@ -302,7 +302,7 @@ impl<'a> NormalLangTag<'a> {
     /// ```
     #[tactic(auto, using(crate::proofs::PartRules::extensions_rules))]
     pub fn extensions(&self) -> Extensions<'a>
-        ensures { EachRecord (normal_lang_tag_text self.now) (λ r. extensions_text result ≡ extensions_part r) }
+        ensures part { EachRecord (normal_lang_tag_text self.now) (λ r. extensions_text result ≡ extensions_part r) }
     {
         Extensions::from_checked(self.part_or_empty(self.ends.variants, self.ends.extensions))
     }
@@ -318,7 +318,7 @@ impl<'a> NormalLangTag<'a> {
     /// ```
     #[tactic(auto, using(crate::proofs::PartRules::private_use_rules))]
     pub fn private_use(&self) -> Option<PrivateUse<'a>>
-        ensures { EachRecord (normal_lang_tag_text self.now) (λ r. option_map private_use_text result ≡ private_use_part r) }
+        ensures part { EachRecord (normal_lang_tag_text self.now) (λ r. option_map private_use_text result ≡ private_use_part r) }
     {
         let private_use = self.part(self.ends.extensions, self.ends.whole)?;
         Some(PrivateUse::from_checked(private_use))
@@ -359,7 +359,7 @@ impl<'a> NormalLangTag<'a> {
     /// NormalLangTag::new("en")?.private_use_subtags().count(); // 0
     /// ```
     pub fn private_use_subtags(&self) -> PrivateUseIter<'a>
-        ensures { EachRecord (normal_lang_tag_text self.now) (λ r. private_use_subtags_left result ≡ private_use_subtags r) }
+        ensures part { EachRecord (normal_lang_tag_text self.now) (λ r. private_use_subtags_left result ≡ private_use_subtags r) }
     {
         match self.private_use() {
             Some(private_use) => private_use.iter(),

@@ -1,7 +1,7 @@
 //! Normal tags that own their text.
-ghost use Rattle.std.specs.Prelude.{◌≡◌, ◌↔◌, ℕ, List, [], Option, Some, IsTrue, IsNone, IsOk, IfOk, IfErr, OnOk, OnErr, is_ok, option_map, string_bytes};
+ghost use Rattle.std.specs.Prelude.{◌≡◌, ◌↔◌, ◌≤◌, ℕ, List, [], Option, Some, IsTrue, IsNone, IsOk, IfOk, IfErr, OnOk, OnErr, is_ok, option_map, string_bytes, string_capacity};
 ghost use Rattle.langtag_scan.specs.Prelude.{string_vec, SameBlock};
-ghost use Rattle.langtag_case.specs.RecommendedCase.{recommended_record, recommended_text};
+ghost use Rattle.langtag_text.specs.RecommendedCase.{recommended_record, recommended_text};
 ghost use Rattle.langtag_scan.specs.Grammar.{IsSpelledAlike, Alike, HasEnds, language_part, variants_part, extensions_part, private_use_part, EachRecord, Extension, Spells, spell, IsNormal};
 ghost use Rattle.langtag_scan.specs.Record as model;
 ghost use Rattle.langtag_language.specs.Language.{EachLanguageSpelling};
@@ -250,6 +250,8 @@ impl NormalLangTagBuf {
         ensures comes_back { OnOk result (ComesBack (λ new old. with_script new old.script) (normal_lang_tag_buf_text self.old) (normal_lang_tag_buf_text self.new)) }
         // law: removing a part of a normal tag is Ok
         ensures taken_out { IsNone script.entry → IsOk result }
+        // law: removing a part does not shrink the room of the `String`
+        ensures room_kept { IsNone script.entry → string_capacity (normal_lang_tag_buf_string self.old) ≤ string_capacity (normal_lang_tag_buf_string self.new) }
         // law: setting the old part again restores the old text
         ensures set_back { GivesBack (Option (List ℕ)) with_script (λ r. SetsScript r.script) }
     {
@@ -281,6 +283,7 @@ impl NormalLangTagBuf {
         ensures unchanged { OnErr result (self.new ≡ self.old) }
         ensures comes_back { OnOk result (ComesBack (λ new old. with_region new old.region) (normal_lang_tag_buf_text self.old) (normal_lang_tag_buf_text self.new)) }
         ensures taken_out { IsNone region.entry → IsOk result }
+        ensures room_kept { IsNone region.entry → string_capacity (normal_lang_tag_buf_string self.old) ≤ string_capacity (normal_lang_tag_buf_string self.new) }
         ensures set_back { GivesBack (Option (List ℕ)) with_region (λ r. SetsRegion r.region) }
     {
         self.put(alloc, Part::Region(region))
@@ -307,6 +310,7 @@ impl NormalLangTagBuf {
         ensures unchanged { OnErr result (self.new ≡ self.old) }
         ensures comes_back { OnOk result (ComesBack (λ new old. with_variants new old.variants) (normal_lang_tag_buf_text self.old) (normal_lang_tag_buf_text self.new)) }
         ensures taken_out { variants_text variants.entry ≡ [] → IsOk result }
+        ensures room_kept { variants_text variants.entry ≡ [] → string_capacity (normal_lang_tag_buf_string self.old) ≤ string_capacity (normal_lang_tag_buf_string self.new) }
         ensures set_back { GivesBack (List (List ℕ)) with_variants (λ r. SetsVariants (variants_part r)) }
     {
         self.put(alloc, Part::Variants(variants))
@@ -337,6 +341,7 @@ impl NormalLangTagBuf {
         ensures unchanged { OnErr result (self.new ≡ self.old) }
         ensures comes_back { OnOk result (ComesBack (λ new old. with_extensions new old.extensions) (normal_lang_tag_buf_text self.old) (normal_lang_tag_buf_text self.new)) }
         ensures taken_out { extensions_text extensions.entry ≡ [] → IsOk result }
+        ensures room_kept { extensions_text extensions.entry ≡ [] → string_capacity (normal_lang_tag_buf_string self.old) ≤ string_capacity (normal_lang_tag_buf_string self.new) }
         ensures set_back { GivesBack (List Extension) with_extensions (λ r. SetsExtensions (extensions_part r)) }
     {
         self.put(alloc, Part::Extensions(extensions))
@@ -367,6 +372,7 @@ impl NormalLangTagBuf {
         ensures unchanged { OnErr result (self.new ≡ self.old) }
         ensures comes_back { OnOk result (ComesBack (λ new old. with_private_use new old.private_use) (normal_lang_tag_buf_text self.old) (normal_lang_tag_buf_text self.new)) }
         ensures taken_out { IsNone private_use.entry → IsOk result }
+        ensures room_kept { IsNone private_use.entry → string_capacity (normal_lang_tag_buf_string self.old) ≤ string_capacity (normal_lang_tag_buf_string self.new) }
         ensures set_back { GivesBack (Option model.PrivateUse) with_private_use (λ r. SetsPrivateUse (private_use_part r)) }
     {
         self.put(alloc, Part::PrivateUse(private_use))
@@ -376,7 +382,7 @@ impl NormalLangTagBuf {
 #[tactic(auto, using(crate::proofs::EditLaws::part_comes_back, langtag_scan::proofs::SpelledTexts::offsets_kept))]
 impl NormalLangTagBuf {
     ghost use Rattle.langtag.specs.Edit.{SetsPart, ComesBack, with_old_part};
-    ghost use Rattle.langtag.specs.Text.{normal_lang_tag_buf_text, part_text};
+    ghost use Rattle.langtag.specs.Text.{normal_lang_tag_buf_string, normal_lang_tag_buf_text, part_text};
 
     /// Sets a part of the tag, or removes it.
     fn put(&mut self, alloc: Global, part: Part<'_>) -> Result<(), AllocError>
@@ -384,6 +390,7 @@ impl NormalLangTagBuf {
         ensures comes_back { OnOk result (ComesBack (with_old_part part.entry) (normal_lang_tag_buf_text self.old) (normal_lang_tag_buf_text self.new)) }
         ensures unchanged { OnErr result (self.new ≡ self.old) }
         ensures taken_out { part_text part.entry ≡ [] → IsOk result }
+        ensures room_kept { part_text part.entry ≡ [] → string_capacity (normal_lang_tag_buf_string self.old) ≤ string_capacity (normal_lang_tag_buf_string self.new) }
     {
         self.ends = set_part(&mut self.text.0, self.ends, alloc, part)?;
         Ok(())

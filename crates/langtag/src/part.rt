@@ -4,16 +4,15 @@ ghost use Rattle.langtag_scan.specs.Grammar.{replace_range, IsNormal};
 ghost use Rattle.langtag.specs.Edit.{SetsPart};
 ghost use Rattle.langtag.specs.PartPlaces.{part_start, part_end, put_text};
 ghost use Rattle.langtag.specs.Text.{normal_lang_tag_text, part_text};
-ghost use Rattle.langtag_output.specs.Writes.{Writes};
+ghost use Rattle.langtag_text.specs.Writes.{Writes};
 
 use crate::normal_lang_tag::NormalLangTag;
-use langtag_edit::Replacement;
 use langtag_extension::Extensions;
 use langtag_language::Language;
-use langtag_output::write_pieces;
 use langtag_place::{Region, Script, Variants};
 use langtag_private::PrivateUse;
 use langtag_scan::Ends;
+use langtag_text::{Replacement, write_pieces};
 
 /// A part of a normal tag (RFC 5646 section 2.1), as an argument of [`put_part`].
 ///

@@ -1,13 +1,11 @@
 //! The only file in which this crate calls a recogniser.
 ghost use Rattle.std.specs.Prelude.{MatchOption};
-ghost use Rattle.langtag_scan.specs.Grammar.{HasEnds, IsNormal, IsTag};
-ghost use Rattle.langtag_recogniser.specs.Definitions.{IsFoundOf, finding};
+ghost use Rattle.langtag_scan.specs.Grammar.{HasEnds, IsFoundOf, finding, IsNormal, IsTag};
 ghost use Rattle.langtag.specs.Recognised.{finding_of};
 
 use crate::grandfathered::GrandfatheredLangTag;
 use crate::recognised::Recognised;
-use langtag_recogniser::{Found, Metered, recognise};
-use langtag_scan::Ends;
+use langtag_scan::{Ends, Found, Metered, recognise};
 
 /// Returns what the recogniser finds in bytes, or `None` if they are not a tag.
 ///
@@ -42,7 +40,7 @@ pub(crate) fn recognise_text(text: &str) -> Option<Recognised>
 }
 
 /// Returns where the parts of a normal tag end, or `None` if the string is not a normal tag.
-#[tactic(auto, using(langtag_recogniser::proofs::FoundLaws::found_ends, langtag_scan::proofs::TagLaws::tag_normal))]
+#[tactic(auto, using(langtag_scan::proofs::FoundLaws::found_ends, langtag_scan::proofs::TagLaws::tag_normal))]
 pub(crate) fn normal_ends(text: &str) -> Option<Ends>
     ensures { MatchOption result (IsNormal text.now → ⊥) (λ ends. HasEnds text.now ends) }
 {

@@ -1,6 +1,6 @@
 //! What a tag stores about its text.
 ghost use Rattle.std.specs.Prelude.{◌≡◌};
-ghost use Rattle.langtag_recogniser.specs.Definitions.{is_normal, is_private_use, normal_ends};
+ghost use Rattle.langtag_scan.specs.Grammar.{is_normal, is_private_use, normal_ends};
 ghost use Rattle.langtag.specs.Recognised.{finding_of};
 
 use crate::grandfathered::GrandfatheredLangTag;

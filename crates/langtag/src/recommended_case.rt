@@ -1,9 +1,9 @@
 //! The string of a tag in its recommended case.
 ghost use Rattle.std.specs.Prelude.{◌≡◌, IsAscii, string_bytes};
 ghost use Rattle.langtag_scan.specs.Prelude.{string_vec, SameBlock};
-ghost use Rattle.langtag_case.specs.RecommendedCase.{recommended_text};
+ghost use Rattle.langtag_text.specs.RecommendedCase.{recommended_text};
 
-use langtag_case::make_recommended_case;
+use langtag_text::make_recommended_case;
 use std::mem;
 
 /// Changes an ASCII text to its recommended case, in place.

@@ -2,12 +2,12 @@
 use Rattle.langtag_scan.proofs.Prelude.{arith, ◌≡◌, ◌∙◌, ℕ, Option, Some, List, [], ◌++◌, slice_get, ap, append_assoc, append-nil, subst, codes}
 use Rattle.langtag_scan.specs.Grammar.{EachRecord, IsTag, IsNormal}
 use Rattle.std.specs.Io.KnownBytes.{Appends}
-use Rattle.langtag_scan.proofs.TextLaws.{normal_no_private, normal_no_irregular, tag_private, tag_of_irregular}
+use Rattle.langtag_scan.proofs.Laws.{normal_no_private, normal_no_irregular, tag_private, tag_of_irregular}
 use Rattle.langtag_lines.specs.Lines.{ended}
-use Rattle.langtag_canonical.specs.Canonical.{IsCanonicalForm}
-use Rattle.langtag_validity.specs.Fault.{Told, faults}
-use Rattle.langtag_fields.specs.Valid.{IsValid}
-use Rattle.langtag_validity.proofs.FaultLaws.{valid_of_other}
+use Rattle.langtag_registry.specs.Canonical.{IsCanonicalForm}
+use Rattle.langtag_registry.specs.Fault.{Told, faults}
+use Rattle.langtag_registry.specs.Valid.{IsValid}
+use Rattle.langtag_registry.proofs.FaultLaws.{valid_of_other}
 use Rattle.langtag_answers.specs.CheckAnswer.{fault_text, IsCheckAnswer, valid, invalid}
 
 -- the pieces of the answer to a tag that is not valid

@@ -1,9 +1,9 @@
 -- The answer to a line: whether it is a valid tag, the first fault if it is not, and its canonical form.
 use Rattle.std.specs.Prelude.{◌≡◌, ℕ, Some, List, ◌++◌, slice_get, codes}
 use Rattle.langtag_scan.specs.Grammar.{Record, Spells, IsTag}
-use Rattle.langtag_canonical.specs.Canonical.{IsCanonicalForm}
-use Rattle.langtag_validity.specs.Fault.{Told, faults, language, extlang, second_extlang, script, region, variant, repeated_variant, repeated_singleton}
-use Rattle.langtag_fields.specs.Valid.{IsValid}
+use Rattle.langtag_registry.specs.Canonical.{IsCanonicalForm}
+use Rattle.langtag_registry.specs.Fault.{Told, faults, language, extlang, second_extlang, script, region, variant, repeated_variant, repeated_singleton}
+use Rattle.langtag_registry.specs.Valid.{IsValid}
 
 -- the word for a fault, and then the subtag as it is written in the tag
 abbrev pub fault_text : Told → List ℕ

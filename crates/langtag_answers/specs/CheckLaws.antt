@@ -6,8 +6,8 @@ use Rattle.langtag_scan.specs.Grammar.{Record, Spells, IsTag}
 use Rattle.langtag_scan.proofs.NormalTexts.{spelled_once}
 use Rattle.langtag_scan.proofs.SpelledTexts.{normal_spelled}
 use Rattle.langtag_scan.proofs.TagLaws.{tag_normal}
-use Rattle.langtag_validity.specs.Fault.{Told, faults}
-use Rattle.langtag_fields.specs.Valid.{IsValid}
+use Rattle.langtag_registry.specs.Fault.{Told, faults}
+use Rattle.langtag_registry.specs.Valid.{IsValid}
 use Rattle.langtag_canonical.proofs.OneForm.{one_form}
 use Rattle.langtag_answers.specs.CheckAnswer.{fault_text, IsCheckAnswer, valid, invalid, refused}
 

@@ -1,7 +1,8 @@
 //! The answer to one line.
 ghost use Rattle.std.specs.Prelude.{◌≡◌, ◌++◌, OnOk, IsOkUnless, codes};
 ghost use Rattle.langtag_scan.specs.Prelude.{Appends, append_known};
-ghost use Rattle.langtag_validity.specs.Fault.{told};
+ghost use Rattle.langtag_scan.specs.Grammar.{IsTag};
+ghost use Rattle.langtag_registry.specs.Fault.{told};
 ghost use Rattle.langtag_lines.specs.Lines.{ended};
 ghost use Rattle.langtag_answers.specs.CheckLaws.{one_check_answer};
 ghost use Rattle.langtag_answers.specs.CheckAnswer.{IsCheckAnswer, fault_text};
@@ -27,6 +28,8 @@ pub struct Check {
 
 impl Answerer for Check {
     ghost is_answer = { IsCheckAnswer };
+
+    ghost takes_memory = { IsTag };
 
     fn put_answer<W: Write>(
         &self,

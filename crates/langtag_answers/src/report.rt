@@ -1,5 +1,6 @@
 //! A run: reads the input, and writes the answer to each line.
-ghost use Rattle.langtag_lines.specs.Report.{HasRun};
+ghost use Rattle.std.specs.Prelude.{⊤};
+ghost use Rattle.langtag_lines.specs.Report.{HasRun, IsWanting};
 ghost use Rattle.langtag_answers.specs.ShowAnswer.{IsShowAnswer};
 
 use crate::show::Show;
@@ -19,7 +20,7 @@ pub use langtag_lines::RunError as ShowError;
 /// interruption, and if the input has not ended after 2^64 - 1 reads. Returns `Write` if `write_all` or the flush
 /// fails.
 pub fn run<R: Read, W: Write>(alloc: Global, input: &mut R, output: &mut W) -> Result<(), ShowError>
-    ensures report { HasRun IsShowAnswer result (R.remaining input.old) (R.remaining input.new) (W.contents output.old) (W.contents output.new) }
+    ensures report { HasRun IsShowAnswer (IsWanting (λ held more. ⊤) (λ line. ⊥)) result (R.remaining input.old) (R.remaining input.new) (W.contents output.old) (W.contents output.new) }
 {
     answer_lines(alloc, &Show, input, output)
 }

@@ -21,6 +21,8 @@ pub struct Show;
 impl Answerer for Show {
     ghost is_answer = { IsShowAnswer };
 
+    ghost takes_memory = { λ line. ⊥ };
+
     fn put_answer<W: Write>(
         &self,
         line: &[u8],

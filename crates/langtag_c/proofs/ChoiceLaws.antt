@@ -1,19 +1,20 @@
 -- What is said of the best tag for a reader, of the range that it serves, and of tags that are prepared.
 use Rattle.langtag_scan.proofs.Prelude.{◌≡◌, ℕ, ◌<◌, ◌≤◌, List, length, Option, None, Some, unwrap_or, sym, subst, arith, true, false, true≢false, Bool, not, ◌||◌, Bor, [], ◌∷◌, get_or, option_map, refl, ap, ◌∙◌, slice_get, common_steps, length-map, get_or-map, slice_get_within, slice_get-map, and_parts, nat_tests, list_all, IfSome}
-use Rattle.langtag_range.specs.Definitions.{Element, items, wanted_elements}
+use Rattle.langtag_match.specs.Definitions.{Element, items, wanted_elements}
 use Rattle.langtag_choice.specs.Best.{IsChoice, IsMatchOf, Pair}
 use Rattle.langtag_choice.specs.Suitable.{AreSuitable}
-use Rattle.langtag_span.specs.RangePlaces.{IsRangeAt, range_count}
-use Rattle.langtag_span.specs.Spans.{empty_at, HasBytes, has_bytes, span_text}
-use Rattle.langtag_span.specs.TagsAt.{tags_at, tag_at}
-use Rattle.langtag_span.specs.declared.span.Span.{Span}
-use Rattle.langtag_span.proofs.LookUps.{length_wanted, placed}
-use Rattle.langtag_span.proofs.TagsAt.{are_tags_at, bytes_from_test}
+use Rattle.langtag_c.specs.RangePlaces.{IsRangeAt, range_count}
+use Rattle.langtag_c.specs.Spans.{empty_at, HasBytes, has_bytes, span_text}
+use Rattle.langtag_c.specs.TagsAt.{tags_at, tag_at}
+use Rattle.langtag_c.specs.declared.span.Span.{Span}
+use Rattle.langtag_c.proofs.LookUps.{length_wanted, placed}
+use Rattle.langtag_c.proofs.TagsAt.{are_tags_at, bytes_from_test}
 use Rattle.langtag_c.specs.Choice.{AreBest, IsBest, IsMatchAt, no_match}
 use Rattle.langtag_c.specs.declared.best_match.BestMatch.{BestMatch}
-use Rattle.langtag_distance.specs.Prepared.{is_prepared_for}
+use Rattle.langtag_choice.specs.Prepared.{is_prepared_for}
+use Rattle.langtag_c.specs.Site as site
 use Rattle.langtag_c.specs.Site.{ArePrepared, IsCurrentAt, current_tag_at, current_tags_at, is_current, spans_of}
-use Rattle.langtag_distance.specs.declared.prepared_form.PreparedForm.{PreparedForm}
+use Rattle.langtag_choice.specs.declared.prepared_form.PreparedForm.{PreparedForm}
 use Rattle.langtag_c.specs.declared.prepare.PreparedTag.{PreparedTag}
 use Rattle.langtag_choice.specs.declared.best_match.BestMatch as choice
 
@@ -54,10 +55,27 @@ module _ (header text : List ℕ) (spans : List Span) where
       (answer : ℕ) (found : BestMatch) → (Pair (wanted_elements header) (tags_at text spans) → ⊥) → answer ≡ length spans → found ≡ no_match header → IsMatchAt header text spans answer found
   no_match_at answer found none all empty = record { tags = tags_at text spans; are = are_tags_at text spans; chosen = None; is = none; same = (all, empty) }
 
+pub is_match_of :
+    (header : List ℕ) (tags : List (Option (List ℕ))) (m : choice.BestMatch) (o : Option Span) (answer : ℕ) (found : BestMatch) → IsMatchOf (wanted_elements header) tags m → answer ≡ m.index →
+    found.distance ≡ m.distance → (o ≡ None → range_count (items header) ≤ m.place) → IfSome o (IsRangeAt header m.place) → found.range ≡ unwrap_or o (empty_at (length header)) →
+    site.IsMatchOf header tags answer found
+is_match_of header tags m o answer found is index distance none some range =
+    let inside = slice_get_within (wanted_elements header) is.pair.place is.pair.element is.pair.wanted in
+    let within : m.place < range_count (items header) = omega (arith, inside, is.place, length_wanted (items header)) in
+    record {
+      chosen = Some m;
+      is = is;
+      same = (index, distance, subst (IsRangeAt header m.place) (sym range) (placed header m.place o (empty_at (length header)) within none some));
+    }
+
 -- ---- an entry
 
 pub current_count : (text : List ℕ) (tags : List PreparedTag) → length (current_tags_at text tags) ≡ length tags
 current_count text tags = length-map tags (current_tag_at text)
+
+pub best_counted :
+    (text : List ℕ) (tags : List PreparedTag) (chosen : Option ℕ) (answer : ℕ) → answer ≡ unwrap_or chosen (length tags) → answer ≡ unwrap_or chosen (length (current_tags_at text tags))
+best_counted text tags chosen answer is = is ∙ ap (unwrap_or chosen) (sym (current_count text tags))
 
 -- the entry at an index
 pub current_entry :

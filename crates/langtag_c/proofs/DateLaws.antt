@@ -1,7 +1,7 @@
 -- The number of a date, digit by digit.
 use Rattle.langtag_scan.proofs.Prelude.{◌≡◌, ℕ, ◌+◌, ◌-◌, ◌*◌, ◌<◌, ◌≤◌, true, false, ltb, List, [], ◌∷◌, drop, length, fold, get_or, refl, ◌∙◌, arith, ltb-true, at_drop_more, nat_tests, filter}
 use Rattle.langtag_scan.specs.Grammar.{is_digit}
-use Rattle.langtag_fields.specs.declared.tables.TheConstants.{FILE_DATE}
+use Rattle.langtag_registry.specs.tables.TheConstants.{FILE_DATE}
 use Rattle.langtag_c.specs.Answers.{digits_number}
 
 -- what a number becomes by the digits of a text that follow it

@@ -2,14 +2,13 @@
 use Rattle.langtag_scan.proofs.Prelude.{ℕ, List, arith, ◌≡◌, false, IsTrue, ◌+◌, length, min, ◌-◌, [], take, unwrap_or, ap, ◌∙◌, nat_tests, eqb_tells}
 use Rattle.langtag_scan.specs.Grammar.{IsNormal, IsPrivate, IsIrregular, IsTag, IsStop, IsViableLength, HasEnds, EachRecord}
 use Rattle.langtag.proofs.KeptFound.{one_kind}
-use Rattle.langtag_scan.proofs.TextLaws.{tag_normal, tag_private, tag_of_irregular, stop_at, normal_no_private, ends_each, ends_ordered, ends_whole, normal_from_ends, normal_spelled}
-use Rattle.langtag_recogniser.proofs.FoundLaws.{normal_found, private_found, tag_found}
+use Rattle.langtag_scan.proofs.Laws.{tag_normal, tag_private, tag_of_irregular, stop_at, normal_found, private_found, tag_found, normal_no_private, ends_each, ends_ordered, ends_whole, normal_from_ends, normal_spelled}
 use Rattle.langtag_c.specs.Answers.{IsKind, IsRangeKind}
-use Rattle.langtag_range.specs.Range.{is_language_range, is_basic_range}
-use Rattle.langtag_range.proofs.BasicForms.{basic_ranges}
+use Rattle.langtag_match.specs.Range.{is_language_range, is_basic_range}
+use Rattle.langtag_match.proofs.BasicForms.{basic_ranges}
 use Rattle.langtag_scan.specs.declared.ends.Ends.{Ends}
 use Rattle.langtag.proofs.PartRules.{language_found, script_found, region_found, variants_found, extensions_found, private_use_found}
-use Rattle.langtag_span.proofs.FoundExtension.{between_text}
+use Rattle.langtag_c.proofs.FoundExtension.{between_text}
 use Rattle.langtag_c.specs.PartSpans.{spans_at, ArePartsOf}
 
 pub kind_none : (t : List ℕ) → (IsTag t → ⊥) → IsKind t 0

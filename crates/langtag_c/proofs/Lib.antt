@@ -2,3 +2,9 @@ mod DateLaws
 mod ChoiceLaws
 mod KindLaws
 mod WrittenTexts
+mod ExtensionSpans
+mod FoundExtension
+mod LookUps
+mod TagsAt
+mod TagLengths
+mod PlaceLaws

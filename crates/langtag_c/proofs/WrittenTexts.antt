@@ -1,17 +1,16 @@
 -- What is written for a caller: it is not empty where a text is due, and what is cut out of a text is UTF-8.
-use Rattle.langtag_scan.proofs.Prelude.{◌≡◌, ℕ, ◌+◌, ◌≤◌, true, List, [], ◌∷◌, leb, length, Option, None, refl, arith, ◌↔◌, Some, unwrap_or, sym, subst, ◌∙◌, inl, and_parts, false≢true, false_from_ne_true, IsUtf8-from_ascii, IsAscii-nil, IsAscii-cons, AllByRecursion, nat_tests, IsUtf8, IfSome, MatchOption}
-use Rattle.langtag_output.specs.Form.{IsForm}
-use Rattle.langtag_output.specs.Writes.{Writes}
-use Rattle.langtag_scan.proofs.TextLaws.{alphanumeric_below, IsAscii-each, length-join, IsSubtag, of_extension_subtag, of_primary, of_region, join-subtags}
+use Rattle.langtag_scan.proofs.Prelude.{◌≡◌, ℕ, ◌+◌, ◌≤◌, true, List, [], ◌∷◌, leb, length, Option, None, refl, arith, ◌↔◌, Some, unwrap_or, sym, subst, and_parts, false≢true, false_from_ne_true, IsUtf8-from_ascii, IsAscii-nil, IsAscii-cons, AllByRecursion, nat_tests, IsUtf8, IfSome, MatchOption}
+use Rattle.langtag.specs.Form.{IsForm}
+use Rattle.langtag_text.specs.Writes.{Writes}
+use Rattle.langtag_scan.proofs.Laws.{alphanumeric_below, IsAscii-each, length-join, IsSubtag, of_extension_subtag, of_primary, of_region, join-subtags}
 use Rattle.langtag_scan.specs.Grammar.{is_alphanumeric, is_extension_subtag, is_letter, is_primary, is_region, subtags, IsNormal, IsTag}
 use Rattle.langtag_keyword.specs.Edit.{edited_record, invalid_type, invalid_type_from, is_unicode_key, keyword_error}
-use Rattle.langtag_span.proofs.TagLengths.{IsUtf8-joined, some_tag}
-use Rattle.langtag_output.specs.WritesWhole.{WritesWhole}
-use Rattle.langtag_canonical.specs.Canonical.{IsCanonicalForm}
+use Rattle.langtag_c.proofs.TagLengths.{IsUtf8-joined, some_tag}
+use Rattle.langtag_text.specs.WritesWhole.{WritesWhole}
+use Rattle.langtag_registry.specs.Canonical.{IsCanonicalForm}
 use Rattle.langtag_likely.proofs.Definitions.{IsMaximalForm, IsMinimalForm, maximal_record, minimal_record}
-use Rattle.langtag_posix.proofs.Definitions.{read_place, IsTagOfName, NamesTag, with_said, IsPosixName}
-use Rattle.langtag_range.specs.Locale.{locale_place}
-use Rattle.langtag_output.proofs.FormLaws.{form_is_tag}
+use Rattle.langtag_posix.proofs.Definitions.{text_of_name, IsTagOfName, NamesTag, with_said, IsPosixName}
+use Rattle.langtag.proofs.FormLaws.{form_is_tag}
 use Rattle.langtag_likely.proofs.GoodForms.{maximal_well_formed, minimal_well_formed}
 use Rattle.langtag_posix.proofs.PosixLaws.{said_well_formed}
 use Rattle.langtag_posix.proofs.PosixNameRead.{one_name, some_name}
@@ -23,9 +22,7 @@ use Rattle.langtag_unicode.specs.ExtensionsForm.{IsExtensionsForm}
 use Rattle.langtag_locale.specs.LocaleForm.{IsWholeForm}
 use Rattle.langtag_cldr.specs.Suggestion.{suggested_language, suggested_region}
 use Rattle.langtag_c.specs.Validity.{suggested}
-use Rattle.langtag_parent.specs.Parent.{IsParent}
-use Rattle.langtag_parent.proofs.Cuts.{other_parent}
-use Rattle.langtag_canonical.proofs.CanonicalParts as canonical
+use Rattle.langtag_registry.proofs.CanonicalParts as canonical
 
 -- ---- a key and a value are UTF-8
 
@@ -80,7 +77,7 @@ pub some_extensions : (old new : List ℕ) → IsTag old → IsExtensionsForm ol
 some_extensions old new tag is = some_tag new (form_is_tag extensions_record form_well_formed old new tag is)
 
 pub some_named : (name new : List ℕ) → NamesTag name → IsTagOfName name new → 1 ≤ length new
-some_named name new names is = some_tag new (form_is_tag (with_said name) (said_well_formed name) (read_place (locale_place name)) new names.tag is)
+some_named name new names is = some_tag new (form_is_tag (with_said name) (said_well_formed name) (text_of_name name) new names.tag is)
 
 pub some_locale : (old new : List ℕ) → IsWholeForm old (Some new) → 1 ≤ length new
 some_locale old new is = let (r, fits, locale, same) = whole_of_record old new is in some_tag new (subst IsTag (sym same) (locale_tag r fits locale))
@@ -127,22 +124,3 @@ pub none_suggested : (fault : ℕ) (s : List ℕ) → (IsUtf8 s → ⊥) → sug
 none_suggested fault s other = grind (arith, nat_tests, no_language s other, no_region s other)
 
 pub ruleset utf8_suggested = (none_suggested)
-
--- ---- what is written is the parent, and nothing is written where there is none
-
-pub parent_of_no_tag : (bytes : List ℕ) → (IsTag bytes → ⊥) → IsParent bytes None
-unfolding IsTag
-parent_of_no_tag bytes never = other_parent bytes (λ normal. never (inl normal))
-
-not-both : (tag parent : List ℕ) → IsParent tag (Some parent) → IsParent tag None → ⊥
-unfolding IsNormal
-not-both tag parent some none =
-    let is : Some parent ≡ None = some.absent (λ (r, spells). let same : Some parent ≡ None = some.part r spells ∙ sym (none.part r spells) in absurd cc) in absurd cc
-
-pub no_parent : (tag parent : List ℕ) (result : ℕ) → IsParent tag (Some parent) → 1 ≤ length parent → result ≡ length parent → (result ≡ 0) ↔ IsParent tag None
-no_parent tag parent result some long is = (λ zero. absurd (omega (arith, long, is, zero)), λ none. absurd (not-both tag parent some none))
-
-pub parent_written :
-    (tag parent before after : List ℕ) (len : ℕ) → IsParent tag (Some parent) → Writes (λ new. new ≡ parent) before after len →
-    Writes (λ parent. IsParent tag (Some parent)) before after len
-parent_written tag parent before after len some is = grind arith

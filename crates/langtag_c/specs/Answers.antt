@@ -2,7 +2,7 @@
 use Rattle.std.specs.Prelude.{◌≡◌, ◌↔◌, ℕ, ℤ, pos, negsuc, ◌≤◌, ◌*◌, ◌%◌, ◌^◌, List, fold, filter, ◌+◌, ◌-◌, Bool, false, IsTrue, if◌then◌else◌, Option, None, Some, bit_xor}
 use Rattle.langtag_scan.specs.Prelude.{Ordering, Less, Equal, Greater}
 use Rattle.langtag_scan.specs.Grammar.{fold_byte, is_digit, IsNormal, IsPrivate, IsIrregular, IsTag}
-use Rattle.langtag_range.specs.Definitions.{is_language_range, is_basic_range}
+use Rattle.langtag_match.specs.Definitions.{is_language_range, is_basic_range}
 
 -- the number for the kind of a text: 1 for a normal tag, 2 for private use, 3 for an irregular tag, and 0 for a text
 -- that is not a tag

@@ -1,13 +1,13 @@
 -- The best of the tags in spans of a text, for a reader.
 use Rattle.std.specs.Prelude.{◌≡◌, ◌-◌, ◌^◌, ℕ, List, Option, MatchOption, length, unwrap_or}
-use Rattle.langtag_range.specs.Definitions.{Element, wanted_elements}
+use Rattle.langtag_match.specs.Definitions.{Element, wanted_elements}
 use Rattle.langtag_choice.specs.Best.{IsChoice, IsMatch}
 use Rattle.langtag_choice.specs.Suitable.{AreSuitable}
 use Rattle.langtag_choice.specs.declared.best_match.BestMatch as choice
-use Rattle.langtag_span.specs.RangePlaces.{IsRangeAt}
-use Rattle.langtag_span.specs.Spanned.{AreTagsAt}
-use Rattle.langtag_span.specs.Spans.{empty_at}
-use Rattle.langtag_span.specs.declared.span.Span.{Span}
+use Rattle.langtag_c.specs.RangePlaces.{IsRangeAt}
+use Rattle.langtag_c.specs.Spanned.{AreTagsAt}
+use Rattle.langtag_c.specs.Spans.{empty_at}
+use Rattle.langtag_c.specs.declared.span.Span.{Span}
 use Rattle.langtag_c.specs.declared.best_match.BestMatch.{BestMatch}
 
 -- the answer is the index of the best tag for these elements, or the number of spans if no tag is suitable

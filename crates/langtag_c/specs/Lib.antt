@@ -4,3 +4,14 @@ pub mod PartSpans
 pub mod Setting
 pub mod Site
 pub mod Validity
+pub mod Heaviest
+pub mod Keywords
+pub mod LookUp
+pub mod Members
+pub mod Negotiation
+pub mod NumberedParts
+pub mod RangePlaces
+pub mod Spanned
+pub mod Spans
+pub mod TagsAt
+pub mod Walks

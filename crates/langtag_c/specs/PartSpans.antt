@@ -2,7 +2,7 @@
 use Rattle.std.specs.Prelude.{◌≡◌, ℕ, List, [], unwrap_or}
 use Rattle.langtag_scan.specs.Grammar.{language_part, variants_part, extensions_part, private_use_part, Record}
 use Rattle.langtag_scan.specs.declared.ends.Ends.{Ends}
-use Rattle.langtag_span.specs.Spans.{IsWithin, empty_at, span_between, span_text}
+use Rattle.langtag_c.specs.Spans.{IsWithin, empty_at, span_between, span_text}
 use Rattle.langtag_c.specs.declared.parse.Parts.{Parts}
 use Rattle.langtag_c.specs.declared.repeats.Repeated.{Repeated}
 

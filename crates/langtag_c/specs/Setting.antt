@@ -3,7 +3,7 @@
 use Rattle.std.specs.Prelude.{◌≡◌, ℕ, ◌+◌, List, length, [], None}
 use Rattle.langtag_scan.specs.Grammar.{subtags, IsNormal}
 use Rattle.langtag_keyword.specs.Edit.{keyword_error}
-use Rattle.langtag_span.specs.NumberedParts.{IsPartText}
+use Rattle.langtag_c.specs.NumberedParts.{IsPartText}
 
 -- the tag is a normal tag, and the text is a text of the part with the number
 abbrev pub CanSet : ℕ → List ℕ → List ℕ → Type 0

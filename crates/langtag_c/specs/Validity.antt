@@ -1,11 +1,11 @@
 -- The fault of an invalid tag: its kind as a number, and its position as a span (RFC 5646 section 2.2.9).
 use Rattle.std.specs.Prelude.{ℕ, ◌+◌, ◌==◌, List, length, Option, None, if◌then◌else◌, unwrap_or}
 use Rattle.langtag_scan.specs.Grammar.{ends_of, Record}
-use Rattle.langtag_validity.specs.Fault.{Told, fault_index, language, extlang, second_extlang, script, region, variant, repeated_variant, repeated_singleton}
+use Rattle.langtag_registry.specs.Fault.{Told, fault_index, language, extlang, second_extlang, script, region, variant, repeated_variant, repeated_singleton}
 use Rattle.langtag_cldr.specs.Definitions.{suggested_language, suggested_region}
-use Rattle.langtag_span.specs.Members.{member_span, singleton_place, variant_place}
-use Rattle.langtag_span.specs.Spans.{empty_at, span_between}
-use Rattle.langtag_span.specs.declared.span.Span.{Span}
+use Rattle.langtag_c.specs.Members.{member_span, singleton_place, variant_place}
+use Rattle.langtag_c.specs.Spans.{empty_at, span_between}
+use Rattle.langtag_c.specs.declared.span.Span.{Span}
 
 -- the number for a fault; 0 means that a text is not a tag, and 1 means that it is valid
 abbrev pub number_of : Told → ℕ

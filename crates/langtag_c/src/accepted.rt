@@ -1,14 +1,15 @@
 //! A walk over the elements of an Accept-Language header (RFC 9110 section 12.5.4), without allocating.
 ghost use Rattle.std.specs.Prelude.{◌≡◌, ◌↔◌, ◌≤◌, [], is_some, filter_map};
 ghost use Rattle.langtag_scan.specs.Prelude.{list_all};
-ghost use Rattle.langtag_header.specs.AcceptLanguage as spec;
-ghost use Rattle.langtag_range.specs.Definitions.{element, items};
-ghost use Rattle.langtag_header.specs.declared.accept_language_error.ElementPart.TheVariants.{Range, Weight};
-ghost use Rattle.langtag_span.specs.Negotiation.{TakesBad, TakesElement, filled_items};
-ghost use Rattle.langtag_span.specs.Spans.{HasBytes, span_text};
+ghost use Rattle.langtag_match.specs.AcceptLanguage as spec;
+ghost use Rattle.langtag_match.specs.Definitions.{element, items};
+ghost use Rattle.langtag_match.specs.accept_language_error.ElementPart.TheVariants.{Range, Weight};
+ghost use Rattle.langtag_c.specs.Negotiation.{TakesBad, TakesElement, filled_items};
+ghost use Rattle.langtag_c.specs.Spans.{HasBytes, span_text};
 
-use langtag_header::element_at;
-use langtag_span::{Span, next_item, number_of};
+use crate::items::{next_item, number_of};
+use crate::span::Span;
+use langtag_match::element_at;
 
 /// Removes the first element from `rest`, which is the value of an Accept-Language header or the rest of it (RFC 9110
 /// section 12.5.4). Returns an enum `langtag_accepted_answer`. Empty elements are skipped.
@@ -33,7 +34,7 @@ use langtag_span::{Span, next_item, number_of};
 ///
 /// Returns `LANGTAG_ACCEPTED_END` if and only if only empty elements are left, or `rest` reaches beyond the string, and
 /// then writes nothing.
-#[tactic(auto, using(langtag_span::proofs::LookUps::same_elements, langtag_span::proofs::LookUps::same_good))]
+#[tactic(auto, using(crate::proofs::LookUps::same_elements, crate::proofs::LookUps::same_good))]
 #[unsafe(no_mangle)]
 pub extern "C" fn langtag_next_accepted(
     bytes: &[u8],

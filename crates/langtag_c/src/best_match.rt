@@ -1,11 +1,12 @@
 //! The best tag for a reader, with the range that it serves and its distance from that range.
 ghost use Rattle.std.specs.Prelude.{◌≤◌, length};
-ghost use Rattle.langtag_range.specs.Definitions.{wanted_elements};
+ghost use Rattle.langtag_match.specs.Definitions.{wanted_elements};
 ghost use Rattle.langtag_c.specs.Choice.{IsBest, IsMatchAt};
 
+use crate::range_place::range_at;
+use crate::span::Span;
 use crate::spanned_tags::SpannedTags;
 use langtag_choice::match_among;
-use langtag_span::{Span, range_at};
 
 /// The range of a header that the best tag serves, and the distance from the range to the tag.
 #[repr(C)]

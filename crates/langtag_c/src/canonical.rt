@@ -1,15 +1,15 @@
 //! The canonical form of a tag, in the caller's buffer (RFC 5646 section 4.5).
 ghost use Rattle.std.specs.Prelude.{◌≡◌, ◌↔◌, ◌<◌, length, true};
 ghost use Rattle.langtag_scan.specs.Grammar.{IsTag};
-ghost use Rattle.langtag_canonical.specs.Canonical.{IsCanonicalForm};
+ghost use Rattle.langtag_registry.specs.Canonical.{IsCanonicalForm};
 ghost use Rattle.langtag.specs.Definitions.{WritesWhole};
 
+use crate::tag::tag_of;
 use langtag_registry::{is_canonical, write_canonical};
-use langtag_span::tag_of;
 
 /// Writes the canonical form of a tag to `buffer` (RFC 5646 section 4.5), and returns its length: iw becomes he, zh-yue
-/// becomes yue, art-lojban becomes jbo, en-b-ccc-a-aaa becomes en-a-aaa-b-ccc. The registry is that of
-/// `langtag_registry_date`.
+/// becomes yue, art-lojban becomes jbo, en-b-ccc-a-aaa becomes en-a-aaa-b-ccc. It uses the registry whose
+/// date `langtag_registry_date` returns.
 ///
 /// ```c
 /// char buffer[64];

@@ -1,15 +1,16 @@
 //! The best tag for a reader, and the distance of two tags (UTS #35, part 1, section 'Language Matching').
 ghost use Rattle.std.specs.Prelude.{◌≡◌, ◌↔◌, ◌-◌, ◌^◌, ◌≤◌, length};
 ghost use Rattle.langtag_scan.specs.Grammar.{IsTag};
-ghost use Rattle.langtag_range.specs.Definitions.{wanted_elements};
-ghost use Rattle.langtag_distance.specs.Distance.{distance_of_texts};
+ghost use Rattle.langtag_match.specs.Definitions.{wanted_elements};
+ghost use Rattle.langtag_choice.specs.Distance.{distance_of_texts};
 ghost use Rattle.langtag_c.specs.Choice.{IsBest};
-ghost use Rattle.langtag_span.specs.Spanned.{ranges_at};
+ghost use Rattle.langtag_c.specs.Spanned.{ranges_at};
 
+use crate::span::Span;
 use crate::spanned_ranges::SpannedRanges;
 use crate::spanned_tags::SpannedTags;
+use crate::tag::tag_of;
 use langtag_choice::{best_among, distance};
-use langtag_span::{Span, tag_of};
 
 /// The result if one of the two strings is not a tag.
 const NO_DISTANCE: u32 = u32::MAX;
@@ -47,9 +48,10 @@ pub extern "C" fn langtag_distance(desired: &[u8], supported: &[u8]) -> u32
 /// Ranges are tried in order of weight. The first range with a tag at a distance below 16 wins, and its nearest tag is
 /// chosen (`langtag_distance`). If there is no such range, the limit is 50, and after that, lookup is tried (RFC 4647
 /// section 3.4). A tag whose longest matching range has the weight 0 is not chosen. A range "*" chooses nothing, so the
-/// program's default is used. Among tags at the same distance, the best is the tag for which lookup removes the fewest
-/// subtags from the range, then a tag with the most likely region of its language, then one of CLDR's paradigm locales,
-/// such as es-419, then the first in the list. So list the tags in the order that you prefer.
+/// program's default is used. Among tags at the same distance, the best has the most variants of the range. If several have
+/// as many, it is the tag for which lookup removes the fewest subtags from the range, then a tag with the most likely region
+/// of its language, then one of CLDR's paradigm locales, such as es-419, then the first in the list. So list the tags in the
+/// order that you prefer.
 ///
 /// Malformed elements are read leniently: _ is read as a hyphen, everything after ., @ or _# is dropped, and a weight
 /// that is not a number counts as 1.
@@ -70,7 +72,7 @@ pub extern "C" fn langtag_best_for_header(header: &[u8], bytes: &[u8], tags: &[S
 
 /// Returns the index of the best tag for a list of language ranges, in order of preference, or `tags_len` if none is
 /// suitable. The ranges are spans of one string, and the tags are spans of another. The choice is that of
-/// `langtag_best_for_header` if all ranges have the same weight.
+/// `langtag_best_for_header` if all ranges have the same weight. Only a header skips extended ranges, such as de-*.
 ///
 /// A range is read as in a header: zh_TW.UTF-8 is read as zh-TW, and sr_RS@latin as sr-RS. Call `langtag_from_posix`
 /// first for the names in LANG and LANGUAGE. An extended range is read without its *: zh-*-Hant is read as zh-Hant. A

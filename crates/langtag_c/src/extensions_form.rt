@@ -4,7 +4,7 @@ ghost use Rattle.langtag_scan.specs.Grammar.{IsTag};
 ghost use Rattle.langtag.specs.Definitions.{WritesWhole};
 ghost use Rattle.langtag_unicode.specs.ExtensionsForm.{IsExtensionsForm};
 
-use langtag_span::tag_of;
+use crate::tag::tag_of;
 use langtag_unicode::write_extensions_form;
 
 /// Writes a tag with its extensions u and t in canonical form to `buffer` (UTS #35, part 1, Annex C), and returns its

@@ -1,11 +1,11 @@
 //! The fallbacks of a language range in a lookup (RFC 4647 section 3.4), without allocating.
 ghost use Rattle.std.specs.Prelude.{◌≡◌, ◌<◌, ◌∷◌, IsTrue, false};
-ghost use Rattle.langtag_range.specs.Definitions.{fallbacks};
-ghost use Rattle.langtag_span.specs.Negotiation.{later_fallbacks};
-ghost use Rattle.langtag_span.specs.Spans.{HasBytes, span_text};
+ghost use Rattle.langtag_match.specs.Definitions.{fallbacks};
+ghost use Rattle.langtag_c.specs.Negotiation.{later_fallbacks};
+ghost use Rattle.langtag_c.specs.Spans.{HasBytes, span_text};
 
+use crate::span::Span;
 use langtag_range::shortened_len;
-use langtag_span::Span;
 
 /// Shortens `rest` to its next fallback in a lookup (RFC 4647 section 3.4); for a catalogue of strings, call
 /// `langtag_parent` instead. It removes the last subtag, and each subtag of one byte that would then be last. Begin with

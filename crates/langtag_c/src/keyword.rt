@@ -4,11 +4,12 @@ ghost use Rattle.langtag_scan.specs.Grammar.{EachRecord, join, IsNormal};
 ghost use Rattle.langtag.specs.Definitions.{PartOf};
 ghost use Rattle.langtag_keyword.specs.Keywords as spec;
 ghost use Rattle.langtag_c.specs.Answers.{answered};
-ghost use Rattle.langtag_span.specs.Keywords.{keywords_from};
-ghost use Rattle.langtag_span.specs.Spans.{IsWithin, span_text};
+ghost use Rattle.langtag_c.specs.Keywords.{keywords_from};
+ghost use Rattle.langtag_c.specs.Spans.{IsWithin, span_text};
 
+use crate::extension_walk::{before_key, extension_subtags, next_key, value_of};
+use crate::span::Span;
 use langtag_keyword::Keys;
-use langtag_span::{Span, before_key, extension_subtags, next_key, value_of};
 
 /// Returns whether the extension u has a key (RFC 6067 section 2.1), ignoring case, and writes where its value is
 /// (out).

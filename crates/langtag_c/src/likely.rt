@@ -5,9 +5,9 @@ ghost use Rattle.langtag.specs.Definitions.{Writes};
 ghost use Rattle.langtag_likely.specs.Maximal.{IsMaximalForm, IsMinimalForm};
 ghost use Rattle.langtag_cldr.specs.declared.tables.TheConstants.{CLDR_VERSION};
 
+use crate::tag::tag_of;
 use langtag_likely::{CLDR_VERSION, write_maximized, write_minimized};
-use langtag_output::write_text;
-use langtag_span::tag_of;
+use langtag_text::write_text;
 
 /// Writes a tag with its likely subtags to `buffer` (UTS #35, part 1, Add Likely Subtags), and returns its length:
 /// zh-TW becomes zh-Hant-TW, and en and und become en-Latn-US. The data are those of `langtag_cldr_version`. As with

@@ -5,8 +5,8 @@ ghost use Rattle.langtag.specs.Definitions.{PartOf, WritesWhole};
 ghost use Rattle.langtag_locale.specs.Locale.{is_locale_record};
 ghost use Rattle.langtag_locale.specs.LocaleForm.{IsWholeForm};
 
+use crate::tag::tag_of;
 use langtag_locale::{is_locale, write_locale_form};
-use langtag_span::tag_of;
 
 /// Returns whether a string is a Unicode locale identifier (UTS #35, part 1, section "Unicode Locale Identifier"), as
 /// Intl of JavaScript requires: true for de-1996-u-co-phonebk, false for x-a, i-klingon, zh-yue and und-t-m0, which are

@@ -1,13 +1,15 @@
 //! The tag that lookup finds for an Accept-Language header (RFC 9110 section 12.5.4, RFC 4647 section 3.4), without
 //! allocating.
 ghost use Rattle.std.specs.Prelude.{◌≡◌, ◌↔◌, ◌≤◌, IsTrue, length};
-ghost use Rattle.langtag_header.specs.AcceptLanguage.{are_good};
-ghost use Rattle.langtag_range.specs.Definitions.{items};
-ghost use Rattle.langtag_header.specs.declared.accept_language_error.ElementPart.TheVariants.{Range, Weight};
-ghost use Rattle.langtag_span.specs.LookUp.{IsBadAt, IsLookedUp};
-ghost use Rattle.langtag_span.specs.Spans.{empty_at};
+ghost use Rattle.langtag_match.specs.AcceptLanguage.{are_good};
+ghost use Rattle.langtag_match.specs.Definitions.{items};
+ghost use Rattle.langtag_match.specs.accept_language_error.ElementPart.TheVariants.{Range, Weight};
+ghost use Rattle.langtag_c.specs.LookUp.{IsBadAt, IsLookedUp};
+ghost use Rattle.langtag_c.specs.Spans.{empty_at};
 
-use langtag_span::{Span, first_bad, index_for_header, number_of};
+use crate::header_look_up::{first_bad, index_for_header};
+use crate::items::number_of;
+use crate::span::Span;
 
 /// Looks up a tag as `langtag_tag_for_header_lenient` does, but refuses a header with a malformed element. Returns an
 /// enum `langtag_accepted_answer`.

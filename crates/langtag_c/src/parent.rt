@@ -1,53 +1,62 @@
-//! The parent of a tag, in the caller's buffer (UTS #35, part 1, section 'Parent Locales').
-ghost use Rattle.std.specs.Prelude.{◌≡◌, ◌↔◌, ◌≤◌, IfSome, None, Some, length, option_map};
+//! The parents of a tag, in the caller's buffer (UTS #35, part 1, section 'Parent Locales').
+ghost use Rattle.std.specs.Prelude.{◌≡◌, ◌↔◌, ℕ, List, None, slice_get, MatchOption, ⊤};
+ghost use Rattle.langtag_scan.specs.Grammar.{IsTag};
 ghost use Rattle.langtag.specs.Definitions.{Writes};
-ghost use Rattle.langtag_parent.specs.Parent.{IsParent};
+ghost use Rattle.langtag_parent.specs.Chain.{IsChain};
 
-use langtag_output::write_text;
-use langtag_parent::parent;
-use langtag_span::tag_of;
+use crate::tag::tag_of;
+use langtag_parent::nth_parent;
 
 /// Writes the parent of a tag in CLDR to `buffer` (UTS #35, part 1, Parent Locales), and returns its length: pt-PT for
-/// pt-AO, zh-Hant for zh-TW. If a catalogue has no string for a tag, it looks for the parent of the tag next. The data
-/// are those of `langtag_cldr_version`. As with `langtag_canonical`, nothing is written if the buffer is too short.
-///
-/// ```c
-/// char tags[2][64] = {"pt-AO"};
-/// size_t len = 5;
-/// for (int at = 0; len > 0 && len <= sizeof tags[at]; at = !at) {
-///     printf("%.*s ", (int)len, tags[at]); // pt-AO pt-PT pt
-///     len = langtag_parent(tags[at], len, tags[!at], sizeof tags[!at]);
-/// }
-/// ```
-///
-/// A parent is written in the same script, so zh-Hant has none: zh is Simplified. Extensions and private use are
-/// removed first, then each variant, the last one first, then the region. A script is only removed if it is the likely
-/// script of the language. The tag should be in its canonical form, as CLDR does not list deprecated or extended
-/// languages. Case is ignored.
+/// pt-AO, zh-Hant for zh-TW. If a catalogue has no string for a tag, it looks for the parent of the tag next, and then
+/// for the other tags of `langtag_nth_parent`, which says more. As with `langtag_canonical`, nothing is written if the
+/// buffer is too short.
 ///
 /// Returns 0 and writes nothing if the tag has no parent, such as pt and x-a, or if the string is not a tag.
-#[tactic(auto, using(crate::proofs::WrittenTexts::no_parent, crate::proofs::WrittenTexts::parent_written))]
 #[unsafe(no_mangle)]
 pub extern "C" fn langtag_parent(bytes: &[u8], buffer: &mut [u8]) -> usize
-    ensures parent { (IsParent bytes.now None → ⊥) → Writes (λ parent. IsParent bytes.now (Some parent)) buffer.old buffer.new result }
-    // law: the result is 0 if and only if the tag has no parent, or the bytes are not a tag
-    ensures no_parent { result ≡ 0 ↔ IsParent bytes.now None }
+    ensures parent { (chain : List (List ℕ)) → IsTag bytes.now → IsChain bytes.now chain
+        → MatchOption (slice_get chain 1) (result ≡ 0) (λ parent. Writes (λ new. new ≡ parent) buffer.old buffer.new result) }
+    // law: the result is 0 if and only if the tag has no parent
+    ensures no_parent { (chain : List (List ℕ)) → IsTag bytes.now → IsChain bytes.now chain → result ≡ 0 ↔ slice_get chain 1 ≡ None }
+    ensures no_tag { (IsTag bytes.now → ⊥) → result ≡ 0 }
     ensures nothing { result ≡ 0 → buffer.new ≡ buffer.old }
 {
-    match parent_of(bytes) {
-        Some(parent) => write_text(parent, buffer),
-        None => 0,
-    }
+    langtag_nth_parent(bytes, 1, buffer)
 }
 
-/// Returns the parent of a tag.
-#[tactic(auto, using(langtag_span::proofs::TagLengths::some_tag))]
-fn parent_of(bytes: &[u8]) -> Option<&[u8]>
-    ensures parent { IsParent bytes.now (option_map (λ parent. parent.now) result) }
-    ensures some { IfSome result (λ parent. 1 ≤ length parent.now) }
+/// Writes the tag at an index of the chain of a tag and its parents in CLDR to `buffer`, and returns its length. At 0 is
+/// the tag itself, and at 1 its parent. A catalogue looks for a string in this order. The data are those of
+/// `langtag_cldr_version`. As with `langtag_canonical`, nothing is written if the buffer is too short.
+///
+/// ```c
+/// char tag[64];
+/// size_t len;
+/// for (uint32_t at = 0; (len = langtag_nth_parent("pt-Latn-AO", 10, at, tag, sizeof tag)) > 0 && len <= sizeof tag; at++)
+///     printf("%.*s ", (int)len, tag); // pt-Latn-AO pt-AO pt-PT pt
+/// ```
+///
+/// All tags of a chain are written in the same script, so zh-Hant has no parent: zh is Simplified. A script that is
+/// likely anyway goes first. Extensions and private use are removed next, then each variant, the last one first, and
+/// then the region. The variants come back with each parent: ca-ES-valencia, ca-ES, ca-valencia, ca. A script is only
+/// removed if it is the likely script of the language. The tag should be in its canonical form, as CLDR does not list
+/// deprecated or extended languages. Case is ignored.
+///
+/// Returns 0 and writes nothing if the chain has no more tags, or if the string is not a tag.
+#[unsafe(no_mangle)]
+pub extern "C" fn langtag_nth_parent(bytes: &[u8], index: u32, buffer: &mut [u8]) -> usize
+    ensures parent { (chain : List (List ℕ)) → IsTag bytes.now → IsChain bytes.now chain
+        → MatchOption (slice_get chain index) (result ≡ 0) (λ parent. Writes (λ new. new ≡ parent) buffer.old buffer.new result) }
+    // law: the result is 0 if and only if the chain has no more tags
+    ensures no_parent { (chain : List (List ℕ)) → IsTag bytes.now → IsChain bytes.now chain → result ≡ 0 ↔ slice_get chain index ≡ None }
+    ensures no_tag { (IsTag bytes.now → ⊥) → result ≡ 0 }
+    ensures nothing { result ≡ 0 → buffer.new ≡ buffer.old }
 {
-    match tag_of(bytes) {
-        Some(tag) => Some(parent(tag)?.as_str().as_bytes()),
-        None => None,
+    let Some(tag) = tag_of(bytes) else {
+        return 0;
+    };
+    match nth_parent(tag, index as usize) {
+        Some(parent) => parent.write(buffer),
+        None => 0,
     }
 }

@@ -2,14 +2,12 @@
 #![tactic(auto, using(crate::proofs::KindLaws::parse_laws))]
 
 ghost use Rattle.std.specs.Prelude.{◌≡◌, ◌≤◌, ℕ, List, length, IfSome, MatchOption};
-ghost use Rattle.langtag_scan.specs.Grammar.{HasEnds, ends_of, AreInOrder, EachRecord, IsTag, IsNormal, IsPrivate};
-ghost use Rattle.langtag_recogniser.specs.Definitions.{IsFoundOf, finding, normal_ends};
+ghost use Rattle.langtag_scan.specs.Grammar.{HasEnds, ends_of, IsFoundOf, finding, normal_ends, AreInOrder, EachRecord, IsTag, IsNormal, IsPrivate};
 ghost use Rattle.langtag_c.specs.Answers.{IsKind};
 ghost use Rattle.langtag_c.specs.PartSpans.{AreWithin, ArePartsOf, spans_at, no_parts, private_alone};
 
-use langtag_recogniser::{Found, Metered, recognise};
-use langtag_scan::Ends;
-use langtag_span::Span;
+use crate::span::Span;
+use langtag_scan::{Ends, Found, Metered, recognise};
 
 /// Where each part of a tag is, for example in "zh-yue-Hant-HK-rozaj-1994-u-co-pinyin-x-mine":
 #[repr(C)]
@@ -72,7 +70,7 @@ impl Parts {
 }
 
 /// Returns what the recogniser finds, or `None` if the bytes are not a tag.
-#[tactic(auto, using(langtag_recogniser::proofs::FoundLaws::found_ends))]
+#[tactic(auto, using(langtag_scan::proofs::FoundLaws::found_ends))]
 #[inline(always)]
 fn found_of(bytes: &[u8]) -> Option<Found>
     ensures found { MatchOption result (IsTag bytes.now → ⊥) (λ found. IsFoundOf bytes.now (finding found)) }

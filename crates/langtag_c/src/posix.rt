@@ -4,24 +4,28 @@ ghost use Rattle.langtag.specs.Definitions.{Writes};
 ghost use Rattle.langtag_posix.specs.Modifiers.{is_known};
 ghost use Rattle.langtag_posix.specs.Posix.{IsTagOfName, NamesTag, modifier_of};
 ghost use Rattle.langtag_posix.specs.ToPosix.{IsPosixName};
-ghost use Rattle.langtag_span.specs.Spans.{end_of, span_text};
+ghost use Rattle.langtag_c.specs.Spans.{end_of, span_text};
 
+use crate::span::Span;
+use crate::tag::tag_of;
 use langtag_posix::{unknown_modifier, write_from_posix, write_to_posix};
-use langtag_span::{Span, tag_of};
 
 /// Writes the tag for a POSIX locale name to `buffer` (IEEE Std 1003.1, section 8.2), and returns its length:
 /// pt_BR.UTF-8 becomes pt-BR, sr_RS@latin becomes sr-Latn-RS, ca_ES@valencia becomes ca-ES-valencia, and zh_TW_#Hant,
 /// as Java prints it, becomes zh-Hant-TW. As with `langtag_canonical`, nothing is written if the buffer is too short.
 /// Names as Android and .NET write them are read, too: zh-rTW becomes zh-TW, b+sr+Latn becomes sr-Latn, zh-CHT becomes
-/// zh-Hant, and sr-SP-Latn becomes sr-Latn-RS.
+/// zh-Hant, and sr-SP-Latn becomes sr-Latn-RS. An empty language or region is read as in Java and ICU: _US becomes und-US.
 ///
 /// The codeset is dropped. The modifiers latin, cyrillic, devanagari, iqtelif, valencia, tarask, ijekavian,
-/// ijekavianlatin and the codes of scripts are used, ignoring case. Other modifiers are dropped. If the only variant is
+/// ijekavianlatin and the codes of scripts are used, ignoring case. Extensions come from Java's names and from the keywords
+/// of ICU and Apple: de_DE_#u-co-phonebk and de_DE@collation=phonebook become de-DE-u-co-phonebk. Other modifiers are
+/// dropped, and so are keywords if one of them cannot be read. If the only variant is
 /// POSIX, ignoring case, and there are no extensions, it becomes the keyword va-posix: en_US_POSIX becomes
 /// en-US-u-va-posix.
 ///
 /// Returns 0 and writes nothing if language and territory do not form a tag (C), are POSIX, or have more than 255
-/// bytes.
+/// bytes, or 260 with extensions. Also if what follows # is no script and no extension, or if extensions would come after an
+/// extension or private use.
 #[tactic(auto, using(crate::proofs::WrittenTexts::some_named))]
 #[unsafe(no_mangle)]
 pub extern "C" fn langtag_from_posix(name: &[u8], buffer: &mut [u8]) -> usize
@@ -75,7 +79,7 @@ pub extern "C" fn langtag_to_posix(bytes: &[u8], buffer: &mut [u8]) -> usize
 ///
 /// Returns false and leaves `modifier` unchanged if there is no modifier, if `langtag_from_posix` reads it, or if it is
 /// not about the language, such as euro.
-#[tactic(auto, using(langtag_span::proofs::FoundExtension::end_after_first))]
+#[tactic(auto, using(crate::proofs::FoundExtension::end_after_first))]
 #[unsafe(no_mangle)]
 pub extern "C" fn langtag_unknown_modifier(name: &[u8], modifier: &mut Span) -> bool
     ensures unknown { result ≡ not (is_known (modifier_of name.now)) }

@@ -1,11 +1,14 @@
 //! Tags that are prepared for many choices.
 ghost use Rattle.std.specs.Prelude.{◌≡◌, IsTrue, option_map};
 ghost use Rattle.langtag.specs.Definitions.{lang_tag_text};
+ghost use Rattle.langtag_choice.specs.Prepared.{KeepsForm};
+ghost use Rattle.langtag_c.specs.Spans.{HasBytes, span_text};
 ghost use Rattle.langtag_c.specs.Site.{current_tag_at, current_tags_at, is_current};
 
+use crate::span::Span;
+use crate::spanned::{bytes_in, tag_in};
 use langtag::LangTag;
 use langtag_choice::{PreparedForm, TagList};
-use langtag_span::{Span, bytes_in, tag_in};
 
 /// A tag of a site, with what a choice computes of it. It is plain data without pointers: it may be copied, stored, and
 /// shared by threads. Set `tag`, and let `langtag_prepare` write the rest.
@@ -35,6 +38,7 @@ pub struct PreparedTag {
 pub extern "C" fn langtag_prepare(bytes: &[u8], tag: &mut PreparedTag)
     ensures same_span { tag.new.tag ≡ tag.old.tag }
     ensures prepared { IsTrue (is_current bytes.now tag.new) }
+    ensures kept { HasBytes bytes.now tag.new.tag → KeepsForm (span_text bytes.now tag.new.tag) tag.new.form }
 {
     tag.form = PreparedForm::of(bytes_in(bytes, tag.tag));
 }

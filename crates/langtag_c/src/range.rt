@@ -1,11 +1,11 @@
 //! Language ranges, and the tags that they match (RFC 4647).
 ghost use Rattle.std.specs.Prelude.{◌≡◌, ◌↔◌, IsTrue, MatchOption, false};
-ghost use Rattle.langtag_range.specs.Definitions.{MatchesBasic, MatchesExtended, is_language_range};
-ghost use Rattle.langtag_header.specs.Text.{language_range_text};
+ghost use Rattle.langtag_match.specs.Definitions.{MatchesBasic, MatchesExtended, is_language_range};
+ghost use Rattle.langtag_match.specs.Text.{language_range_text};
 ghost use Rattle.langtag_c.specs.Answers.{IsRangeKind, IsRangeMatch};
 
-use langtag_header::LanguageRange;
-use langtag_span::tag_of;
+use crate::tag::tag_of;
+use langtag_match::LanguageRange;
 
 /// Returns which kind of language range a string is, as an enum `langtag_range_kind_answer`.
 #[tactic(auto, using(crate::proofs::KindLaws::range_kinds))]

@@ -2,10 +2,10 @@
 ghost use Rattle.std.specs.Prelude.{◌≡◌, ◌↔◌, ◌⊎◌, ◌≤◌, ◌<◌, length};
 ghost use Rattle.langtag_scan.specs.Grammar.{IsTag};
 ghost use Rattle.langtag.specs.Definitions.{AlphanumericWithin, EndsTooSoon, IsFirstOther, IsRefusedSubtag};
-ghost use Rattle.langtag_span.specs.Spans.{empty_at, end_of};
+ghost use Rattle.langtag_c.specs.Spans.{empty_at, end_of};
 
+use crate::span::Span;
 use langtag::{Refusal, RefusalKind};
-use langtag_span::Span;
 
 /// Returns why a string is not a tag, as an enum `langtag_refused_answer`. Writes the wrong subtag (out) and the offset
 /// to point at (out).

@@ -1,6 +1,6 @@
 //! The date of the registry (RFC 5646 section 3.1.1).
 ghost use Rattle.std.specs.Prelude.{◌≡◌, ◌<◌, ◌^◌};
-ghost use Rattle.langtag_fields.specs.declared.tables.TheConstants.{FILE_DATE};
+ghost use Rattle.langtag_registry.specs.tables.TheConstants.{FILE_DATE};
 ghost use Rattle.langtag_c.specs.Answers.{digits_number};
 
 use langtag_registry::FILE_DATE;

@@ -3,12 +3,14 @@ ghost use Rattle.std.specs.Prelude.{◌≡◌, Some, is_some, map, unwrap_or};
 ghost use Rattle.langtag_scan.specs.Grammar.{are_alike, EachRecord, IsNormal};
 ghost use Rattle.langtag.specs.Definitions.{are_alike_bytes, repeat, repeat_index, normal_lang_tag_text};
 ghost use Rattle.langtag_c.specs.Answers.{repeat_flags};
-ghost use Rattle.langtag_span.specs.Members.{member_span, singleton_place, variant_place};
+ghost use Rattle.langtag_c.specs.Members.{member_span, singleton_place, variant_place};
 ghost use Rattle.langtag_c.specs.PartSpans.{none_repeated};
-ghost use Rattle.langtag_span.specs.Spans.{empty_at};
+ghost use Rattle.langtag_c.specs.Spans.{empty_at};
 
+use crate::members::{singleton_at, variant_at};
+use crate::span::Span;
+use crate::tag::normal_tag_of;
 use langtag::NormalLangTag;
-use langtag_span::{Span, normal_tag_of, singleton_at, variant_at};
 
 /// Where the repeated subtags of a tag are. A span has the length 0 if no such subtag is repeated.
 #[repr(C)]

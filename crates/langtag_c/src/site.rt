@@ -1,15 +1,16 @@
 //! The best of tags that are prepared once.
 ghost use Rattle.std.specs.Prelude.{◌≤◌, length};
-ghost use Rattle.langtag_range.specs.Definitions.{wanted_elements};
-ghost use Rattle.langtag_span.specs.Spanned.{ranges_at};
+ghost use Rattle.langtag_match.specs.Definitions.{wanted_elements};
+ghost use Rattle.langtag_c.specs.Spanned.{ranges_at};
 ghost use Rattle.langtag_c.specs.Choice.{IsBest, IsMatchAt};
-ghost use Rattle.langtag_c.specs.Site.{ArePrepared, IsCurrentAt, spans_of};
+ghost use Rattle.langtag_c.specs.Site.{ArePrepared, IsBestOf, IsCurrentAt, IsMatchOf, current_tags_at, spans_of};
 
 use crate::best_match::BestMatch;
 use crate::prepare::{PreparedTag, PreparedTags};
+use crate::range_place::range_at;
+use crate::span::Span;
 use crate::spanned_ranges::SpannedRanges;
 use langtag_choice::{best_among, match_among};
-use langtag_span::{Span, range_at};
 
 /// Returns what `langtag_best_for_header` returns for the same string and the spans of the tags. For 40 tags it takes
 /// about 0.6 of the time, and for a few tags nearly as much. Each tag was prepared by `langtag_prepare` for this string.
@@ -20,6 +21,8 @@ pub extern "C" fn langtag_site_best_for_header(
     bytes: &[u8],
     tags: &[PreparedTag],
 ) -> usize
+    // law: the choice among the tags that were prepared for their spans
+    ensures skipped { IsBestOf (wanted_elements header.now) (current_tags_at bytes.now tags.now) result }
     ensures best { ArePrepared bytes.now tags.now → IsBest (wanted_elements header.now) bytes.now (spans_of tags.now) result }
     ensures current { IsCurrentAt bytes.now tags.now result }
     ensures within { result ≤ length tags.now }
@@ -37,6 +40,8 @@ pub extern "C" fn langtag_site_best_for_ranges(
     bytes: &[u8],
     tags: &[PreparedTag],
 ) -> usize
+    // law: the choice among the tags that were prepared for their spans
+    ensures skipped { IsBestOf (ranges_at text.now ranges.now) (current_tags_at bytes.now tags.now) result }
     ensures best { ArePrepared bytes.now tags.now → IsBest (ranges_at text.now ranges.now) bytes.now (spans_of tags.now) result }
     ensures current { IsCurrentAt bytes.now tags.now result }
     ensures within { result ≤ length tags.now }
@@ -58,6 +63,8 @@ pub extern "C" fn langtag_site_match_for_header(
     tags: &[PreparedTag],
     found: &mut BestMatch,
 ) -> usize
+    // law: the choice among the tags that were prepared for their spans
+    ensures skipped { IsMatchOf header.now (current_tags_at bytes.now tags.now) result found.new }
     ensures found { ArePrepared bytes.now tags.now → IsMatchAt header.now bytes.now (spans_of tags.now) result found.new }
     ensures current { IsCurrentAt bytes.now tags.now result }
     ensures within { result ≤ length tags.now }

@@ -1,9 +1,10 @@
 //! Language ranges as spans of a string.
-ghost use Rattle.langtag_span.specs.Spanned.{ranges_at};
+ghost use Rattle.langtag_c.specs.Spanned.{ranges_at};
 
+use crate::span::Span;
+use crate::spanned::range_in;
 use langtag_choice::RangeList;
-use langtag_range::WantedRange;
-use langtag_span::{Span, range_in};
+use langtag_match::WantedRange;
 
 /// A string, and spans of it that are language ranges, in order of preference.
 #[derive(Clone, Copy)]
@@ -12,7 +13,7 @@ pub(crate) struct SpannedRanges<'a> {
     pub(crate) spans: &'a [Span],
 }
 
-#[tactic(auto, using(langtag_span::proofs::TagsAt::few_ranges))]
+#[tactic(auto, using(crate::proofs::TagsAt::few_ranges))]
 impl<'a> RangeList<'a> for SpannedRanges<'a> {
     ghost elements = { λ ranges. ranges_at ranges.text.now ranges.spans.now };
 

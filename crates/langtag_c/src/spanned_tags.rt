@@ -1,9 +1,10 @@
 //! Tags as spans of a string.
-ghost use Rattle.langtag_span.specs.TagsAt.{tags_at};
+ghost use Rattle.langtag_c.specs.TagsAt.{tags_at};
 
+use crate::span::Span;
+use crate::spanned::{bytes_in, tag_in};
 use langtag::LangTag;
 use langtag_choice::TagList;
-use langtag_span::{Span, bytes_in, tag_in};
 
 /// A string, and spans of it that are tags.
 #[derive(Clone, Copy)]
@@ -12,7 +13,7 @@ pub(crate) struct SpannedTags<'a> {
     pub(crate) spans: &'a [Span],
 }
 
-#[tactic(auto, using(langtag_span::proofs::TagsAt::one_tag_at, langtag_span::proofs::TagsAt::tags_at_index))]
+#[tactic(auto, using(crate::proofs::TagsAt::one_tag_at, crate::proofs::TagsAt::tags_at_index))]
 impl TagList for SpannedTags<'_> {
     ghost texts = { λ tags. tags_at tags.text.now tags.spans.now };
 

@@ -4,7 +4,7 @@ ghost use Rattle.langtag.specs.Definitions.{Writes};
 ghost use Rattle.langtag_c.specs.Validity.{suggested};
 
 use langtag_likely::{suggested_language, suggested_region};
-use langtag_output::write_text;
+use langtag_text::write_text;
 
 /// Writes the registered code that is probably meant by a subtag that is not registered, and returns its length, which
 /// is 2 or 3: de for the language deu or ger, GB for the region UK, US for 840. `fault` is what `langtag_validity`

@@ -1,13 +1,13 @@
 //! All tags that suit a reader, best first.
 ghost use Rattle.std.specs.Prelude.{◌≡◌, ◌≤◌, length, take, drop};
-ghost use Rattle.langtag_range.specs.Definitions.{wanted_elements};
+ghost use Rattle.langtag_match.specs.Definitions.{wanted_elements};
 ghost use Rattle.langtag_c.specs.Choice.{AreBest};
-ghost use Rattle.langtag_span.specs.Spanned.{ranges_at};
+ghost use Rattle.langtag_c.specs.Spanned.{ranges_at};
 
+use crate::span::Span;
 use crate::spanned_ranges::SpannedRanges;
 use crate::spanned_tags::SpannedTags;
 use langtag_choice::write_suitable;
-use langtag_span::Span;
 
 /// Writes the indices of the suitable tags for an Accept-Language header to `found` (out), best first, and returns
 /// their number: the tag that `langtag_best_for_header` chooses, the tag that it chooses among the other tags, and so on,
@@ -20,8 +20,8 @@ use langtag_span::Span;
 /// for (size_t i = 0; i < count; i++) printf("%zu ", found[i]); // 2 3 1
 /// ```
 ///
-/// The rest of the array stays unchanged. The time is that of `langtag_best_for_header` for each index, and of a
-/// comparison with each earlier index for each tag, so `found_len` limits the time.
+/// The rest of the array stays unchanged. The time is that of a choice for every 16 indices, and of a comparison with
+/// each earlier index for each tag, so `found_len` limits the time.
 #[unsafe(no_mangle)]
 pub extern "C" fn langtag_suitable_for_header(
     header: &[u8],

@@ -5,11 +5,12 @@ ghost use Rattle.langtag.specs.Definitions.{PartOf, find_extension};
 ghost use Rattle.langtag_keyword.specs.Keywords as spec;
 ghost use Rattle.langtag_keyword.specs.Transform.{is_field_key};
 ghost use Rattle.langtag_c.specs.Answers.{answered};
-ghost use Rattle.langtag_span.specs.Keywords.{keywords_from};
-ghost use Rattle.langtag_span.specs.Spans.{IsWithin, span_text};
+ghost use Rattle.langtag_c.specs.Keywords.{keywords_from};
+ghost use Rattle.langtag_c.specs.Spans.{IsWithin, span_text};
 
+use crate::extension_walk::{before_key, extension_subtags, next_key, value_of};
+use crate::span::Span;
 use langtag_keyword::Keys;
-use langtag_span::{Span, before_key, extension_subtags, next_key, value_of};
 
 /// Returns whether a tag has the extension t (RFC 6497 section 2.2), and writes where the language of t is (out),
 /// before its first field: ja-latn in und-t-ja-latn-m0-hepburn. The language is empty if there is none, and it need not

@@ -2,14 +2,16 @@
 ghost use Rattle.std.specs.Prelude.{◌≡◌, ◌↔◌, ◌≤◌, Some, length, slice_get};
 ghost use Rattle.langtag_scan.specs.Grammar.{EachRecord, IsTag};
 ghost use Rattle.langtag.specs.Definitions.{normal_lang_tag_text};
-ghost use Rattle.langtag_validity.specs.Fault.{Told, faults, fault_index, told};
-ghost use Rattle.langtag_fields.specs.Valid.{IsValid};
-ghost use Rattle.langtag_span.specs.Spans.{empty_at};
+ghost use Rattle.langtag_registry.specs.Fault.{Told, faults, fault_index, told};
+ghost use Rattle.langtag_registry.specs.Valid.{IsValid};
+ghost use Rattle.langtag_c.specs.Spans.{empty_at};
 ghost use Rattle.langtag_c.specs.Validity.{number_of, fault_span};
 
+use crate::members::{singleton_at, variant_at};
+use crate::span::Span;
+use crate::tag::tag_of;
 use langtag::NormalLangTag;
 use langtag_registry::{InvalidSubtag, fault_at};
-use langtag_span::{Span, singleton_at, tag_of, variant_at};
 
 /// Returns whether a tag is valid (RFC 5646 section 2.2.9), as an enum `langtag_validity_answer`, and writes where its
 /// first invalid subtag is (out), which is empty if there is none.
@@ -21,8 +23,9 @@ use langtag_span::{Span, singleton_at, tag_of, variant_at};
 /// ```
 ///
 /// A tag is valid if it is grandfathered, or if its language, extended language, script, region and variants are
-/// registered, it has at most one extended language, and no variant or singleton is repeated. The registry is that of
-/// `langtag_registry_date`. Deprecated subtags are valid. Whether a variant follows one of its prefixes is not checked.
+/// registered, it has at most one extended language, and no variant or singleton is repeated. It uses the registry whose
+/// date `langtag_registry_date` returns. Deprecated subtags are valid. Whether a variant follows one of its prefixes is
+/// not checked.
 #[tactic(auto, using(langtag_scan::proofs::SpelledTexts::normal_spelled, langtag_scan::proofs::TagLaws::tag_normal, langtag_validity::proofs::FaultLaws::valid_of_other, langtag_validity::proofs::FaultLaws::valid_of_none))]
 #[unsafe(no_mangle)]
 pub extern "C" fn langtag_validity(bytes: &[u8], invalid: &mut Span) -> u32

@@ -2,12 +2,12 @@
 ghost use Rattle.std.specs.Prelude.{◌≡◌, ◌↔◌, ◌∷◌, List, IsTrue, false};
 ghost use Rattle.langtag_scan.specs.Grammar.{Extension};
 ghost use Rattle.langtag.specs.Definitions.{extension_spelling, SpellsExtensions};
-ghost use Rattle.langtag_span.specs.Spans.{HasBytes, span_text};
-ghost use Rattle.langtag_span.specs.Walks.{TakesSubtag, TakesExtension};
+ghost use Rattle.langtag_c.specs.Spans.{HasBytes, span_text};
+ghost use Rattle.langtag_c.specs.Walks.{TakesSubtag, TakesExtension};
 
+use crate::span::Span;
 use langtag_extension::first_extension_end;
 use langtag_scan::segment_end;
-use langtag_span::Span;
 
 /// Removes the first subtag from `rest`, and writes it to `subtag` (out). `rest` then begins after the next hyphen.
 /// Begin with a copy of the span of a part:

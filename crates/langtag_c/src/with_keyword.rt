@@ -5,7 +5,7 @@ ghost use Rattle.langtag.specs.Definitions.{IsForm, Writes};
 ghost use Rattle.langtag_keyword.specs.Edit.{edited_record};
 ghost use Rattle.langtag_c.specs.Setting.{CanRemoveKeyword, CanSetKeyword, keyword_bound};
 
-use langtag_span::tag_of;
+use crate::tag::tag_of;
 use langtag_unicode::{write_with_keyword, write_without_keyword};
 
 /// Writes a normal tag with a value of a key of the extension u to `buffer` (RFC 6067 section 2.1), and returns the

@@ -2,10 +2,11 @@
 ghost use Rattle.std.specs.Prelude.{◌≡◌, ◌↔◌, ◌≤◌, ◌+◌, length, IfSome};
 ghost use Rattle.langtag.specs.Definitions.{Writes};
 ghost use Rattle.langtag_c.specs.Setting.{CanSet};
-ghost use Rattle.langtag_span.specs.NumberedParts.{SetsNamedPart, part_numbered};
+ghost use Rattle.langtag_c.specs.NumberedParts.{SetsNamedPart, part_numbered};
 
+use crate::part::part_of;
+use crate::tag::normal_tag_of;
 use langtag::write_part;
-use langtag_span::{normal_tag_of, part_of};
 
 /// Writes a normal tag with one part changed to `buffer`, and returns the length of the new tag. `part` is an enum
 /// `langtag_part`. An empty string removes the part. All other parts stay, and the new part keeps its case.

@@ -3,8 +3,8 @@ use Rattle.langtag_scan.proofs.Prelude.{◌≡◌, ◌<◌, ℕ, List, Option, N
 use Rattle.langtag_scan.specs.Grammar.{Record, Spells, spell, IsNormal, IsTag}
 use Rattle.langtag_scan.proofs.NormalTexts.{spelled_once}
 use Rattle.langtag.specs.Registered.{IsGrandfathered}
-use Rattle.langtag_output.specs.Writes.{Writes}
-use Rattle.langtag_output.specs.WritesWhole.{WritesWhole}
+use Rattle.langtag_text.specs.Writes.{Writes}
+use Rattle.langtag_text.specs.WritesWhole.{WritesWhole}
 use Rattle.langtag_canonical.specs.Canonical.{canonical_primary, canonical_extended, canonical_region, canonical_variants, in_order, canonical_record, canonical_text, IsCanonicalForm}
 use Rattle.langtag_fields.specs.Fields.{preferred_tag}
 use Rattle.langtag_canonical.proofs.TwiceLaws.{whole_settled, preferred_record_stays, form_of, Form, whole_form, own_form, parts_form, again_form, canonical_record_well_formed}

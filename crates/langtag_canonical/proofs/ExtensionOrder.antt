@@ -2,13 +2,13 @@
 use Rattle.langtag_scan.proofs.Prelude.{◌≡◌, ℕ, ◌+◌, ◌<◌, ◌≤◌, true, ◌==◌, Bool, leb, List, [], ◌∷◌, ◌++◌, length, map, refl, sym, ap, ◌∙◌, arith, ◌↔◌, false, cond, fold, length-append, append_assoc, append-nil, None, Some, subst, AllByRecursion, flat_map, list_any, and_parts, or_parts, nat_tests, eqb_tells, common_steps, fold-append, filter-append, filter}
 use Rattle.langtag_scan.specs.Grammar.{fold_byte, Extension, IsWellFormedExtension, extension_flat, is_letter, is_digit, is_mark, is_singleton}
 use Rattle.langtag_canonical.specs.Canonical.{put_by, sorted_by, in_order}
-use Rattle.langtag_tables.proofs.Rising.{rises_from}
+use Rattle.langtag_text.proofs.Rising.{rises_from}
 use Rattle.langtag_scan.proofs.Joins.{length-join}
 use Rattle.langtag.specs.Definitions.{extension_spelling, SpellsExtensions, small_singleton, of_singleton}
 use Rattle.langtag_extension.proofs.ExtensionLookUp.{first_byte-spelling}
-use Rattle.langtag_output.specs.declared.output.Output.{Output}
-use Rattle.langtag_output.specs.Output.{Pushes, with_subtag}
-use Rattle.langtag_output.proofs.Pushed.{with_joined, pushes_both, pushes_same, pushes_ended, pushes_joined}
+use Rattle.langtag_text.specs.declared.output.Output.{Output}
+use Rattle.langtag_text.specs.Output.{Pushes, with_subtag}
+use Rattle.langtag_text.proofs.Pushed.{with_joined, pushes_both, pushes_same, pushes_ended, pushes_joined}
 use Rattle.langtag.specs.Repeat.{repeat, are_alike_bytes}
 use Rattle.langtag_fields.proofs.RepeatsSeen.{repeat_after, repeat-after}
 

@@ -8,7 +8,7 @@ use Rattle.langtag_fields.specs.Entry.{Entry, value_for}
 use Rattle.langtag_fields.specs.Fields.{extlang_prefix}
 use Rattle.langtag_fields.specs.Subtags.{extlang_prefixes}
 use Rattle.langtag_fields.proofs.FieldTables.{prefix_good}
-use Rattle.langtag_tables.proofs.Letters.{primary_letters}
+use Rattle.langtag_text.proofs.Letters.{primary_letters}
 use Rattle.langtag_fields.proofs.Values.{value_good}
 
 -- ---- by computation: the subtags have three letters, and the prefixes at most three

@@ -1,14 +1,14 @@
 -- What a subtag, a language or a whole tag becomes in a canonical form: one of its class, which is replaced by nothing more.
 use Rattle.langtag_scan.proofs.Prelude.{common_steps, ◌≡◌, ◌↔◌, ℕ, true, false, Bool, List, [], ◌∷◌, None, Some, refl, sym, ap, arith, ◌≤◌, not, leb, length, map, find, Option, is_some, IfSome, option_map, unwrap_or, ◌⊎◌, list_all, list_any, AllByRecursion, bytes_eq, bytes_decides, and_parts, leb-true, nat_tests}
 use Rattle.langtag_scan.specs.Grammar.{fold_byte, fold_text, are_alike, Alike, are_alike-decides, is_primary, is_letter, is_extended, join}
-use Rattle.langtag_scan.proofs.TextLaws.{of_primary}
+use Rattle.langtag_scan.proofs.Laws.{of_primary}
 use Rattle.langtag_fields.specs.Fields.{preferred_language, preferred_region, preferred_variant}
 use Rattle.langtag_fields.specs.Registered.{is_registered_extlang}
 use Rattle.langtag_fields.specs.Subtags.{extlang_subtags, language_preferred, region_preferred, variant_preferred}
 use Rattle.langtag_canonical.specs.Canonical.{canonical_language, preferred_extlang, canonical_primary, canonical_extended, canonical_variants, canonical_region}
-use Rattle.langtag_output.specs.declared.output.Output.{Output}
-use Rattle.langtag_output.specs.Output.{Pushes}
-use Rattle.langtag_output.proofs.Pushed.{pushes_both, pushes_same, pushes_joined}
+use Rattle.langtag_text.specs.declared.output.Output.{Output}
+use Rattle.langtag_text.specs.Output.{Pushes}
+use Rattle.langtag_text.proofs.Pushed.{pushes_both, pushes_same, pushes_joined}
 use Rattle.langtag_fields.specs.Entry.{Entry, value_for}
 use Rattle.langtag_fields.proofs.Values.{value_good, found_good, value_for-alike}
 

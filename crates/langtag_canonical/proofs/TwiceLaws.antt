@@ -4,7 +4,7 @@ use Rattle.langtag_scan.specs.Grammar.{is_primary, is_extended, Record, IsWellFo
 use Rattle.langtag_canonical.proofs.OneForm.{Way, as_whole, as_it_is, by_parts, way_of}
 use Rattle.langtag_canonical.specs.Canonical.{canonical_primary, canonical_extended, canonical_record, canonical_variants, IsCanonicalForm}
 use Rattle.langtag_fields.specs.Fields.{preferred_region, preferred_variant, preferred_language, preferred_tag}
-use Rattle.langtag_tables.proofs.Letters.{extended_primary}
+use Rattle.langtag_text.proofs.Letters.{extended_primary}
 use Rattle.langtag_canonical.proofs.ExtensionOrder.{in_order-each, in_order-twice, in_order-risen}
 use Rattle.langtag_fields.proofs.FieldTables.{preferred_good, regions_good, variants_good}
 use Rattle.langtag_canonical.proofs.ReplacedSubtags.{replaced-holds, if_some-map, each-map, new_language_short, extlang_cases, new_extlang_extended, none_from_test, replaced-twice, language_settled, region_settled, variant_settled, variants_stay}

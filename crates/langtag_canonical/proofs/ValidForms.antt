@@ -2,7 +2,7 @@
 use Rattle.langtag_fields.proofs.Values.{member_passes, preferred_tag-alike}
 use Rattle.langtag_scan.specs.Grammar.{are_alike-decides, fold_text, Alike, are_alike, fold_byte, is_letter, is_digit, is_variant, is_extended, grandfathered_tags, Grandfathered, Record, EachRecord, flat, IsWellFormed, Spells, segments, IsTag, IsNormal}
 use Rattle.langtag_scan.proofs.Prelude.{◌≡◌, ℕ, ◌≤◌, true, Bool, leb, List, [], ◌∷◌, length, map, None, Some, IsTrue, refl, sym, ap, arith, length-append, inl, inr, subst, ◌∙◌, rules, false, not, ◌||◌, codes, is_some, list_all, AllByRecursion, and_parts, leb-true, or_cases, both_ways, not-true, length-map, filter-append, common_steps, filter, nat_tests}
-use Rattle.langtag_scan.proofs.TextLaws.{alike_parts, spelled_segments, spelled_once, each_from_test}
+use Rattle.langtag_scan.proofs.Laws.{alike_parts, spelled_segments, spelled_once, each_from_test}
 use Rattle.langtag.specs.Registered.{IsGrandfathered, IsGrandfatheredAt}
 use Rattle.langtag.specs.Repeat.{repeat}
 use Rattle.langtag_canonical.specs.Canonical.{canonical_variants, preferred_extlang, canonical_extended, canonical_record, IsCanonicalForm}

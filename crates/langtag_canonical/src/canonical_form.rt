@@ -12,7 +12,7 @@ use crate::canonical_parts::put_canonical_parts;
 use crate::form::{Form, form_of};
 use langtag::{LangTag, LangTagBuf, NormalLangTag, tag_of};
 use langtag_fields::preferred_for;
-use langtag_output::write_text;
+use langtag_text::write_text;
 use std::alloc::{AllocError, Global};
 
 /// An upper bound on the number of bytes of a whole tag that has a Preferred-Value.
@@ -127,7 +127,7 @@ fn parts_as_tag(
 
 /// Returns the bytes of the canonical form, as [`parts_as_tag`] describes it. They are written once if they fit into a
 /// guess of their number, and otherwise again.
-#[tactic(auto, using(langtag_output::proofs::Taken::whole_taken))]
+#[tactic(auto, using(langtag_text::proofs::Taken::whole_taken))]
 fn parts_as_bytes(
     alloc: Global,
     tag: LangTag<'_>,

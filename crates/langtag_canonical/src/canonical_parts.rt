@@ -12,8 +12,8 @@ use langtag_fields::{
     is_registered_extlang, preferred_language, preferred_region, preferred_variant,
 };
 use langtag_language::{ExtendedLangTag, Language, PrimaryLanguage};
-use langtag_output::Output;
 use langtag_place::{Region, Script, Variants};
+use langtag_text::Output;
 
 /// Writes a tag with its parts in their canonical forms into a buffer, as far as it fits, and returns the length of
 /// the form.

@@ -10,12 +10,13 @@ use Rattle.langtag_scan.proofs.CaseLaw.{hyphen-fold, fold_text-twice, length-fol
 use Rattle.langtag_range.specs.Definitions.{Element, ends_subtag, before_hyphens, ends_in_single, fallbacks, is_star, folded, wanted_elements}
 use Rattle.langtag_range.proofs.AlikeTexts.{alike_headers, is_star-fold}
 use Rattle.langtag_range.proofs.Among.{length-alike}
-use Rattle.langtag_distance.specs.Serves.{serves, reach, is_wish, is_excluded}
-use Rattle.langtag_distance.specs.Serves.{IsAtMost, rank}
+use Rattle.langtag_choice.specs.Serves.{serves, reach, is_wish, is_excluded}
+use Rattle.langtag_choice.specs.Serves.{IsAtMost, rank}
 use Rattle.langtag_choice.specs.Best.{IsChoice, Pair, rank_of_pair, is_refused, longest}
 use Rattle.langtag_choice.specs.ChoiceLaws.{IsOnlyChoice, AnswersLookUp, IsHeaviest, IsFirstAlike, AnswersEqual, IgnoresCase, IgnoresHeaderCase}
-use Rattle.langtag_distance.specs.Nearness.{kept, is_fallback}
-use Rattle.langtag_distance.proofs.AlikeDistances.{distance-none, unlikely-alike, distance-alike, both-alike}
+use Rattle.langtag_choice.specs.Nearness.{kept, is_fallback}
+use Rattle.langtag_choice.proofs.VariantTexts.{lacking-fold, lacking-none}
+use Rattle.langtag_choice.proofs.AlikeDistances.{distance-none, unlikely-alike, distance-alike, both-alike}
 
 -- ---- it is the only one
 
@@ -35,7 +36,7 @@ module _ (elements : List Element) (tags : List (Option (List ℕ))) where
       (a b : Pair elements tags) → IsAtMost (rank_of_pair elements tags a) (rank_of_pair elements tags b) → IsAtMost (rank_of_pair elements tags b) (rank_of_pair elements tags a) →
       a.index ≡ b.index
   unfolding rank
-  same_index a b one other = ap (λ ranks. get_or ranks 6 0) (both_at_most (rank_of_pair elements tags a) (rank_of_pair elements tags b) one other)
+  same_index a b one other = ap (λ ranks. get_or ranks 7 0) (both_at_most (rank_of_pair elements tags a) (rank_of_pair elements tags b) one other)
 
   same_choice : (a b : Option ℕ) → IsChoice elements tags a → IsChoice elements tags b → b ≡ a
   same_choice None None none also = refl
@@ -117,7 +118,7 @@ module _ (elements : List Element) (all : List (Option (List ℕ))) (place : ℕ
   leads : (other : Pair elements all) → IsAtMost (rank place element index first.tag) (rank_of_pair elements all other)
   unfolding rank
   leads other =
-      grind (arith, nat_tests, reach_none, heaviest.first other.place, heaviest.most other.place, heaviest.there, lost_none, alike_kept, unlikely-alike, ltb-false, eqb_tells)
+      grind (arith, nat_tests, reach_none, lacking-none element.range first.tag first.alike, heaviest.first other.place, heaviest.most other.place, heaviest.there, lost_none, alike_kept, unlikely-alike, ltb-false, eqb_tells)
 
   is_answer : (answer : Option ℕ) → IsChoice elements all answer → answer ≡ Some index
   unfolding own_pair
@@ -149,7 +150,7 @@ serves-fold element tag = rw (is_star-fold element.range, reach-fold element.ran
 
 rank-fold : (place : ℕ) (element : Element) (index : ℕ) (tag : List ℕ) → rank place (folded element) index (fold_text tag) ≡ rank place element index tag
 unfolding rank
-rank-fold place element index tag = grind (arith, common_steps, reach-fold, length-fold, kept-fold, unlikely-alike, fold_text-twice)
+rank-fold place element index tag = grind (arith, common_steps, lacking-fold, reach-fold, length-fold, kept-fold, unlikely-alike, fold_text-twice)
 
 -- ---- what is refused
 

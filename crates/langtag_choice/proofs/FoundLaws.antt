@@ -2,60 +2,97 @@
 use Rattle.langtag_scan.proofs.Prelude.{◌≡◌, ℕ, true, List, get_or, Option, Some, None, option_map, ap, refl, sym, subst, ◌∙◌, ◌-◌, ◌==◌, false, ◌&&◌, ◌||◌, nat_lt, arith, Bool, [], ◌∷◌, ◌+◌, ◌<◌, zero, suc, length, min, inl, inr, slice_get, replicate, or-true, eqb_tells, nat_tests, and_parts, eq-eqb, eqb-true, not-true, or_cases, cases_lt, get_or_from_slice_get, slice_get-get_or, slice_get_within, list_any, ForSome}
 use Rattle.std.proofs.lemmas.Option.{slice_get_cases}
 use Rattle.langtag_range.specs.Definitions.{Element, basic_text}
-use Rattle.langtag_distance.specs.Serves.{serves, is_excluded}
-use Rattle.langtag_distance.specs.Serves.{IsAtMost, rank}
+use Rattle.langtag_choice.specs.Serves.{serves, is_excluded}
+use Rattle.langtag_choice.specs.Serves.{IsAtMost, rank}
 use Rattle.langtag_choice.specs.Best.{IsChoice, IsMatchOf, Pair, rank_of_pair, is_refused, longest}
-use Rattle.langtag_distance.specs.Distance.{distance_of_texts}
-use Rattle.langtag_distance.specs.Near.{wish_element}
-use Rattle.langtag_distance.specs.Candidates.{IsNotAfter, Takes}
-use Rattle.langtag_choice.specs.Found.{IsBestFound, IsBestOf, Tries, TriesRange, is_flagged, is_unrefused_at}
-use Rattle.langtag_distance.specs.KnownTexts.{is_known, known_text}
+use Rattle.langtag_choice.specs.Distance.{distance_of_texts}
+use Rattle.langtag_choice.specs.Near.{wish_element}
+use Rattle.langtag_choice.specs.Candidates.{IsNotAfter, Takes}
+use Rattle.langtag_choice.specs.Found.{IsBestFound, IsBestOf, Tries, TriesOf, TriesRange, TriesRangeOf, is_flagged, is_unrefused_at}
+use Rattle.langtag_choice.specs.KnownTexts.{is_known, known_text}
 use Rattle.langtag_choice.specs.declared.best_match.BestMatch.{BestMatch}
-use Rattle.langtag_distance.specs.declared.candidate.Candidate.{Candidate}
-use Rattle.langtag_distance.specs.declared.known_tag.KnownTag.{KnownTag}
-use Rattle.langtag_distance.specs.declared.wish.Wish.{Wish}
+use Rattle.langtag_choice.specs.declared.candidate.Candidate.{Candidate}
+use Rattle.langtag_choice.specs.declared.known_tag.KnownTag.{KnownTag}
+use Rattle.langtag_choice.specs.declared.wish.Wish.{Wish}
 
 -- ---- pairs that were tried
 
-module _ (elements : List Element) (tags : List (Option (List ℕ))) where
-  -- some pairs were tried, and then others
-  pub tries_both :
-      (first second both : ℕ → ℕ → Bool) (old middle new : Option Candidate) → Tries elements tags first old middle → Tries elements tags second middle new →
-      ((place index : ℕ) → place < length elements → index < length tags → both place index ≡ (first place index || second place index)) → Tries elements tags both old new
-  tries_both first second both old middle new one other same = record {
-    keeps = λ r is. other.keeps r (one.keeps r is);
-    covers = λ place element index tag tried wanted there served.
-        elim (or_cases (first place index) (second place index) (sym (same place index (slice_get_within elements place element wanted) (slice_get_within tags index (Some tag) there)) ∙ tried)) [
-          | inl before ↦ other.keeps (rank place element index tag) (one.covers place element index tag before wanted there served)
-          | inr after ↦ other.covers place element index tag after wanted there served
-        ];
-    from = λ c is. elim (other.from c is) [
-      | inl was ↦ elim (one.from c was) [
-        | inl old ↦ inl old
-        | inr at ↦ inr (same c.rank.place c.index at.1.among at.1.inside ∙ ap (λ b. b || second c.rank.place c.index) at.0, at.1)
-      ]
-      | inr at ↦ inr (same c.rank.place c.index at.1.among at.1.inside ∙ ap (λ b. first c.rank.place c.index || b) at.0 ∙ or-true (first c.rank.place c.index), at.1)
-    ];
-  }
+module _ {S : Type 0} (Covers : S → ℕ → List ℕ → Type 0) (Has : S → Candidate → Type 0) (IsApart : S → Type 0) where
+  module _ (elements : List Element) (tags : List (Option (List ℕ))) where
+    abbrev TriesHere : (ℕ → ℕ → Bool) → S → S → Type 0
+    TriesHere = TriesOf Covers Has IsApart elements tags
 
-  -- the same pairs
-  pub tries_same :
-      (some same : ℕ → ℕ → Bool) (old new : Option Candidate) → Tries elements tags some old new →
-      ((place index : ℕ) → place < length elements → index < length tags → same place index ≡ some place index) → Tries elements tags same old new
-  tries_same some same old new tries is = record {
-    keeps = tries.keeps;
-    covers = λ place element index tag tried wanted there.
-        tries.covers place element index tag (sym (is place index (slice_get_within elements place element wanted) (slice_get_within tags index (Some tag) there)) ∙ tried) wanted there;
-    from = λ c found. elim (tries.from c found) [
-      | inl old ↦ inl old
-      | inr at ↦ inr (is c.rank.place c.index at.1.among at.1.inside ∙ at.0, at.1)
-    ];
-  }
+    -- some pairs were tried, and then others
+    pub tries_both :
+        (first second both : ℕ → ℕ → Bool) (old middle new : S) → TriesHere first old middle → TriesHere second middle new →
+        ((place index : ℕ) → place < length elements → index < length tags → both place index ≡ (first place index || second place index)) → TriesHere both old new
+    tries_both first second both old middle new one other same = record {
+      keeps = λ index r is. other.keeps index r (one.keeps index r is);
+      covers = λ place element index tag tried wanted there served.
+          elim (or_cases (first place index) (second place index) (sym (same place index (slice_get_within elements place element wanted) (slice_get_within tags index (Some tag) there)) ∙ tried)) [
+            | inl before ↦ other.keeps index (rank place element index tag) (one.covers place element index tag before wanted there served)
+            | inr after ↦ other.covers place element index tag after wanted there served
+          ];
+      from = λ c is. elim (other.from c is) [
+        | inl was ↦ elim (one.from c was) [
+          | inl old ↦ inl old
+          | inr at ↦ inr (same c.rank.place c.index at.1.among at.1.inside ∙ ap (λ b. b || second c.rank.place c.index) at.0, at.1)
+        ]
+        | inr at ↦ inr (same c.rank.place c.index at.1.among at.1.inside ∙ ap (λ b. first c.rank.place c.index || b) at.0 ∙ or-true (first c.rank.place c.index), at.1)
+      ];
+      apart = λ apart. other.apart (one.apart apart);
+    }
+
+    -- the same pairs
+    pub tries_same :
+        (some same : ℕ → ℕ → Bool) (old new : S) → TriesHere some old new →
+        ((place index : ℕ) → place < length elements → index < length tags → same place index ≡ some place index) → TriesHere same old new
+    tries_same some same old new tries is = record {
+      keeps = tries.keeps;
+      covers = λ place element index tag tried wanted there.
+          tries.covers place element index tag (sym (is place index (slice_get_within elements place element wanted) (slice_get_within tags index (Some tag) there)) ∙ tried) wanted there;
+      from = λ c found. elim (tries.from c found) [
+        | inl old ↦ inl old
+        | inr at ↦ inr (is c.rank.place c.index at.1.among at.1.inside ∙ at.0, at.1)
+      ];
+      apart = tries.apart;
+    }
+
+    -- no pair
+    pub tries_no_pair : (is_tried : ℕ → ℕ → Bool) (found : S) → ((place index : ℕ) → is_tried place index ≡ false) → TriesHere is_tried found found
+    tries_no_pair is_tried found none = record {
+      keeps = λ index r is. is;
+      covers = λ place element index tag tried wanted there served. absurd (cc (none place index));
+      from = λ c is. inl is;
+      apart = λ apart. apart;
+    }
+
+    -- one more range
+    pub one_more_range :
+        (entries : ℕ → Bool) (place : ℕ) (old middle new : S) → TriesHere (λ p index. entries index && nat_lt p place) old middle →
+        TriesHere (λ p index. entries index && (p == place)) middle new → TriesHere (λ p index. entries index && nat_lt p (place + 1)) old new
+    one_more_range entries place old middle new one other = tries_both _ _ _ old middle new one other (λ p index among inside. grind (arith, nat_tests))
+
+    -- all ranges
+    pub all_ranges :
+        (entries : ℕ → Bool) (place : ℕ) (old new : S) → ((p : ℕ) → p < length elements → p < place) →
+        TriesHere (λ p index. entries index && nat_lt p place) old new → TriesHere (λ p index. entries index) old new
+    all_ranges entries place old new all tries = tries_same _ _ old new tries (λ p index among inside. let below = all p among in grind (arith, nat_tests))
+
+  -- one more entry for a range
+  pub one_more_entry :
+      (tags : List (Option (List ℕ))) (wish : Wish) (element : Element) (place : ℕ) (first second both : ℕ → Bool) (old middle new : S) → wish_element wish ≡ element → wish.place ≡ place →
+      TriesRangeOf Covers Has IsApart element place tags first old middle → TriesRangeOf Covers Has IsApart (wish_element wish) wish.place tags second middle new → ((index : ℕ) → both index ≡ (first index || second index)) →
+      TriesRangeOf Covers Has IsApart element place tags both old new
+  one_more_entry tags wish element place first second both old middle new same_element same_place one other same = λ elements wanted.
+      let asked : slice_get elements wish.place ≡ Some (wish_element wish) = cc (same_element, same_place, wanted) in
+      tries_both elements tags _ _ _ old middle new (one elements wanted) (other elements asked)
+      (λ p index among inside. let is = same index in grind (arith, nat_tests))
 
 -- ---- it is the choice
 
 -- the entry at an index is a tag that is not refused
-unrefused_tag :
+pub unrefused_tag :
     (elements : List Element) (tags : List (Option (List ℕ))) (index : ℕ) → index < length tags → is_unrefused_at elements tags index ≡ true →
     (tag : List ℕ) × (slice_get tags index ≡ Some (Some tag)) × (is_refused elements tag ≡ false)
 unrefused_tag elements tags index inside is = grind (arith, nat_tests, slice_get-get_or tags index, not-true)
@@ -134,7 +171,7 @@ pub takes_at :
     (tags : List (Option (List ℕ))) (wish : Wish) (known : KnownTag) (index : ℕ) (old new : Option Candidate) → index < length tags → IsKnownAt tags index known →
     Takes wish known index old new → TriesRange (wish_element wish) wish.place tags (λ there. there == index) old new
 takes_at tags wish known index old new inside at takes elements wanted = record {
-  keeps = takes.keeps;
+  keeps = λ there r. takes.keeps r;
   covers = λ place element there tag tried asked found served.
       let parts = and_parts (there == index) (place == wish.place) tried in
       let same_index = eqb-true there index parts.0 in
@@ -158,27 +195,8 @@ takes_at tags wish known index old new inside at takes elements wanted = record 
           },
         )
   ];
+  apart = λ apart. apart;
 }
-
--- ---- one more
-
--- one more entry for a range
-pub one_more_entry :
-    (tags : List (Option (List ℕ))) (wish : Wish) (element : Element) (place : ℕ) (first second both : ℕ → Bool) (old middle new : Option Candidate) → wish_element wish ≡ element → wish.place ≡ place →
-    TriesRange element place tags first old middle → TriesRange (wish_element wish) wish.place tags second middle new → ((index : ℕ) → both index ≡ (first index || second index)) → TriesRange element place tags both old new
-one_more_entry tags wish element place first second both old middle new same_element same_place one other same = grind (arith, tries_both, nat_tests)
-
--- one more range
-pub one_more_range :
-    (elements : List Element) (tags : List (Option (List ℕ))) (entries : ℕ → Bool) (place : ℕ) (old middle new : Option Candidate) → Tries elements tags (λ p index. entries index && nat_lt p place) old middle →
-    Tries elements tags (λ p index. entries index && (p == place)) middle new → Tries elements tags (λ p index. entries index && nat_lt p (place + 1)) old new
-one_more_range elements tags entries place old middle new one other = tries_both elements tags _ _ _ old middle new one other (λ p index among inside. grind (arith, nat_tests))
-
--- all ranges
-pub all_ranges :
-    (elements : List Element) (tags : List (Option (List ℕ))) (entries : ℕ → Bool) (place : ℕ) (old new : Option Candidate) → ((p : ℕ) → p < length elements → p < place) →
-    Tries elements tags (λ p index. entries index && nat_lt p place) old new → Tries elements tags (λ p index. entries index) old new
-all_ranges elements tags entries place old new all tries = tries_same elements tags _ _ old new tries (λ p index among inside. let below = all p among in grind (arith, nat_tests))
 
 -- ---- flags
 

@@ -1,3 +1,12 @@
+pub mod AlikeDistances
 pub mod ChoiceLaws
+pub mod FarTags
 pub mod FoundLaws
+pub mod MatchingTables
+pub mod PreparedForms
+pub mod PutLaws
+pub mod RankLaws
+pub mod Refusals
 pub mod SuitableTags
+pub mod TurnLaws
+pub mod VariantTexts

@@ -1,6 +1,6 @@
 -- The tags of a site by their indices.
 -- The tags that are chosen in turn.
-use Rattle.langtag_scan.proofs.Prelude.{◌≡◌, ℕ, ◌<◌, List, length, get_or, None, Some, sym, ap, ◌∙◌, option_map, zero, suc, ◌≢◌, ◌⊎◌, inl, inr, ◌≤◌, ◌+◌, ◌-◌, ◌==◌, [], ◌∷◌, ◌++◌, Option, is_some, cond, count_by, slice_get, set, drop, refl, subst, arith, All, get_or-map, length-map, append_assoc, append-nil, drop-drop, drop-set-lt, length-append, length-set, eqb_tells, All-cons, All-nil, count_by-le-length, sum_by-cons, list_any, common_steps, nat_tests}
+use Rattle.langtag_scan.proofs.Prelude.{◌≡◌, ℕ, ◌<◌, List, length, get_or, None, Some, sym, ap, ◌∙◌, option_map, zero, suc, ◌≢◌, ◌⊎◌, inl, inr, ◌≤◌, ◌+◌, ◌-◌, ◌==◌, [], ◌∷◌, ◌++◌, Option, is_some, cond, count_by, slice_get, set, drop, refl, subst, arith, All, get_or-map, length-map, append_assoc, append-nil, drop-drop, drop-set-lt, length-append, length-set, eqb_tells, All-cons, All-nil, count_by-le-length, sum_by-cons, list_any, common_steps, nat_tests, cases_lt, take, length-take, get_or_past, true, false, true≢false, ◌&&◌, and_parts}
 use Rattle.std.proofs.Common.{Contains}
 use Rattle.langtag.specs.Text.{lang_tag_text}
 use Rattle.langtag_choice.specs.ListTexts.{tag_texts}
@@ -11,7 +11,10 @@ use Rattle.std.proofs.lemmas.List.Kept.{AllPairs-cons}
 use Rattle.std.proofs.lemmas.Option.{unwrap_or-slice_get}
 use Rattle.langtag_range.specs.Element.{Element}
 use Rattle.langtag_choice.specs.Best.{IsChoice}
-use Rattle.langtag_choice.specs.Remaining.{without_all}
+use Rattle.langtag_choice.specs.Found.{is_tag_at, is_unrefused_at}
+use Rattle.langtag_choice.specs.Serves.{is_excluded}
+use Rattle.langtag_choice.proofs.FoundLaws.{none_refused}
+use Rattle.langtag_choice.specs.Remaining.{GoesOn, without_all}
 use Rattle.langtag_choice.specs.Suitable.{AreDistinct, AreSuitable, BeginsWithChoice, IsServing, LeavesNoneOut, without}
 
 pub tag_at :
@@ -45,32 +48,78 @@ pub entry_left :
 entry_left tags [] index = refl
 entry_left tags (first ∷ chosen) index = grind (arith, common_steps, gone, unwrap_or-slice_get, entry_left (without tags first) chosen index)
 
-without_one_more : (tags : List (Option (List ℕ))) (chosen : List ℕ) (index : ℕ) → without_all tags (chosen ++ index ∷ []) ≡ without (without_all tags chosen) index
+pub without_one_more : (tags : List (Option (List ℕ))) (chosen : List ℕ) (index : ℕ) → without_all tags (chosen ++ index ∷ []) ≡ without (without_all tags chosen) index
 without_one_more tags [] index = refl
 without_one_more tags (first ∷ chosen) index = without_one_more (without tags first) chosen index
+
+tag_none : (tags : List (Option (List ℕ))) (index : ℕ) → get_or tags index None ≡ None → is_tag_at tags index ≡ false
+tag_none tags index none = rw none refl
+
+-- a tag that is left is one of the entries
+pub tag_within : (tags : List (Option (List ℕ))) (chosen : List ℕ) (index : ℕ) → is_tag_at (without_all tags chosen) index ≡ true → index < length tags
+tag_within tags chosen index tag = elim (cases_lt index (length tags)) [
+  | inl below ↦ below
+  | inr past ↦ absurd (true≢false (sym tag ∙ tag_none (without_all tags chosen) index (get_or_past (without_all tags chosen) index None (subst (λ n. n ≤ index) (sym (without_count tags chosen)) past))))
+]
+
+-- a tag that is left is a tag of the list
+pub tag_there : (tags : List (Option (List ℕ))) (chosen : List ℕ) (index : ℕ) → is_tag_at (without_all tags chosen) index ≡ true → is_tag_at tags index ≡ true
+tag_there tags chosen index tag = grind (arith, common_steps, nat_tests, entry_left tags chosen index)
+
+-- a tag that is left is refused if it is refused among all
+pub tag_unrefused :
+    (elements : List Element) (tags : List (Option (List ℕ))) (chosen : List ℕ) (index : ℕ) →
+    (is_tag_at (without_all tags chosen) index && is_unrefused_at elements tags index) ≡ is_unrefused_at elements (without_all tags chosen) index
+tag_unrefused elements tags chosen index = grind (arith, common_steps, nat_tests, entry_left tags chosen index)
+
+-- no tag that is left is refused if no range has the weight 0
+pub none_left_refused :
+    (elements : List Element) (tags : List (Option (List ℕ))) (chosen : List ℕ) (index : ℕ) → list_any is_excluded elements ≡ false →
+    is_tag_at (without_all tags chosen) index ≡ is_unrefused_at elements (without_all tags chosen) index
+none_left_refused elements tags chosen index none = grind (arith, common_steps, nat_tests, none_refused elements)
+
+-- an entry that is left and not refused is one of the entries
+pub free_within :
+    (elements : List Element) (tags : List (Option (List ℕ))) (chosen : List ℕ) (index : ℕ) → is_unrefused_at elements (without_all tags chosen) index ≡ true → index < length tags
+free_within elements tags chosen index free =
+    tag_within tags chosen index (and_parts (is_tag_at (without_all tags chosen) index) (is_unrefused_at elements tags index) (tag_unrefused elements tags chosen index ∙ free)).0
 
 -- ---- choosing in turn
 
 module _ (elements : List Element) (tags : List (Option (List ℕ))) (room : ℕ) where
-  -- these were chosen first: what is suitable among the other tags goes on with them
-  abbrev pub GoesOn : List ℕ → Type 0
-  GoesOn chosen = (more : List ℕ) → AreSuitable elements (without_all tags chosen) (room - length chosen) more → AreSuitable elements tags room (chosen ++ more)
-
-  pub goes_on_from_none : GoesOn []
+  pub goes_on_from_none : GoesOn elements tags room []
   goes_on_from_none more suitable = grind (arith)
 
-  pub one_more : (chosen : List ℕ) (index : ℕ) → length chosen < room → IsChoice elements (without_all tags chosen) (Some index) → GoesOn chosen → GoesOn (chosen ++ index ∷ [])
+  pub one_more : (chosen : List ℕ) (index : ℕ) → length chosen < room → IsChoice elements (without_all tags chosen) (Some index) → GoesOn elements tags room chosen → GoesOn elements tags room (chosen ++ index ∷ [])
   one_more chosen index below choice goes more suitable =
       let number : room - length (chosen ++ index ∷ []) ≡ room - length chosen - 1 = omega (arith, length-append chosen (index ∷ [])) in
       let rest : AreSuitable elements (without_all tags (chosen ++ index ∷ [])) (room - length chosen - 1) more = subst (λ n. AreSuitable elements (without_all tags (chosen ++ index ∷ [])) n more) number suitable in
       let others : AreSuitable elements (without (without_all tags chosen) index) (room - length chosen - 1) more = subst (λ left. AreSuitable elements left (room - length chosen - 1) more) (without_one_more tags chosen index) rest in
       subst (AreSuitable elements tags room) (sym (append_assoc chosen (index ∷ []) more)) (goes (index ∷ more) (omega (arith, below), choice, others))
 
-  pub none_more : (chosen : List ℕ) → IsChoice elements (without_all tags chosen) None → GoesOn chosen → AreSuitable elements tags room chosen
+  pub none_more : (chosen : List ℕ) → IsChoice elements (without_all tags chosen) None → GoesOn elements tags room chosen → AreSuitable elements tags room chosen
   none_more chosen none goes = subst (AreSuitable elements tags room) (append-nil chosen) (goes [] (λ some. none))
 
-  pub all_room : (chosen : List ℕ) → length chosen ≡ room → GoesOn chosen → AreSuitable elements tags room chosen
+  pub all_room : (chosen : List ℕ) → length chosen ≡ room → GoesOn elements tags room chosen → AreSuitable elements tags room chosen
   all_room chosen full goes = subst (AreSuitable elements tags room) (append-nil chosen) (goes [] (λ some. absurd (omega (arith, full, some))))
+
+-- the indices are all: no other tag is suitable, or there is no room left
+pub all_chosen :
+    (elements : List Element) (tags : List (Option (List ℕ))) (room count : ℕ) (found : List ℕ) → length found ≡ room → count ≤ room → (count < room → IsChoice elements (without_all tags (take count found)) None) →
+    GoesOn elements tags room (take count found) → AreSuitable elements tags room (take count found)
+all_chosen elements tags room count found long within last goes = elim (cases_lt count room) [
+  | inl below ↦ none_more elements tags room (take count found) (last below) goes
+  | inr full ↦ all_room elements tags room (take count found) (omega (arith, length-take count found)) goes
+]
+
+pub goes_with :
+    (elements : List Element) (tags : List (Option (List ℕ))) (some room : ℕ) (before after : List ℕ) → some ≡ room → (GoesOn elements tags some before → GoesOn elements tags some after) →
+    GoesOn elements tags room before → GoesOn elements tags room after
+goes_with elements tags some room before after same step goes = subst (λ n. GoesOn elements tags n after) same (step (subst (λ n. GoesOn elements tags n before) (sym same) goes))
+
+-- the rest of an array is unchanged from a later place on
+pub rest_later : (new old : List ℕ) (count later : ℕ) → drop count new ≡ drop count old → count ≤ later → drop later new ≡ drop later old
+rest_later new old count later same after = grind (arith, nat_tests, drop-drop (later - count) count new, drop-drop (later - count) count old)
 
 -- the rest of an array, after one more entry was written
 pub rest_after : (new old : List ℕ) (count index : ℕ) → drop count new ≡ drop count old → drop (count + 1) (set new count index) ≡ drop (count + 1) old
@@ -79,12 +128,17 @@ rest_after new old count index same = grind (arith, nat_tests, drop-set-lt (coun
 -- ---- one tag fewer
 
 -- a tag that remains is another tag
-stays : (tags : List (Option (List ℕ))) (index other : ℕ) (tag : List ℕ) → slice_get (without tags index) other ≡ Some (Some tag) → (index ≢ other) × (slice_get tags other ≡ Some (Some tag))
+pub stays : (tags : List (Option (List ℕ))) (index other : ℕ) (tag : List ℕ) → slice_get (without tags index) other ≡ Some (Some tag) → (index ≢ other) × (slice_get tags other ≡ Some (Some tag))
 stays tags index other tag there = grind (arith, gone tags index other, eqb_tells index other)
 
 -- another tag remains
-remains : (tags : List (Option (List ℕ))) (index other : ℕ) (tag : List ℕ) → other ≢ index → slice_get tags other ≡ Some (Some tag) → slice_get (without tags index) other ≡ Some (Some tag)
+pub remains : (tags : List (Option (List ℕ))) (index other : ℕ) (tag : List ℕ) → other ≢ index → slice_get tags other ≡ Some (Some tag) → slice_get (without tags index) other ≡ Some (Some tag)
 remains tags index other tag differs there = grind (arith, gone tags index other, eqb_tells index other)
+
+-- a tag that is left is one of the tags
+pub stays_all : (tags : List (Option (List ℕ))) (chosen : List ℕ) (index : ℕ) (tag : List ℕ) → slice_get (without_all tags chosen) index ≡ Some (Some tag) → slice_get tags index ≡ Some (Some tag)
+stays_all tags [] index tag there = there
+stays_all tags (first ∷ chosen) index tag there = (stays tags first index tag (stays_all (without tags first) chosen index tag there)).1
 
 -- ---- what follows
 

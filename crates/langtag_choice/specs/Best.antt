@@ -1,7 +1,7 @@
 -- The choice: the best of some tags for a reader's language ranges and their weights.
 use Rattle.std.specs.Prelude.{◌≡◌, ℕ, Bool, false, not, ◌&&◌, if◌then◌else◌, IsTrue, List, [], ◌∷◌, Option, Some, MatchOption, length, max, nat_lt, slice_get}
-use Rattle.langtag_distance.specs.Distance.{distance_of_texts}
-use Rattle.langtag_distance.specs.Serves.{IsAtMost, is_excluded, is_wish, rank, serves}
+use Rattle.langtag_choice.specs.Distance.{distance_of_texts}
+use Rattle.langtag_choice.specs.Serves.{IsAtMost, is_excluded, is_wish, rank, serves}
 use Rattle.langtag_range.specs.Definitions.{Element, test_basic, is_star, basic_text}
 use Rattle.langtag_choice.specs.declared.best_match.BestMatch.{BestMatch}
 

@@ -2,7 +2,7 @@
 use Rattle.std.specs.Prelude.{◌≡◌, ℕ, ◌<◌, ◌≤◌, false, IsTrue, List, map, Option, Some, length, is_some, Contains, slice_get, option_map}
 use Rattle.langtag_scan.specs.Grammar.{Alike, fold_text}
 use Rattle.langtag_range.specs.Definitions.{Element, fallbacks, is_star, folded, wanted_elements}
-use Rattle.langtag_distance.specs.Serves.{is_wish}
+use Rattle.langtag_choice.specs.Serves.{is_wish}
 use Rattle.langtag_choice.specs.Best.{IsChoice, is_refused}
 
 -- there is no other choice

@@ -4,20 +4,21 @@ ghost use Rattle.langtag_scan.specs.Prelude.{list_any};
 ghost use Rattle.langtag_range.specs.Definitions.{basic_text, wanted_elements};
 ghost use Rattle.langtag_header.specs.Text.{accept_language_ranges};
 ghost use Rattle.langtag_choice.specs.Best as spec;
-ghost use Rattle.langtag_distance.specs.Serves.{is_excluded};
+ghost use Rattle.langtag_choice.specs.Serves.{is_excluded};
 ghost use Rattle.langtag_choice.specs.ChoiceLaws as laws;
-ghost use Rattle.langtag_distance.specs.Distance.{distance_of_texts};
+ghost use Rattle.langtag_choice.specs.Distance.{distance_of_texts};
 ghost use Rattle.langtag_choice.specs.Found.{IsBestFound, is_unrefused_at};
 ghost use Rattle.langtag_choice.specs.ListTexts.{ordered_elements, tag_texts, weighted_elements};
 
 use crate::best_match::BestMatch;
 use crate::by_ranges::first_by_ranges;
 use crate::by_tags::first_by_tags;
+use crate::candidate::{Candidate, index_of};
 use crate::range_list::RangeList;
 use crate::refused::is_refused;
+use crate::tag_distance::range_distance;
 use crate::tag_list::{TagList, Tags};
 use langtag::LangTag;
-use langtag_distance::{Candidate, index_of, range_distance};
 use langtag_header::{AcceptLanguage, LanguageRange};
 
 /// Returns the index of the best tag for an Accept-Language header (RFC 9110 section 12.5.4), or `None` if no tag is

@@ -2,13 +2,15 @@
 ghost use Rattle.std.specs.Prelude.{◌≡◌, IsTrue, None, true};
 ghost use Rattle.langtag_scan.specs.Prelude.{list_any};
 ghost use Rattle.langtag_range.specs.Definitions.{listed_element, is_language_range, hyphened};
-ghost use Rattle.langtag_distance.specs.Serves.{is_excluded};
+ghost use Rattle.langtag_choice.specs.Serves.{is_excluded};
 ghost use Rattle.langtag_choice.specs.Found.{Tries, TriesRange};
 
+use crate::candidate::Candidate;
+use crate::improve::limit;
 use crate::known_at::improve_entry;
 use crate::range_list::RangeList;
 use crate::tag_list::TagList;
-use langtag_distance::{Candidate, Wish, limit};
+use crate::wish::Wish;
 use langtag_range::WantedRange;
 
 /// Returns the best of all candidates, even if it is refused or not a tag, and whether a range has the weight 0.

@@ -2,11 +2,14 @@
 ghost use Rattle.std.specs.Prelude.{◌≡◌, ◌<◌, ◌==◌, IsTrue, None, length, slice_index_or};
 ghost use Rattle.langtag_scan.specs.Prelude.{ForSome};
 ghost use Rattle.langtag_choice.specs.Found.{TriesRange};
-ghost use Rattle.langtag_distance.specs.Near.{wish_element};
-ghost use Rattle.langtag_distance.specs.KnownTexts.{is_known, known_text};
+ghost use Rattle.langtag_choice.specs.Near.{wish_element};
+ghost use Rattle.langtag_choice.specs.KnownTexts.{is_known, known_text};
 
+use crate::candidate::Candidate;
+use crate::improve::improve_near;
+use crate::known_tag::KnownTag;
 use crate::tag_list::TagList;
-use langtag_distance::{Candidate, KnownTag, Wish, improve_near};
+use crate::wish::Wish;
 
 /// Returns the tag at an index of a list as the choice reads it.
 pub(crate) fn known_at<T: TagList>(tags: &T, index: usize) -> KnownTag<'_>

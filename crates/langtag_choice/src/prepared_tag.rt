@@ -1,10 +1,10 @@
 //! A tag with what the choice computes of it.
 ghost use Rattle.std.specs.Prelude.{◌≡◌, IsTrue};
 ghost use Rattle.langtag.specs.Definitions.{lang_tag_text};
-ghost use Rattle.langtag_distance.specs.Prepared.{is_prepared_for};
+ghost use Rattle.langtag_choice.specs.Prepared.{is_prepared_for};
 
+use crate::prepared_form::PreparedForm;
 use langtag::LangTag;
-use langtag_distance::PreparedForm;
 
 /// A tag with what the choice computes of it.
 ///

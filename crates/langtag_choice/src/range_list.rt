@@ -31,7 +31,7 @@ pub trait RangeList<'a>: Copy {
 }
 
 /// An Accept-Language header, read as `langtag_match::wanted_ranges` reads it.
-#[tactic(auto, using(langtag_distance::proofs::FarTags::basic_read, langtag_distance::proofs::FarTags::range_read))]
+#[tactic(auto, using(crate::proofs::FarTags::basic_read, crate::proofs::FarTags::range_read))]
 impl<'a> RangeList<'a> for &'a [u8] {
     ghost elements = { λ header. wanted_elements header.now };
 

@@ -8,11 +8,11 @@ ghost use Rattle.langtag_range.specs.Definitions.{wanted_elements};
 
 use crate::best::{best_among, match_among};
 use crate::best_match::BestMatch;
+use crate::prepared_form::PreparedForm;
 use crate::prepared_tag::PreparedTag;
 use crate::range_list::RangeList;
 use crate::tag_list::TagList;
 use langtag::LangTag;
-use langtag_distance::PreparedForm;
 use langtag_header::{AcceptLanguage, LanguageRange};
 
 /// The tags of a site, prepared for many choices. A choice among them is the same as among the tags themselves, but takes

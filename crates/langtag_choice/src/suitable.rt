@@ -1,12 +1,14 @@
 //! All tags that suit a reader, best first.
-ghost use Rattle.std.specs.Prelude.{◌≡◌, ◌≤◌, IfOk, length, take, drop, All};
+ghost use Rattle.std.specs.Prelude.{◌≡◌, ◌<◌, ◌≤◌, IfOk, None, false, true, length, take, drop, All};
 ghost use Rattle.langtag_range.specs.Definitions.{wanted_elements};
+ghost use Rattle.langtag_choice.specs.Best.{IsChoice};
 ghost use Rattle.langtag_choice.specs.ListTexts.{ordered_elements, tag_texts};
+ghost use Rattle.langtag_choice.specs.Remaining.{GoesOn, without_all};
 ghost use Rattle.langtag_choice.specs.Suitable as spec;
 
-use crate::best::best_among;
+use crate::by_tags::best_by_tags;
 use crate::range_list::RangeList;
-use crate::remaining::Remaining;
+use crate::shortlist::{take_first, worst_of};
 use crate::tag_list::{TagList, Tags};
 use langtag::LangTag;
 use langtag_header::LanguageRange;
@@ -16,8 +18,7 @@ use std::alloc::{AllocError, Global};
 /// that [`best_for_header`](crate::best_for_header) chooses, the tag that it chooses among the others, and so on. For
 /// `de-CH,fr;q=0.7` and the tags `en`, `fr`, `de` and `de-AT`, they are 2, 3 and 1.
 ///
-/// The time is that of a choice for each index, as long as the list is short. To limit it, call [`write_suitable`] with
-/// a short array.
+/// The time is that of a choice for every 16 indices. To limit it, call [`write_suitable`] with a short array.
 ///
 /// # Errors
 ///
@@ -146,6 +147,9 @@ pub fn write_suitable<'a, R: RangeList<'a>, T: TagList>(
     choose_in_turn(ranges, tags, found)
 }
 
+/// The number of tags that one pass over all tags finds.
+const BLOCK: usize = 16;
+
 /// Writes the indices of the tags that are chosen in turn to an array, and returns their number.
 fn choose_in_turn<'a, R: RangeList<'a>, T: TagList>(
     ranges: R,
@@ -156,15 +160,43 @@ fn choose_in_turn<'a, R: RangeList<'a>, T: TagList>(
     ensures within { result ≤ length found.old }
     ensures rest { drop result found.new ≡ drop result found.old }
 {
-    for count in 0..found.len() {
-        let left = Remaining {
-            tags,
-            chosen: &found[..count],
-        };
-        let Some(index) = best_among(ranges, &left) else {
+    let mut count = 0;
+    while count < found.len() {
+        let (next, is_last) = choose_next(ranges, tags, found, count);
+        count = next;
+        if is_last {
             return count;
-        };
-        found[count] = index;
+        }
     }
-    found.len()
+    count
+}
+
+/// Writes the indices of the next tags that are chosen in turn behind the first `start` indices, as many as one pass
+/// over the tags finds. Returns the number of all indices, and whether there are no more.
+fn choose_next<'a, R: RangeList<'a>, T: TagList>(
+    ranges: R,
+    tags: &T,
+    found: &mut [usize],
+    start: usize,
+) -> (usize, bool)
+    requires { start < length found.old }
+    ensures goes_on { GoesOn (R.elements ranges) (T.texts tags.now) (length found.old) (take start found.old) → GoesOn (R.elements ranges) (T.texts tags.now) (length found.old) (take result.0 found.new) }
+    ensures last { result.1 ≡ true → result.0 < length found.old → IsChoice (R.elements ranges) (without_all (T.texts tags.now) (take result.0 found.new)) None }
+    ensures more { result.1 ≡ false → start < result.0 }
+    ensures ahead { start ≤ result.0 }
+    ensures within { result.0 ≤ length found.old }
+    ensures rest { drop result.0 found.new ≡ drop result.0 found.old }
+{
+    let mut best = [None; BLOCK];
+    best_by_tags(ranges, tags, &found[..start], &mut best);
+    let worst = best[worst_of(&best)];
+    let mut end = start;
+    while end < found.len() {
+        let Some(next) = take_first(&mut best) else {
+            return (end, worst.is_none());
+        };
+        found[end] = next.index;
+        end += 1;
+    }
+    (end, true)
 }

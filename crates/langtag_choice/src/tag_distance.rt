@@ -1,10 +1,27 @@
 //! The distance from a desired tag to a supported tag (UTS #35, part 1, section 'Language Matching').
-ghost use Rattle.std.specs.Prelude.{◌≡◌, ◌≤◌, ◌⊎◌};
+ghost use Rattle.std.specs.Prelude.{◌≡◌, ◌+◌, ◌≤◌, ◌⊎◌, ◌==◌, ◌&&◌, IsTrue, false};
+ghost use Rattle.langtag_scan.specs.Grammar.{are_alike};
 ghost use Rattle.langtag.specs.Definitions.{lang_tag_text};
-ghost use Rattle.langtag_distance.specs.Distance as spec;
+ghost use Rattle.langtag_range.specs.Definitions.{basic_text, is_language_range, hyphened};
+ghost use Rattle.langtag_choice.specs.Distance as spec;
+ghost use Rattle.langtag_cldr.specs.Definitions.{are_alike_fields, field_texts};
 
+use crate::region_distance::region_distance;
+use crate::rule_distance::{language_distance, script_distance};
 use langtag::LangTag;
-use langtag_distance::texts_distance;
+use langtag_cldr::{TagFields, are_alike, matching_form};
+use langtag_scan::case_insensitive_eq;
+
+/// The distance of two different tags if one of them has no known language. Such a tag is `und`, a private-use tag,
+/// or a tag that begins with `i-`.
+///
+/// ```
+/// use langtag::LangTag;
+/// use langtag_choice::{FORMLESS_DISTANCE, distance};
+///
+/// distance(LangTag::new("x-a")?, LangTag::new("de")?) == FORMLESS_DISTANCE; // true
+/// ```
+pub const FORMLESS_DISTANCE: u8 = 255;
 
 /// Returns the distance from a desired tag to a supported tag (UTS #35, Language Matching). It is 0 from `zh-TW` to
 /// `zh-Hant`, 4 from `de-AT` to `de`, 10 from `yue` to `zh-HK`, and 84 from `de` to `en`.
@@ -26,7 +43,7 @@ use langtag_distance::texts_distance;
 /// distance(LangTag::new("de-AT")?, LangTag::new("de")?); // 4
 /// distance(LangTag::new("de")?, LangTag::new("en")?); // 84
 /// ```
-#[tactic(auto, using(langtag_distance::proofs::AlikeDistances::ignores_case))]
+#[tactic(auto, using(crate::proofs::AlikeDistances::ignores_case))]
 pub fn distance(desired: LangTag<'_>, supported: LangTag<'_>) -> u8
     ensures distance { result ≡ spec.distance_of_texts (lang_tag_text desired.entry) (lang_tag_text supported.entry) }
     ensures equal { spec.ZeroIfEqual (lang_tag_text desired.entry) (lang_tag_text supported.entry) result }
@@ -34,4 +51,71 @@ pub fn distance(desired: LangTag<'_>, supported: LangTag<'_>) -> u8
     ensures most { result ≤ 134 ⊎ (result ≡ 255) }
 {
     texts_distance(desired.as_bytes(), supported.as_bytes())
+}
+
+/// Returns the distance of two strings.
+#[tactic(auto, unfolding(crate::specs::Distance::distance_of_texts))]
+pub(crate) fn texts_distance(desired: &[u8], supported: &[u8]) -> u8
+    ensures distance { result ≡ spec.distance_of_texts desired.now supported.now }
+    ensures equal { spec.ZeroIfEqual desired.now supported.now result }
+    ensures most { result ≤ 134 ⊎ (result ≡ 255) }
+{
+    match (matching_form(desired), matching_form(supported)) {
+        (Some(desired), Some(supported)) => fields_distance(desired, supported),
+        _ => formless_distance(desired, supported),
+    }
+}
+
+/// Returns the distance from a range to a tag. In the range, `_` means `-`, and each `-*` is ignored.
+#[tactic(auto, unfolding(crate::specs::Distance::distance_of_texts), using(crate::proofs::FarTags::form_read))]
+pub(crate) fn range_distance(range: &[u8], tag: &[u8]) -> u8
+    requires { IsTrue (is_language_range (hyphened range.now)) }
+    ensures { result ≡ spec.distance_of_texts (basic_text range.now) tag.now }
+{
+    match (matching_form(range), matching_form(tag)) {
+        (Some(wanted), Some(found)) => fields_distance(wanted, found),
+        _ => formless_range_distance(range, tag),
+    }
+}
+
+/// Returns the distance from a range to a tag if the range or the tag has no matching form.
+fn formless_range_distance(range: &[u8], tag: &[u8]) -> u8
+    ensures { result ≡ spec.formless_distance (basic_text range.now) tag.now }
+{
+    if are_alike(range, tag) {
+        0
+    } else {
+        FORMLESS_DISTANCE
+    }
+}
+
+/// Returns the distance of two strings if one of them has no matching form.
+fn formless_distance(desired: &[u8], supported: &[u8]) -> u8
+    ensures distance { result ≡ spec.formless_distance desired.now supported.now }
+    ensures equal { (result == 0) ≡ are_alike desired.now supported.now }
+{
+    if case_insensitive_eq(desired, supported) {
+        0
+    } else {
+        FORMLESS_DISTANCE
+    }
+}
+
+/// Returns the distance of two matching forms: 0 if and only if they are equal, ignoring case.
+fn fields_distance(desired: TagFields<'_>, supported: TagFields<'_>) -> u8
+    ensures distance { result ≡ spec.fields_distance (field_texts desired.entry) (field_texts supported.entry) }
+    ensures most { result ≤ 134 }
+    ensures equal { (result == 0) ≡ are_alike_fields (field_texts desired.entry) (field_texts supported.entry) }
+{
+    language_distance(desired, supported) + places_distance(desired, supported)
+}
+
+/// Returns the distance of the scripts and the regions of two matching forms.
+pub(crate) fn places_distance(desired: TagFields<'_>, supported: TagFields<'_>) -> u8
+    ensures distance { result ≡ spec.script_distance (field_texts desired.entry) (field_texts supported.entry) + spec.region_distance (field_texts desired.entry) (field_texts supported.entry) }
+    ensures most { result ≤ 55 }
+    ensures apart { are_alike desired.entry.language.now supported.entry.language.now ≡ false → result ≤ 54 }
+    ensures equal { (result == 0) ≡ (are_alike desired.entry.script.now supported.entry.script.now && are_alike desired.entry.region.now supported.entry.region.now) }
+{
+    script_distance(desired, supported) + region_distance(desired, supported)
 }

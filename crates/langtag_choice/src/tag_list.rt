@@ -3,10 +3,10 @@ ghost use Rattle.std.specs.Prelude.{◌≡◌, ◌<◌, ℕ, IsTrue, List, Optio
 ghost use Rattle.langtag_scan.specs.Prelude.{ForSome};
 ghost use Rattle.langtag.specs.Definitions.{lang_tag_text};
 ghost use Rattle.langtag_choice.specs.ListTexts.{tag_texts};
-ghost use Rattle.langtag_distance.specs.Prepared.{is_prepared_for};
+ghost use Rattle.langtag_choice.specs.Prepared.{is_prepared_for};
 
+use crate::prepared_form::PreparedForm;
 use langtag::LangTag;
-use langtag_distance::PreparedForm;
 
 /// A list of tags with an index for each. An entry that is not a tag is allowed, but never chosen.
 ///

@@ -1,12 +1,12 @@
 -- Likely subtags that are added again change nothing, since the rows have what it takes.
 use Rattle.langtag_scan.proofs.Prelude.{◌≡◌, ◌%◌, true, false, Bool, cond, not, ◌≤◌, List, [], ◌∷◌, ℕ, Option, None, Some, is_some, refl, sym, ap, subst, ◌∙◌, arith, ◌&&◌, ◌||◌, codes, option_map, ◌⊎◌, rules, and_parts, nat_tests, list_all, is_none, option_map_or}
 use Rattle.langtag_scan.specs.Grammar.{are_alike, Alike, fold_text, are_letters}
-use Rattle.langtag_tables.specs.Numbers.{letter_number}
+use Rattle.langtag_text.specs.Numbers.{letter_number}
 use Rattle.langtag_cldr.specs.Definitions.{Likely, likely_for, looked_up, or_else, are_alike_fields, or_other, filled, known, known_fields, add_likely, language_alone, language_rows, other_rows, likely_subtags, region_aliases, region_alone}
-use Rattle.langtag_tables.specs.Fields.{Fields}
+use Rattle.langtag_text.specs.Fields.{Fields}
 use Rattle.langtag_cldr.specs.Rows.{of_language}
 use Rattle.langtag_cldr.proofs.AlikeFields.{alike_fields, likely_for-alike, looked_up-alike, alone_alike}
-use Rattle.langtag_tables.proofs.Alike.{AlikeFields, alike_is}
+use Rattle.langtag_text.proofs.Alike.{AlikeFields, alike_is}
 use Rattle.langtag_cldr.proofs.LanguageBits.{row_at}
 use Rattle.langtag_cldr.proofs.TableRows.{from_bit, has_bit, is_kept, is_language_row, is_other_row, is_settled, is_there, is_whole, rows_listed, stays_unknown}
 use Rattle.langtag_cldr.proofs.RowLaws.{all_other, either, language_found}

@@ -1,10 +1,10 @@
 -- Fields that are equal but for case have likely subtags that are. A language that is there stays in the matching form.
 use Rattle.langtag_scan.proofs.Prelude.{◌≡◌, ℕ, ◌<◌, List, length, option_map, arith, true, Bool, cond, [], ◌∷◌, Option, None, Some, refl, subst, common_steps, nat_tests}
 use Rattle.langtag_scan.specs.Grammar.{Alike}
-use Rattle.langtag_tables.specs.Fields.{Fields}
+use Rattle.langtag_text.specs.Fields.{Fields}
 use Rattle.langtag_cldr.specs.Definitions.{completed, letters_replaced, matching_form, most_likely, region_replaced, replaced_form, language_replaced, Likely, are_alike_fields, likely_for, looked_up, filled, or_other, known, known_fields, add_likely, language_alone, without_script, without_region, likely_subtags, add_likely_subtags, canonical_fields, least, remove_likely_subtags, suffices}
 use Rattle.langtag_scan.proofs.CaseLaw.{length-fold}
-use Rattle.langtag_tables.proofs.Alike.{AlikeFields, alike_is, are_alike-left, are_alike-right}
+use Rattle.langtag_text.proofs.Alike.{AlikeFields, alike_is, are_alike-left, are_alike-right}
 
 pub form_completed : (text : List ℕ) → matching_form text ≡ option_map completed (replaced_form text)
 unfolding matching_form replaced_form

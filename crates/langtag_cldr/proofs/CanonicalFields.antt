@@ -3,9 +3,9 @@
 use Rattle.langtag_scan.proofs.Prelude.{◌≡◌, ℕ, ◌==◌, ◌%◌, ◌&&◌, ◌||◌, true, false, Bool, leb, ltb, not, List, [], length, Option, None, Some, is_some, option_map, refl, sym, ap, subst, ◌∙◌, arith, codes, and_parts, eqb-true, nat_tests, nil_from_length, list_all, is_none, option_map_or}
 use Rattle.langtag_scan.specs.Grammar.{Alike, are_alike, fold_byte, are_alike-decides, are_letters, is_letter}
 use Rattle.langtag_scan.proofs.CaseLaw.{all-fold, is_letter-fold}
-use Rattle.langtag_tables.specs.Fields.{Fields}
-use Rattle.langtag_tables.specs.Numbers.{letter_number}
-use Rattle.langtag_tables.proofs.Letters.{letter_number-tells}
+use Rattle.langtag_text.specs.Fields.{Fields}
+use Rattle.langtag_text.specs.Numbers.{letter_number}
+use Rattle.langtag_text.proofs.Letters.{letter_number-tells}
 use Rattle.langtag_cldr.specs.Definitions.{language_aliases, region_aliases, Likely, add_likely, filled, known_fields, language_alone, likely_for, likely_subtags, language_replaced, region_alone, region_replaced, with_language_from, with_region_from, add_likely_subtags, canonical_fields}
 use Rattle.langtag_cldr.proofs.AddedTwice.{AreKnown, some_value, IsAdded, absent, added, either_way, found_of, found_row, known_stays, not_first, or_other_absent, or_other_there, other_test, there_alike, there_other}
 use Rattle.langtag_cldr.proofs.RowLaws.{aliases_listed}

@@ -1,14 +1,14 @@
 -- What the class of a field says of its letters and its length, and which scripts are written from right to left.
 use Rattle.langtag_scan.proofs.Prelude.{◌≡◌, ℕ, ◌<◌, ◌≤◌, true, Bool, List, [], ◌∷◌, length, refl, arith, map, is_some, list_all, list_any}
 use Rattle.langtag_scan.specs.Grammar.{are_letters, are_alphanumeric, is_primary, is_extended, is_digit, is_letter, are_alike, fold_byte, folded_number}
-use Rattle.langtag_tables.specs.Numbers.{letter_number}
-use Rattle.langtag_tables.proofs.Letters.{primary_letters, extended_primary}
-use Rattle.langtag_tables.specs.FieldClasses.{is_language_field, is_script_field, is_region_field}
-use Rattle.langtag_tables.specs.Fields.{Fields}
+use Rattle.langtag_text.specs.Numbers.{letter_number}
+use Rattle.langtag_text.proofs.Letters.{primary_letters, extended_primary}
+use Rattle.langtag_text.specs.FieldClasses.{is_language_field, is_script_field, is_region_field}
+use Rattle.langtag_text.specs.Fields.{Fields}
 use Rattle.langtag_cldr.specs.Definitions.{known, first_index}
 use Rattle.langtag_cldr.proofs.TableRows.{are_plain}
-use Rattle.langtag_scan.proofs.TextLaws.{script_four, region_two_three, of_primary, of_script, of_region, folded_number-tells}
-use Rattle.langtag_tables.proofs.FieldClasses.{from_primary}
+use Rattle.langtag_scan.proofs.Laws.{script_four, region_two_three, of_primary, of_script, of_region, folded_number-tells}
+use Rattle.langtag_text.proofs.FieldClasses.{from_primary}
 use Rattle.langtag_cldr.specs.RightToLeft.{right_to_left_scripts}
 use Rattle.langtag_cldr.specs.declared.tables.TheConstants.{RIGHT_TO_LEFT_KEYS}
 

@@ -5,7 +5,7 @@ use Rattle.std.specs.Int.Count.{ones_step}
 use Rattle.std.proofs.Math.Nat.{div-one, pow-succ', two-pow-succ, div-div-eq-div-mul}
 use Rattle.std.proofs.Math.Seq.{take-append-add}
 use Rattle.std.proofs.lemmas.Nat.{ones_le_self}
-use Rattle.langtag_tables.specs.Numbers.{letter_number, places}
+use Rattle.langtag_text.specs.Numbers.{letter_number, places}
 use Rattle.langtag_cldr.specs.declared.tables.TheConstants.{LANGUAGE_BITS, LANGUAGE_ENDS}
 use Rattle.langtag_cldr.specs.Definitions.{language_rows, first_index}
 use Rattle.langtag_cldr.proofs.TableRows.{bits, words, from_bit, rows_listed}

@@ -1,15 +1,15 @@
 -- The rows of the tables are those of the lists, and what is deprecated is found by its number: by computation.
 use Rattle.langtag_scan.proofs.Prelude.{◌≡◌, ℕ, ◌+◌, ◌<◌, true, ◌==◌, Bool, List, [], length, get_or, map, Option, None, option_map, sym, ap, ◌∙◌, arith, ◌&&◌, ltb, not, refl, IsUtf8, codes, get_or-map, nil_from_length, IsUtf8-from_ascii, list_all, common_steps, nat_tests}
 use Rattle.langtag_scan.specs.Grammar.{are_letters, are_alphanumeric, is_letter, is_digit, is_primary, is_script, is_region, is_alphanumeric, are_alike, folded_number, fold_byte}
-use Rattle.langtag_tables.specs.Numbers.{letter_number}
-use Rattle.langtag_tables.proofs.Letters.{letter_number-tells}
+use Rattle.langtag_text.specs.Numbers.{letter_number}
+use Rattle.langtag_text.proofs.Letters.{letter_number-tells}
 use Rattle.langtag_cldr.specs.Definitions.{Likely, are_alike_fields, likely_for, or_else, filled, language_alone, language_rows, other_rows, likely_subtags, first_index, key_number, name_at, language_aliases, region_aliases, region_replacements, region_alone}
-use Rattle.langtag_tables.specs.FieldClasses.{is_language_field, is_script_field, is_region_field}
-use Rattle.langtag_tables.specs.Fields.{Fields}
+use Rattle.langtag_text.specs.FieldClasses.{is_language_field, is_script_field, is_region_field}
+use Rattle.langtag_text.specs.Fields.{Fields}
 use Rattle.langtag_cldr.specs.Numbers.{name_text}
 use Rattle.langtag_cldr.specs.Rows.{of_language, places_of, places_for, no_row}
 use Rattle.langtag_cldr.proofs.TableRows.{are_plain, is_numbered, key_number-tells, found_by_number, likely_for-append, is_alone, long_nowhere, alone_nowhere, other_nowhere, rows_listed, is_short as is_short_row, are_good, has_bit}
-use Rattle.langtag_scan.proofs.TextLaws.{IsAscii-each, alphanumeric_below, folded_number-tells}
+use Rattle.langtag_scan.proofs.Laws.{IsAscii-each, alphanumeric_below, folded_number-tells}
 use Rattle.langtag_cldr.specs.declared.alias_tables.TheConstants as table
 use Rattle.langtag_cldr.specs.declared.alias_tables.TheConstants.{ALIAS_LANGUAGES, ALIAS_SCRIPT_NAMES, ALIAS_SCRIPTS, ALIAS_REGION_NAMES, ALIAS_REGIONS, REGION_ALIAS_NAMES}
 

@@ -2,20 +2,20 @@
 -- of the lists: by computation.
 use Rattle.langtag_scan.proofs.Prelude.{◌≡◌, ◌≢◌, ℕ, zero, suc, ◌<◌, true, ltb, List, [], ◌∷◌, length, get_or, None, Some, refl, sym, ap, ◌∙◌, arith, Bool, rules, Result, nat_cmp, map, ◌+◌, ◌*◌, ◌≤◌, ◌==◌, leb, ◌&&◌, false, cond, ◌++◌, Option, option_map, ◌-◌, ◌/◌, ◌%◌, ◌^◌, not, flat_map, ◌||◌, codes, nat_tests, ltb-true, eq-eqb, ne_eqb, and_parts, searched, get_or-map, length-map, list_all, option_map_or, is_none, result_ok, common_steps}
 use Rattle.langtag_scan.specs.Grammar.{are_alike, fold_byte, folded_number, are_letters, are_alphanumeric, is_letter, is_digit, is_primary, is_script, is_region}
-use Rattle.langtag_tables.proofs.Elements.{list_all_get}
+use Rattle.langtag_text.proofs.Elements.{list_all_get}
 use Rattle.std.specs.List.Sorted.{IsBinarySearchResult}
 use Rattle.langtag_scan.proofs.FoldedNumbers.{folded_number-tells}
-use Rattle.langtag_tables.specs.Numbers.{climbs_from, letter_number, places}
-use Rattle.langtag_tables.proofs.Letters.{letter_number-tells}
-use Rattle.langtag_tables.proofs.Rising.{climb_searched, above_first}
+use Rattle.langtag_text.specs.Numbers.{climbs_from, letter_number, places}
+use Rattle.langtag_text.proofs.Letters.{letter_number-tells}
+use Rattle.langtag_text.proofs.Rising.{climb_searched, above_first}
 use Rattle.langtag_cldr.specs.Definitions.{Likely, are_alike_fields, likely_for, or_else, looked_up, first_index, name_at, place, key_number, region_aliases, language_rows, other_rows, likely_subtags, region_alone}
-use Rattle.langtag_tables.specs.FieldClasses.{is_language_field, is_script_field, is_region_field}
-use Rattle.langtag_tables.specs.Fields.{Fields}
+use Rattle.langtag_text.specs.FieldClasses.{is_language_field, is_script_field, is_region_field}
+use Rattle.langtag_text.specs.Fields.{Fields}
 use Rattle.langtag_cldr.specs.Numbers.{name_text}
 use Rattle.langtag_cldr.specs.declared.tables.TheConstants.{SCRIPT_KEYS, REGION_KEYS}
 use Rattle.langtag_cldr.specs.Rows.{no_row}
 use Rattle.langtag_cldr.specs.Scripts.{script_codes}
-use Rattle.langtag_tables.proofs.Alike.{alike_length}
+use Rattle.langtag_text.proofs.Alike.{alike_length}
 use Rattle.langtag_cldr.specs.declared.tables.TheConstants as table
 
 -- ---- where a number stands first, and what a binary search says of it

@@ -2,7 +2,7 @@
 -- most likely language for a script or a region.
 use Rattle.std.specs.Prelude.{ℕ, ◌&&◌, Bool, List, [], ◌∷◌, Option, None, Some, codes, if◌then◌else◌, option_map}
 use Rattle.langtag_scan.specs.Grammar.{are_alike}
-use Rattle.langtag_tables.specs.Fields.{Fields}
+use Rattle.langtag_text.specs.Fields.{Fields}
 
 -- a row of the data: the fields on the left become the fields on the right
 pub record Likely : Type 0 where

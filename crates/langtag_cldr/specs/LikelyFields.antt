@@ -1,7 +1,7 @@
 -- Adding and removing the likely subtags of fields (UTS #35, part 1, section 'Likely Subtags').
 use Rattle.std.specs.Prelude.{Bool, false, Option, if◌then◌else◌, option_map}
 use Rattle.langtag_scan.specs.Prelude.{option_map_or}
-use Rattle.langtag_tables.specs.Fields.{Fields}
+use Rattle.langtag_text.specs.Fields.{Fields}
 use Rattle.langtag_cldr.specs.Likely.{known_fields, add_likely, filled, are_alike_fields, language_alone, without_script, without_region}
 use Rattle.langtag_cldr.specs.LikelySubtags.{likely_subtags}
 use Rattle.langtag_cldr.specs.Matching.{language_replaced, region_replaced}

@@ -1,7 +1,7 @@
--- The likely subtags of Unicode's CLDR 48.2 (the notice: likely/LICENSE-UNICODE). Written by likely/generate.py. Do not edit.
+-- The likely subtags of Unicode's CLDR 48.2 (the notice: LICENSE-UNICODE). Written by data/likely/generate.py. Do not edit.
 use Rattle.std.specs.Prelude.{[], ◌∷◌, ◌++◌, List, codes}
 use Rattle.std.specs.List.{flat_map}
-use Rattle.langtag_tables.specs.Words.{words}
+use Rattle.langtag_text.specs.Words.{words}
 use Rattle.langtag_cldr.specs.Likely.{Likely, likely_of_languages, likely_of_fields}
 
 -- the rows whose left side is only a language: this language, and its likely script and region

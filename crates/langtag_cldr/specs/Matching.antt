@@ -4,7 +4,7 @@ use Rattle.std.specs.Prelude.{ℕ, ◌==◌, List, [], length, Option, None, cod
 use Rattle.langtag_scan.specs.Grammar.{option_map_or, are_alike}
 use Rattle.langtag_range.specs.Definitions.{basic_text, hyphened}
 use Rattle.langtag_cldr.specs.Likely.{likely_for, or_other, language_alone, known, add_likely}
-use Rattle.langtag_tables.specs.Fields.{Fields}
+use Rattle.langtag_text.specs.Fields.{Fields}
 use Rattle.langtag_cldr.specs.LikelySubtags.{likely_subtags}
 use Rattle.langtag_cldr.specs.Aliases.{language_aliases, region_aliases}
 use Rattle.langtag_cldr.specs.TextFields.{text_fields}

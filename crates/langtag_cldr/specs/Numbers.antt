@@ -1,9 +1,9 @@
 -- The numbers that stand for fields in the tables.
 use Rattle.std.specs.Prelude.{ℕ, suc, ◌+◌, ◌*◌, ◌==◌, List, [], ◌∷◌, length, map, take, slice_index_or, Option, None, Some, if◌then◌else◌, option_map}
 use Rattle.langtag_scan.specs.Grammar.{option_map_or, folded_number}
-use Rattle.langtag_tables.specs.Numbers.{letter_number}
+use Rattle.langtag_text.specs.Numbers.{letter_number}
 use Rattle.langtag_cldr.specs.declared.tables.TheConstants.{SCRIPT_KEYS, REGION_KEYS}
-use Rattle.langtag_tables.specs.Fields.{Fields}
+use Rattle.langtag_text.specs.Fields.{Fields}
 
 -- the first index of a number in a list
 abbrev pub first_index : List ℕ → ℕ → Option ℕ

@@ -1,6 +1,6 @@
--- The scripts of Unicode's CLDR 48.2 that are written from right to left (the notice: likely/LICENSE-UNICODE). Written by likely/generate.py. Do not edit.
+-- The scripts of Unicode's CLDR 48.2 that are written from right to left (the notice: LICENSE-UNICODE). Written by data/likely/generate.py. Do not edit.
 use Rattle.std.specs.Prelude.{ℕ, List, codes}
-use Rattle.langtag_tables.specs.Words.{words}
+use Rattle.langtag_text.specs.Words.{words}
 
 -- the scripts whose field 'RTL?' in scriptMetadata is YES, and the variants of Arab (Aran) and Syrc (Syre, Syrj and Syrn), which have codes of their own in ISO 15924
 unfoldable pub right_to_left_scripts : List (List ℕ)

@@ -1,7 +1,7 @@
 -- What the tables of likely subtags contain. Only contracts of private functions cite this page.
 use Rattle.std.specs.Prelude.{ℕ, List, [], Option, option_map}
 use Rattle.langtag_cldr.specs.Likely.{Likely, likely_for}
-use Rattle.langtag_tables.specs.Fields.{Fields}
+use Rattle.langtag_text.specs.Fields.{Fields}
 use Rattle.langtag_cldr.specs.LikelySubtags.{language_rows}
 
 -- the fields with only a language

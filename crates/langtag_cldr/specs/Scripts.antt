@@ -1,6 +1,6 @@
--- The codes of the scripts in the likely subtags of Unicode's CLDR 48.2 (the notice: likely/LICENSE-UNICODE). Written by likely/generate.py. Do not edit.
+-- The codes of the scripts in the likely subtags of Unicode's CLDR 48.2 (the notice: LICENSE-UNICODE). Written by data/likely/generate.py. Do not edit.
 use Rattle.std.specs.Prelude.{ℕ, List, codes}
-use Rattle.langtag_tables.specs.Words.{words}
+use Rattle.langtag_text.specs.Words.{words}
 
 -- the codes of the scripts on both sides of the rows, in alphabetical order
 unfoldable pub script_codes : List (List ℕ)

@@ -3,7 +3,7 @@
 use Rattle.std.specs.Prelude.{ℕ, ◌==◌, ◌&&◌, List, [], length, Option, None, Some, if◌then◌else◌, option_map, option_and_then}
 use Rattle.langtag_scan.specs.Grammar.{is_primary, is_region}
 use Rattle.langtag_cldr.specs.Likely.{likely_for}
-use Rattle.langtag_tables.specs.Fields.{Fields}
+use Rattle.langtag_text.specs.Fields.{Fields}
 use Rattle.langtag_cldr.specs.Aliases.{language_aliases, region_replacements}
 
 -- the language of a replacement, if the replacement has neither a script nor a region

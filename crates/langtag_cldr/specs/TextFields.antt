@@ -3,7 +3,7 @@ use Rattle.std.specs.Prelude.{ℕ, Bool, ◌==◌, ◌||◌, not, List, [], ◌�
 use Rattle.langtag_scan.specs.Grammar.{slice_split, is_primary, is_extended, is_script, is_region, subtags}
 use Rattle.langtag_range.specs.Definitions.{is_star, is_separator}
 use Rattle.langtag_cldr.specs.Likely.{known}
-use Rattle.langtag_tables.specs.Fields.{Fields}
+use Rattle.langtag_text.specs.Fields.{Fields}
 
 -- whether a subtag after the first counts: "*", which a language range may have, and empty subtags do not
 abbrev pub counts : List ℕ → Bool

@@ -1,4 +1,4 @@
-//! The deprecated languages and regions of Unicode's CLDR 48.2, in tables (the notice: likely/LICENSE-UNICODE). Written by likely/generate.py. Do not edit.
+//! The deprecated languages and regions of Unicode's CLDR 48.2, in tables (the notice: LICENSE-UNICODE). Written by data/likely/generate.py. Do not edit.
 
 /// The keys of the languages that are replaced, in ascending order: each key is the number whose base-26 digits are the letters.
 #[rattlefmt::skip]

@@ -1,8 +1,8 @@
 //! Whether a script is written from right to left.
 ghost use Rattle.std.specs.Prelude.{◌≡◌, IsTrue, map};
 ghost use Rattle.langtag_scan.specs.Grammar.{folded_number};
-ghost use Rattle.langtag_tables.specs.FieldClasses.{is_script_field};
-ghost use Rattle.langtag_tables.specs.Numbers.{climbs_from};
+ghost use Rattle.langtag_text.specs.FieldClasses.{is_script_field};
+ghost use Rattle.langtag_text.specs.Numbers.{climbs_from};
 ghost use Rattle.langtag_cldr.specs.Definitions.{is_right_to_left_script, right_to_left_scripts};
 
 use crate::keys::index_of;

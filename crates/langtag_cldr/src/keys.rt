@@ -1,7 +1,7 @@
 //! Finds the positions of strings in the tables, which contain numbers for the strings.
 ghost use Rattle.std.specs.Prelude.{◌≡◌, ◌≤◌, ◌<◌, IfSome, IsTrue, length};
 ghost use Rattle.langtag_scan.specs.Grammar.{folded_number};
-ghost use Rattle.langtag_tables.specs.Numbers.{climbs_from};
+ghost use Rattle.langtag_text.specs.Numbers.{climbs_from};
 ghost use Rattle.langtag_cldr.specs.Definitions.{first_index, place};
 
 use langtag_scan::folded_number;

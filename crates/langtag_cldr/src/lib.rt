@@ -28,7 +28,7 @@ pub use likely::{add_likely_subtags, remove_likely_subtags};
 pub use names::script_codes;
 pub use tag_fields::TagFields;
 
-// For langtag_distance and langtag_choice.
+// For langtag_choice.
 pub use keys::index_of;
 pub use likely::suffices;
 pub use matching::{completed, matching_form, replaced_form};

@@ -2,8 +2,8 @@
 //! rows.
 ghost use Rattle.std.specs.Prelude.{◌≡◌, ◌≤◌, ◌<◌, IsTrue, length, map, slice_index_or, option_map};
 ghost use Rattle.langtag_scan.specs.Class as class;
-ghost use Rattle.langtag_tables.specs.Numbers.{climbs_from, letter_number};
-ghost use Rattle.langtag_tables.specs.FieldClasses.{is_language_field};
+ghost use Rattle.langtag_text.specs.Numbers.{climbs_from, letter_number};
+ghost use Rattle.langtag_text.specs.FieldClasses.{is_language_field};
 ghost use Rattle.langtag_cldr.specs.Definitions.{filled, likely_for, likely_subtags, language_rows, other_rows, first_index, key_number, no_row, places_for, places_of, field_texts};
 ghost use Rattle.langtag_cldr.specs.declared.tables.TheConstants.{SCRIPT_KEYS, REGION_KEYS};
 
@@ -11,7 +11,16 @@ use crate::keys::place;
 use crate::names::name_in;
 use crate::tables;
 use crate::tag_fields::TagFields;
-use langtag_tables::letter_number;
+use langtag_text::letter_number;
+
+/// The number of `aa`, which is the least of all languages.
+const FIRST_LANGUAGE: usize = 27;
+
+/// The number of regions that a key can tell.
+const REGIONS: u32 = 512;
+
+/// The number of scripts that a key can tell.
+const SCRIPTS: u32 = 256;
 
 /// Returns the right side of the row with this left side. The language of the right side is empty if the left side has a
 /// language.
@@ -47,7 +56,7 @@ fn language_index(number: usize) -> Option<usize>
     requires to_zzz { number ≤ 18278 }
     ensures { result ≡ first_index (map (λ row. letter_number row.from.language) language_rows) number }
 {
-    let place = number - 27;
+    let place = number - FIRST_LANGUAGE;
     let bits = tables::LANGUAGE_BITS[place / 64] >> (place % 64);
     if bits % 2 == 0 {
         return None;
@@ -71,8 +80,9 @@ pub fn key_number(key: TagFields<'_>) -> u32
     requires { length key.language.now ≤ 3 }
     ensures { result ≡ key_number (field_texts key.entry) }
 {
-    let places = place(script_keys(), key.script) * 512 + (place(region_keys(), key.region) + 1);
-    language_number(key.language) * 131072 + places
+    let script = place(script_keys(), key.script) * REGIONS;
+    let region = place(region_keys(), key.region) + 1;
+    language_number(key.language) * (SCRIPTS * REGIONS) + (script + region)
 }
 
 /// Returns the number whose digits in base 26 are the letters of a language, or 0 if there is no language.

@@ -1,9 +1,9 @@
 //! The code that was probably meant by a language or a region that is not registered.
 ghost use Rattle.std.specs.Prelude.{◌≡◌, IfSome, IsTrue, length, map, option_map};
 ghost use Rattle.langtag_scan.specs.Grammar.{folded_number, are_alphanumeric};
-ghost use Rattle.langtag_tables.specs.Numbers.{climbs_from};
+ghost use Rattle.langtag_text.specs.Numbers.{climbs_from};
 ghost use Rattle.langtag_cldr.specs.Definitions.{region_replacements, likely_for, region_alone, field_texts};
-ghost use Rattle.langtag_tables.specs.FieldClasses.{is_region_field};
+ghost use Rattle.langtag_text.specs.FieldClasses.{is_region_field};
 ghost use Rattle.langtag_cldr.specs.Suggestion as spec;
 ghost use Rattle.langtag_cldr.specs.declared.alias_tables.TheConstants.{REPLACEMENT_NAMES};
 

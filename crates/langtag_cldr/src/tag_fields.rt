@@ -1,6 +1,6 @@
 //! The fields of a tag that likely subtags fill in: its language, its script and its region.
 ghost use Rattle.std.specs.Prelude.{◌≡◌, IsTrue};
-ghost use Rattle.langtag_tables.specs.FieldClasses.{is_language_field, is_script_field, is_region_field};
+ghost use Rattle.langtag_text.specs.FieldClasses.{is_language_field, is_script_field, is_region_field};
 
 use crate::fields::{known, or_other};
 use langtag_scan::case_insensitive_eq;

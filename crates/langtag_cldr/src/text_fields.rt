@@ -2,7 +2,7 @@
 ghost use Rattle.std.specs.Prelude.{◌≡◌, ◌∷◌, [], IsTrue, option_map};
 ghost use Rattle.langtag_scan.specs.Prelude.{option_map_or};
 ghost use Rattle.langtag_range.specs.Definitions.{hyphened};
-ghost use Rattle.langtag_tables.specs.FieldClasses.{is_language_field, is_script_field, is_region_field};
+ghost use Rattle.langtag_text.specs.FieldClasses.{is_language_field, is_script_field, is_region_field};
 ghost use Rattle.langtag_cldr.specs.TextFields as spec;
 ghost use Rattle.langtag_cldr.specs.Definitions.{after_language, after_script, last_language, counted_parts, region_of, script_of, field_texts};
 
@@ -13,7 +13,7 @@ use langtag_scan::{is_extended, is_primary, is_region, is_script};
 
 impl<'a> TagFields<'a> {
     /// Returns the fields of a string in which `_` is read as `-`, or `None` if it does not begin with a language.
-    #[tactic(auto, using(crate::proofs::FieldClasses::known_language, crate::proofs::FieldClasses::known_script, crate::proofs::FieldClasses::known_region, langtag_tables::proofs::FieldClasses::from_primary, crate::proofs::CommonTexts::no_fields, crate::proofs::CommonTexts::all_fields))]
+    #[tactic(auto, using(crate::proofs::FieldClasses::known_language, crate::proofs::FieldClasses::known_script, crate::proofs::FieldClasses::known_region, langtag_text::proofs::FieldClasses::from_primary, crate::proofs::CommonTexts::no_fields, crate::proofs::CommonTexts::all_fields))]
     pub(crate) fn of_text(text: &'a [u8]) -> Option<TagFields<'a>>
         ensures { option_map field_texts result ≡ spec.text_fields (hyphened text.now) }
     {
@@ -54,7 +54,7 @@ fn last_extended<'a>(language: &'a [u8], text: &'a [u8]) -> (&'a [u8], &'a [u8])
 }
 
 /// Returns the script at the start, and the rest of the string.
-#[tactic(auto, using(langtag_tables::proofs::FieldClasses::from_script))]
+#[tactic(auto, using(langtag_text::proofs::FieldClasses::from_script))]
 fn script_before<'a>(text: &'a [u8]) -> (&'a [u8], &'a [u8])
     ensures script { result.0.now ≡ script_of (counted_parts text.now) }
     ensures rest { counted_parts result.1.now ≡ after_script (counted_parts text.now) }
@@ -67,7 +67,7 @@ fn script_before<'a>(text: &'a [u8]) -> (&'a [u8], &'a [u8])
 }
 
 /// Returns the region at the start.
-#[tactic(auto, using(langtag_tables::proofs::FieldClasses::from_region))]
+#[tactic(auto, using(langtag_text::proofs::FieldClasses::from_region))]
 fn region_before(text: &[u8]) -> &[u8]
     ensures region { result.now ≡ region_of (counted_parts text.now) }
     ensures in_class { IsTrue (is_region_field result.now) }

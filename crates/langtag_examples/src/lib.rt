@@ -10,6 +10,7 @@ mod other_script;
 mod prefix;
 mod request;
 mod script;
+mod source;
 
 pub use broken::{BrokenTag, tag_or_break};
 pub use catalogue::Catalogue;
@@ -19,3 +20,4 @@ pub use other_script::{find_in_scripts, replace_script};
 pub use prefix::longest_prefix;
 pub use request::tag_for_request;
 pub use script::script_or;
+pub use source::{Pieces, are_tag};

@@ -1,7 +1,7 @@
 -- The extensions of a text: the groups of its subtags, how many there are, and the first one of a singleton.
 use Rattle.langtag_scan.proofs.Prelude.{ℕ, ◌≤◌, ◌+◌, List, [], ◌∷◌, length, arith, ◌≡◌, Bool, refl, ap, ◌∙◌, Option, None, Some, map, cond, slice_index, find, true, false, ◌++◌, sym, append-nil, append_assoc, ◌≢◌, ◌<◌, suc, ◌-◌, get_or, take, drop, Bor, MatchOption, encode_utf8, length-map, get_or-take, get_or-drop, drop-append-le, length-take, length-drop, common_steps, option_map_or, AllByRecursion, list_all, list_all-append, drop-cons, length-slice_split, join_with_byte-slice_split, slice_split-cons_yes, slice_split-cons_no, false_from_ne_true, encode_ascii, is_ascii, flat_map, option_map, nat_tests}
 use Rattle.langtag_scan.specs.Grammar.{join, subtags, is_hyphen, segments, segments_left, NoHyphenWithin, IsHyphenFree, Extension, IsWellFormedExtension, extension_flat, is_singleton}
-use Rattle.langtag_scan.proofs.TextLaws.{length-subtags, slice_split-push, slice_split-append, join-hyphenated, join-append, alphanumeric_below, singleton_alphanumeric}
+use Rattle.langtag_scan.proofs.Laws.{length-subtags, slice_split-push, slice_split-append, join-hyphenated, join-append, alphanumeric_below, singleton_alphanumeric}
 use Rattle.langtag_extension.specs.ExtensionTexts.{put_first, groups, extension_texts, opens, group_texts, goes_on, texts_left}
 use Rattle.langtag_extension.specs.Decided.{opens_alike}
 use Rattle.langtag_extension.specs.Spelling.{extension_spelling, SpellsExtension, find_extension}

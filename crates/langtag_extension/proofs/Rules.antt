@@ -1,7 +1,7 @@
 -- The one list that spells a text is found again in it, and the tests of its subtags say whether there is one.
 use Rattle.langtag_scan.proofs.Prelude.{◌≡◌, ◌↔◌, ℕ, Bool, true, IsTrue, List, [], ◌∷◌, drop, ◌==◌, refl, ap, ◌∙◌, arith, map, rules, list_all, AllByRecursion, flat_map, and_parts, common_steps, nat_tests}
 use Rattle.langtag_scan.specs.Grammar.{fold_text, are_alike, is_singleton, is_extension_subtag, Extension, IsWellFormedExtension, extension_flat, join, subtags}
-use Rattle.langtag_scan.proofs.TextLaws.{each_test-fold, subtags_test-fold, alike_subtags_test, classes-fold, length-fold, join-fold, IsSubtag, of_one, of_extension_subtag, singleton_alphanumeric, each_from_test, test_from_each, each_subtag, subtags-joined, join-subtags, length-after_first, each-append}
+use Rattle.langtag_scan.proofs.Laws.{each_test-fold, subtags_test-fold, alike_subtags_test, classes-fold, length-fold, join-fold, IsSubtag, of_one, of_extension_subtag, singleton_alphanumeric, each_from_test, test_from_each, each_subtag, subtags-joined, join-subtags, length-after_first, each-append}
 use Rattle.langtag_scan.proofs.BoolFacts.{between_true}
 use Rattle.langtag_extension.specs.ExtensionTexts.{goes_on, opens, put_first, groups, group_texts, extension_texts}
 use Rattle.langtag_extension.specs.Decided.{is_singleton_alone, is_extension_list, is_extension_text, are_extension_texts, is_extensions_text, are_extension_subtags}

@@ -1,4 +1,4 @@
--- Singletons, and which of them occur among the texts of extensions. Only contracts of functions for langtag_registry and
+-- Singletons, and which of them occur among the texts of extensions. Only contracts of functions for langtag_canonical and
 -- langtag_locale cite this page.
 use Rattle.std.specs.Prelude.{codes, ◌≡◌, ◌==◌, ℕ, Bool, false, List, [], filter, slice_index, slice_index_or}
 use Rattle.langtag_scan.specs.Grammar.{fold_byte}

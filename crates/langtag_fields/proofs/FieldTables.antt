@@ -1,4 +1,4 @@
--- The tables have what the lists say: by computation. Written by registry/generate.py. Do not edit.
+-- The tables have what the lists say: by computation. Written by data/registry/generate.py. Do not edit.
 use Rattle.langtag_scan.proofs.Prelude.{◌≡◌, ℕ, true, List, Some, map, refl, list_all}
 use Rattle.langtag_scan.specs.Grammar.{fold_byte, folded_number, is_letter, is_digit, is_primary, is_script, is_region, is_variant, are_alphanumeric}
 use Rattle.langtag_fields.specs.declared.tables.TheConstants as table

@@ -4,14 +4,14 @@ use Rattle.std.proofs.lemmas.List.FromFn.{get_or-map-range_with_len, length-map-
 use Rattle.langtag_scan.specs.Grammar.{fold_byte, are_alike, fold_text, folded_number, Alike, are_alike-decides, is_letter, are_letters, are_alphanumeric}
 use Rattle.langtag_fields.specs.declared.tables.TheConstants.{LANGUAGE_BITS}
 use Rattle.langtag_fields.specs.Subtags.{language_subtags, extlang_subtags, tag_preferred}
-use Rattle.langtag_tables.specs.Numbers.{letter_number, places, climbs_from}
+use Rattle.langtag_text.specs.Numbers.{letter_number, places, climbs_from}
 use Rattle.langtag_fields.specs.Tables.{bits, language_bit, AreKeysOf, AreEndsOf, end_number}
 use Rattle.langtag_fields.specs.Fields.{preferred_tag}
 use Rattle.langtag_fields.specs.Registered.{is_registered_language, is_registered_extlang}
 use Rattle.langtag_scan.proofs.FoldedNumbers.{among-numbers, folded_number-tells}
-use Rattle.langtag_tables.proofs.Letters.{letter_number-tells}
+use Rattle.langtag_text.proofs.Letters.{letter_number-tells}
 use Rattle.langtag_fields.specs.Entry.{Entry, value_for}
-use Rattle.langtag_tables.proofs.Rising.{IsSearched, searched_apart, above_first}
+use Rattle.langtag_text.proofs.Rising.{IsSearched, searched_apart, above_first}
 
 pub any_of_view : {A B : Type 0} (test : B → Bool) (view : A → B) (xs : List A) → list_any (λ x. test (view x)) xs ≡ list_any test (map view xs)
 any_of_view test view [] = refl

@@ -4,7 +4,7 @@ use Rattle.langtag_scan.proofs.Prelude.{◌≡◌, ℕ, ◌-◌, ◌/◌, ◌%�
 use Rattle.langtag_scan.specs.Grammar.{fold_byte, are_alike, is_primary, is_letter, are_letters, is_digit, is_script, is_region, is_variant, Record, IsWellFormed, Spells, spell, subtags, IsTag, IsNormal}
 use Rattle.langtag_scan.proofs.SubtagLists.{each_from_test}
 use Rattle.langtag.specs.Repeat.{repeat}
-use Rattle.langtag_tables.specs.Numbers.{letter_number}
+use Rattle.langtag_text.specs.Numbers.{letter_number}
 use Rattle.langtag_fields.specs.declared.tables.TheConstants.{LANGUAGE_BITS}
 use Rattle.langtag_fields.specs.Entry.{value_for}
 use Rattle.langtag_fields.specs.Fields.{preferred_language, preferred_region, preferred_variant, preferred_tag}

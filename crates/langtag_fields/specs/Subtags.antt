@@ -1,7 +1,7 @@
--- The registry (RFC 5646 section 3.1). Written by registry/generate.py from the registry of 2025-08-25. Do not edit.
+-- The registry (RFC 5646 section 3.1). Written by data/registry/generate.py from the registry of 2025-08-25. Do not edit.
 use Rattle.std.specs.Prelude.{ℕ, List, [], ◌∷◌, codes}
 use Rattle.std.specs.List.{flat_map}
-use Rattle.langtag_tables.specs.Words.{words}
+use Rattle.langtag_text.specs.Words.{words}
 use Rattle.langtag_fields.specs.Entry.{Entry, entries}
 
 -- the Subtag fields of the records of Type language, ranges written out

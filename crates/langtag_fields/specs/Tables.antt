@@ -3,7 +3,7 @@ use Rattle.std.specs.Prelude.{◌≡◌, ℕ, ◌-◌, ◌/◌, ◌%◌, ◌^◌
 use Rattle.langtag_scan.specs.Grammar.{list_all, range_with_len, folded_number, are_alphanumeric}
 use Rattle.langtag_fields.specs.Entry.{Entry}
 use Rattle.langtag_fields.specs.declared.tables.TheConstants.{LANGUAGE_BITS}
-use Rattle.langtag_tables.specs.Numbers.{climbs_from}
+use Rattle.langtag_text.specs.Numbers.{climbs_from}
 
 -- the keys are the numbers of the texts, which have only letters and digits, and are in ascending order
 pub record AreKeysOf (keys : List ℕ) (list : List (List ℕ)) : Type 0 where

@@ -6,7 +6,7 @@ ghost use Rattle.langtag_fields.specs.Tables.{language_bit};
 
 use crate::tables::LANGUAGE_BITS;
 use langtag_language::PrimaryLanguage;
-use langtag_tables::letter_number;
+use langtag_text::letter_number;
 
 /// Returns whether a language is registered, ignoring case (RFC 5646 section 2.2.1): `true` for `fr`, `FR` and the
 /// private use subtag `qaa`, `false` for `qt`.
@@ -18,7 +18,7 @@ use langtag_tables::letter_number;
 /// is_registered_language(PrimaryLanguage::new("FR")?); // true
 /// is_registered_language(PrimaryLanguage::new("qt")?); // false
 /// ```
-#[tactic(auto, using(crate::proofs::Values::long_language, crate::proofs::Values::language_from_bit, langtag_tables::proofs::Letters::primary_letters))]
+#[tactic(auto, using(crate::proofs::Values::long_language, crate::proofs::Values::language_from_bit, langtag_text::proofs::Letters::primary_letters))]
 pub fn is_registered_language(language: PrimaryLanguage<'_>) -> bool
     ensures { result ≡ registered.is_registered_language (primary_language_text language.entry) }
 {

@@ -19,7 +19,7 @@ use langtag_language::{ExtendedLangTag, PrimaryLanguage};
 ///
 /// extlang_prefix(ExtendedLangTag::new("yue")?).map(|language| language.as_str()); // Some("zh")
 /// ```
-#[tactic(auto, using(langtag_tables::proofs::Letters::extended_primary))]
+#[tactic(auto, using(langtag_text::proofs::Letters::extended_primary))]
 pub fn extlang_prefix(extlang: ExtendedLangTag<'_>) -> Option<PrimaryLanguage<'static>>
     ensures { option_map primary_language_text result ≡ field.extlang_prefix (extended_lang_tag_text extlang.entry) }
 {

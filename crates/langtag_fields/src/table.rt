@@ -1,6 +1,6 @@
 //! Tables of subtags, which are searched for a string, ignoring case.
 ghost use Rattle.std.specs.Prelude.{◌≡◌, ℕ, ◌==◌, IsTrue, List, length, map, option_map};
-ghost use Rattle.langtag_scan.proofs.SubtagFacts.{IsSubtag};
+ghost use Rattle.langtag_scan.specs.Grammar.{IsSubtag};
 ghost use Rattle.langtag_fields.specs.Entry.{Entry, value_for};
 ghost use Rattle.langtag_fields.specs.Registered as registered;
 ghost use Rattle.langtag_fields.specs.Tables.{AreKeysOf, IsTableOf};

@@ -1,4 +1,4 @@
-//! The registry in tables. Written by registry/generate.py from the registry of 2025-08-25. Do not edit.
+//! The registry in tables. Written by data/registry/generate.py from the registry of 2025-08-25. Do not edit.
 
 /// The File-Date of the registry in this crate (RFC 5646 section 3.1.1).
 pub const FILE_DATE: &str = "2025-08-25";

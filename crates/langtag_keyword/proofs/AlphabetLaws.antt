@@ -1,7 +1,7 @@
 -- The order of the alphabet.
 use Rattle.langtag_keyword.proofs.Common.{◌≡◌, ℕ, ◌+◌, ◌<◌, ◌≤◌, true, false, nat_lt, List, [], ◌∷◌, ◌++◌, length, get_or, take, refl, sym, ap, ◌∙◌, arith, append_assoc, ◌||◌, Bool, map, subst, false≢true, nat_tests, map-append, take_all, take_more, fold_byte, fold_text, are_alike, in_alphabet, is_before, put_among, common_steps, AllByRecursion, list_any, before_key, fold_text-twice, are_alike-decides}
 use Rattle.langtag_scan.proofs.Prelude.{Less, Ordering, nat_list_cmp_total, is_eq-slice_cmp, bytes_eq-Decides, slice_cmp, is_eq, is_lt, nat_cmp, ordering_reverse}
-use Rattle.langtag_output.specs.Output.{with_subtag}
+use Rattle.langtag_text.specs.Output.{with_subtag}
 
 -- ---- the order
 

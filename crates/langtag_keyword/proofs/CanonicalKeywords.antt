@@ -1,6 +1,6 @@
 -- The extension `u` in canonical form stays in that form when a canonical keyword is set, or a key is removed.
 use Rattle.langtag_keyword.proofs.Common.{rules, ◌≡◌, ℕ, ◌==◌, ◌&&◌, Bool, true, false, cond, List, [], ◌∷◌, ◌++◌, map, find, Option, None, Some, option_map, unwrap_or, refl, sym, ap, subst, ◌∙◌, arith, ◌≤◌, ◌||◌, not, length, append-nil, append_assoc, common_steps, flat_map-append, and_parts, false≢true, nat_tests, AllByRecursion, filter, is_some, option_map_or, fold_text-twice, length-fold, of_extension_subtag, each_subtag, subtags-joined, are_alike, fold_text, are_alphanumeric, join, subtags, is_this_key, is_type, is_unicode_key, keyword_error, with_keyword, without_keyword, without_within, changed_from, extension_of, in_alphabet, put_among, unicode_form, unicode_value, extension_form, forms_after, is_of, is_transform, before_key, is_key, value_of, Extension, IsWellFormed, IsWellFormedExtension, Record, IsTrue}
-use Rattle.langtag_tables.proofs.Alike.{alike_length}
+use Rattle.langtag_text.proofs.Alike.{alike_length}
 use Rattle.langtag_scan.proofs.CaseLaw.{is_digit-fold, is_letter-fold}
 use Rattle.langtag_scan.specs.Grammar.{fold_byte, has_length, is_extension_subtag}
 use Rattle.langtag_keyword.specs.Edit.{IsCanonicalKeyword, edited_record}

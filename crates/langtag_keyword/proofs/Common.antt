@@ -4,7 +4,7 @@ pub use Rattle.langtag_extension.specs.ExtensionTexts.{extension_texts}
 pub use Rattle.langtag_extension.specs.Spelling.{SpellsExtension, extension_spelling, IsExtension, find_extension, SpellsExtensions}
 pub use Rattle.langtag_extension.specs.Text.{extension_text, extensions_left, extensions_text}
 pub use Rattle.langtag_keyword.proofs.Found.{both, each-weaker, found_has}
-pub use Rattle.langtag_keyword.specs.Alias.{Alias, TypeAlias, alias_for, type_alias_for}
+pub use Rattle.langtag_text.specs.Alias.{Alias, TypeAlias, alias_for, type_alias_for}
 pub use Rattle.langtag_keyword.specs.Edit.{changed_from, extension_of, is_this_key, keyword_error, put_keyword, with_changed_u, with_keyword, without_keyword}
 pub use Rattle.langtag_keyword.specs.Edit.{without_within, is_place, is_type, is_unicode_key, at_place, edited}
 pub use Rattle.langtag_keyword.specs.Form.{in_alphabet, is_before, put_among, unicode_value, is_of, extension_form, forms_after, is_language_or_none}
@@ -15,9 +15,9 @@ pub use Rattle.langtag_keyword.specs.Keys.{opens_keyword, length_with_hyphens, c
 pub use Rattle.langtag_keyword.specs.Keywords.{before_key, is_new_key, keywords_after, is_key, value_of}
 pub use Rattle.langtag_keyword.specs.Least.{IsOffered, Least, key_of, number_text, order_number}
 pub use Rattle.langtag_keyword.specs.Transform.{is_field_key}
-pub use Rattle.langtag_output.proofs.Pushed.{pushes_both, pushes_joined, pushes_same, with_joined, pushes_ended, pushes_next}
-pub use Rattle.langtag_output.specs.Output.{Pushes, with_subtag, HasText}
-pub use Rattle.langtag_output.specs.declared.output.Output.{Output}
+pub use Rattle.langtag_text.proofs.Pushed.{pushes_both, pushes_joined, pushes_same, with_joined, pushes_ended, pushes_next}
+pub use Rattle.langtag_text.specs.Output.{Pushes, with_subtag, HasText}
+pub use Rattle.langtag_text.specs.declared.output.Output.{Output}
 pub use Rattle.langtag_scan.proofs.CaseLaw.{fold_text-twice, length-fold, classes-fold}
 pub use Rattle.langtag_scan.proofs.Joins.{hyphenated, length-join}
 pub use Rattle.langtag_scan.proofs.SpelledTexts.{offsets_kept}

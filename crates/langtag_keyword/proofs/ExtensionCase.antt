@@ -1,6 +1,6 @@
 -- The case of letters changes nothing in the forms of extensions but case.
 use Rattle.langtag_keyword.proofs.Common.{common_steps, ◌≡◌, ℕ, Bool, false, ◌||◌, ◌==◌, List, [], ◌∷◌, map, Option, None, Some, option_map, unwrap_or, refl, ap, ◌∙◌, arith, list_any, nat_tests, classes-fold, fold_text-twice, length-fold, AlikeRecords, Alike, are_alike, fold_text, is_region, is_script, is_variant, Extension, Record, Classes, join, subtags, type_alias_for, after_one, are_different_variants, are_fields, extension_form, forms_after, language_form, is_language_or_none, is_of, is_transform, one_of, transform_form, unicode_form, unicode_value, before_key, value_of, is_field_key}
-use Rattle.langtag_tables.proofs.Alike.{AlikeFields, same_fields}
+use Rattle.langtag_text.proofs.Alike.{AlikeFields, same_fields}
 use Rattle.langtag_scan.proofs.CaseLaw.{fold_byte-twice, join-fold, map-twice, subtags-fold, fold_extension-twice}
 use Rattle.langtag_scan.specs.AlikeRecords.{fold_extension}
 use Rattle.langtag_keyword.specs.Aliases.{transform_type_aliases}

@@ -1,8 +1,8 @@
 -- The form of the extension `u`, and of `t`, is its own form.
 use Rattle.std.proofs.lemmas.Bool.Decides.{nat_tests}
 use Rattle.langtag_keyword.proofs.Common.{common_steps, arith, ◌≡◌, ℕ, Bool, true, false, not, ◌&&◌, ◌==◌, List, [], ◌∷◌, ◌++◌, length, map, refl, sym, ap, subst, ◌∙◌, ◌||◌, classes-fold, fold_text-twice, length-fold, fold_text, is_primary, is_variant, one_flat, Extension, IsWellFormed, IsWellFormedExtension, Record, Classes, subtags, are_different_variants, are_fields, in_alphabet, is_language_or_none, is_transform, is_unicode_language, language_form, one_of, transform_form, transform_value, unicode_form, unicode_value, extension_form, forms_after, is_of, before_key, is_key, is_field_key, both, AllByRecursion}
-use Rattle.langtag_tables.specs.FieldClasses.{is_region_field, is_script_field}
-use Rattle.langtag_tables.specs.Fields.{Fields, subtag_of}
+use Rattle.langtag_text.specs.FieldClasses.{is_region_field, is_script_field}
+use Rattle.langtag_text.specs.Fields.{Fields, subtag_of}
 use Rattle.langtag_scan.specs.Grammar.{fold_byte, is_region, is_script}
 use Rattle.langtag_keyword.specs.Form.{extensions_record}
 use Rattle.langtag_keyword.specs.Identifier.{first_subtag, identifier_fields, identifier_flat, identifier_variants}
@@ -15,7 +15,7 @@ use Rattle.langtag_keyword.proofs.KeywordsInForm.{Plain, front-again, keywords-a
 use Rattle.langtag_keyword.proofs.TransformParts.{AreNoFields, after_region, after_script, are-fields, field_values, identifier-no_field, identifier-variants, variant-no_region, variant-no_script, region-no_script}
 use Rattle.langtag_keyword.proofs.KeywordLaws.{form_by, form_tested, forms-next}
 use Rattle.langtag_keyword.specs.Form as form
-use Rattle.langtag_tables.proofs.Alike.{same_fields}
+use Rattle.langtag_text.proofs.Alike.{same_fields}
 
 -- ---- the extension `u`
 

@@ -1,12 +1,13 @@
 -- The parts of a language identifier are subtags of their classes.
-use Rattle.langtag_keyword.proofs.Common.{common_steps, arith, ◌≡◌, ℕ, Bool, true, false, List, [], ◌∷◌, ◌++◌, None, refl, ap, ◌&&◌, ◌==◌, not, length, list_any-append, IsTrue, AllByRecursion, list_any, is_none, are_alike, fold_text, in_alphabet, is_unicode_language, are_different_variants, one_of, is_primary, is_variant, both, nat_tests, slice_get}
+use Rattle.langtag_keyword.proofs.Common.{common_steps, arith, ◌≡◌, ℕ, Bool, true, false, List, [], ◌∷◌, ◌++◌, None, refl, ap, ◌&&◌, ◌==◌, not, length, list_any-append, AllByRecursion, list_any, is_none, are_alike, fold_text, in_alphabet, is_unicode_language, are_different_variants, one_of, is_primary, is_variant, both, nat_tests, slice_get}
 use Rattle.std.specs.Option.{option_and_then}
 use Rattle.langtag_place.specs.Repeat.{repeat, repeat_index_after}
 use Rattle.langtag_keyword.proofs.AlphabetLaws.{Rise, rise-in_alphabet, lower-in_alphabet, after-apart, under-each}
-use Rattle.langtag_tables.proofs.FieldClasses.{from_region, from_script}
-use Rattle.langtag_tables.specs.FieldClasses.{is_region_field, is_script_field}
-use Rattle.langtag_tables.specs.Fields.{Fields}
+use Rattle.langtag_text.proofs.FieldClasses.{from_region, from_script}
+use Rattle.langtag_text.specs.FieldClasses.{is_region_field, is_script_field}
+use Rattle.langtag_text.specs.Fields.{Fields}
 use Rattle.langtag_keyword.specs.Identifier.{first_subtag, identifier_fields}
+pub use Rattle.langtag_keyword.specs.Identifier.{AreVariants}
 
 module _ {A : Type 0} (alike : A → A → Bool) where
   -- no element is alike one before it
@@ -47,10 +48,6 @@ pub record AreSubtags (f : Fields) : Type 0 where
 
 pub language_primary : (f : Fields) → AreSubtags f → is_primary f.language ≡ true
 language_primary f are = (both (is_primary f.language) (not (length f.language == 4)) are.language).0
-
--- each is a variant
-abbrev pub AreVariants : List (List ℕ) → Type 0
-AreVariants vs = AllByRecursion (λ v. IsTrue (is_variant v)) vs
 
 first_good : (test good : List ℕ → Bool) → good [] ≡ true → ((s : List ℕ) → test s ≡ true → good s ≡ true) → (ss : List (List ℕ)) → good (first_subtag (one_of test ss)) ≡ true
 first_good test good none some ss = grind (arith, nat_tests)

@@ -2,8 +2,8 @@
 use Rattle.langtag_keyword.proofs.Common.{common_steps, flat_map-append, ◌≡◌, ℕ, ◌+◌, Bool, true, false, cond, ◌&&◌, List, [], ◌∷◌, ◌++◌, length, find, Option, None, Some, unwrap_or, refl, ap, ◌∙◌, arith, eqb-true, not, fold, take, sym, append_assoc, option_map, and_parts, false≢true, AllByRecursion, flat_map, is_some, nat_tests, are_alike, are_alike-decides, is_extension_subtag, is_place, is_this_key, is_type, is_unicode_key, keyword_error, put_keyword, with_keyword, without_keyword, without_within, at_place, changed_from, edited, with_changed_u, before_key, is_key, value_of, length-slice_split, with_joined, of_primary, to_variants, Extension, IsWellFormed, Record, extension_flat, one_flat, private_part_flat, spell, is_hyphen, join, segments, extension_form, forms_after, is_language_or_none, is_of, is_transform, transform_form, unicode_form}
 use Rattle.langtag_scan.proofs.Prelude.{leb, leb-true, Bor}
 use Rattle.langtag_keyword.specs.Edit.{invalid_type, invalid_type_from, belongs, edited_record, is_place_of_u}
-use Rattle.langtag_output.specs.Output.{with_subtag}
-use Rattle.langtag_scan.proofs.TextLaws.{take-join}
+use Rattle.langtag_text.specs.Output.{with_subtag}
+use Rattle.langtag_scan.proofs.Laws.{take-join}
 use Rattle.langtag_keyword.specs.Form.{extensions_record, is_language_id}
 
 -- no subtag is a key

@@ -8,7 +8,7 @@ use Rattle.std.proofs.Math.Nat.{mod-eq_of_lt, pow-suc}
 use Rattle.std.specs.Int.{bytes_high_first}
 use Rattle.std.proofs.lemmas.List.Elements.{All-filter}
 use Rattle.std.proofs.lemmas.Nat.{div-mul-add, mul-add-lt}
-use Rattle.langtag_output.specs.Output.{with_subtag}
+use Rattle.langtag_text.specs.Output.{with_subtag}
 use Rattle.langtag_keyword.specs.Least.{HoldsLeast, AscendsFrom, has, is_within, left_number}
 use Rattle.langtag_keyword.proofs.AlphabetLaws.{Rise, Under, rise-in_alphabet, any-put, each-alphabet, each-put}
 use Rattle.langtag_keyword.proofs.LeastLaws.{AllUpTo, above, above-all, above-none, above-split}

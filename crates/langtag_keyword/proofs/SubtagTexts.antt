@@ -3,7 +3,7 @@ use Rattle.langtag_keyword.proofs.Common.{◌≡◌, ℕ, ◌≤◌, ◌<◌, �
 use Rattle.langtag_scan.proofs.Prelude.{take-append-drop, IsCharBoundary, get_or-append_seam, drop-cons, slice_split_at, slice_split_none, nat_tests}
 use Rattle.langtag_scan.specs.Grammar.{IsHyphenFree}
 use Rattle.std.proofs.lemmas.Str.{IsCharBoundary-start, IsCharBoundary-end}
-use Rattle.langtag_scan.proofs.TextLaws.{join-append, length-hyphenated, take-join, length-subtags}
+use Rattle.langtag_scan.proofs.Laws.{join-append, length-hyphenated, take-join, length-subtags}
 use Rattle.langtag_keyword.specs.Keywords.{subtags_of, each_once_after}
 use Rattle.langtag_keyword.specs.Transform.{some_text}
 use Rattle.langtag_keyword.specs.declared.keys.Keys.{Keys}

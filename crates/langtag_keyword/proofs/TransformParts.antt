@@ -2,10 +2,10 @@
 use Rattle.langtag_keyword.proofs.Common.{IsTrue, each-weaker, ◌≡◌, ℕ, ◌≤◌, Bool, true, false, ◌&&◌, ◌||◌, List, [], ◌∷◌, ◌++◌, length, map, find, Option, Some, None, option_map, unwrap_or, refl, sym, ap, subst, ◌∙◌, append-nil, append_assoc, arith, false≢true, AllByRecursion, flat_map, list_all, list_any, nat_tests, length-fold, of_extension_subtag, each-append, each_from_test, each_subtag, subtags-joined, are_alike, fold_text, are_alike-decides, is_extension_subtag, is_region, is_script, is_variant, one_flat, join, subtags, TypeAlias, after_one, are_different_variants, are_fields, before_key, value_of, is_field_key, both, found_has}
 use Rattle.langtag_scan.proofs.Prelude.{leb, leb-true}
 use Rattle.langtag_scan.specs.Grammar.{are_letters}
-use Rattle.langtag_tables.specs.FieldClasses.{is_region_field, is_script_field}
-use Rattle.langtag_tables.specs.Fields.{Fields, subtag_of}
+use Rattle.langtag_text.specs.FieldClasses.{is_region_field, is_script_field}
+use Rattle.langtag_text.specs.Fields.{Fields, subtag_of}
 use Rattle.langtag_scan.proofs.Disjoint.{first_no_digit, letter_no_digit, region_short, region_two_three, script_four, variant_long, variant_four}
-use Rattle.langtag_tables.proofs.Letters.{primary_letters}
+use Rattle.langtag_text.proofs.Letters.{primary_letters}
 use Rattle.langtag_keyword.specs.Aliases.{transform_type_aliases}
 use Rattle.langtag_keyword.specs.Form as form
 use Rattle.langtag_keyword.specs.Form.{may_follow, transform_value}

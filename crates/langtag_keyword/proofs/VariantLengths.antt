@@ -1,7 +1,7 @@
 -- Variants of which no two are equal take as many bytes when each is written once.
 use Rattle.langtag_keyword.proofs.Common.{each_subtag, each_from_test, ◌≡◌, ℕ, ◌+◌, ◌-◌, ◌<◌, ◌≤◌, true, false, cond, ◌==◌, ◌||◌, List, [], ◌∷◌, length, fold, refl, sym, ap, ◌∙◌, arith, AllByRecursion, list_all, list_any, and_parts, length-slice_split, nat_tests, with_joined, with_subtag, fold_text-twice, length-fold, IsSubtag, of_variant, are_alike, fold_text, are_alike-decides, is_variant, is_hyphen, join, segments, are_different_variants, in_alphabet, is_before, put_among, length_with_hyphens}
 use Rattle.langtag_scan.proofs.Prelude.{min, join_with_byte-slice_split}
-use Rattle.langtag_output.proofs.WithSubtag.{with_subtag-none}
+use Rattle.langtag_text.proofs.WithSubtag.{with_subtag-none}
 use Rattle.langtag_keyword.proofs.AlphabetLaws.{Rise, before-tie, rise-in_alphabet, AreLower, lower-in_alphabet, among, among-alphabet, before-apart, not-among, under-each}
 use Rattle.langtag_keyword.proofs.LeastTexts.{HasNumber, each-number}
 use Rattle.langtag_keyword.proofs.SubtagTexts.{length-more}

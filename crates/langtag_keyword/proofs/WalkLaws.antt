@@ -3,7 +3,7 @@ use Rattle.langtag_keyword.proofs.Common.{rules, common_steps, ◌≡◌, ℕ, B
 use Rattle.std.proofs.lemmas.Map.Steps.{list_any_congr}
 use Rattle.langtag_scan.proofs.CaseLaw.{is_letter-fold, is_digit-fold}
 use Rattle.langtag_keyword.specs.Keywords.{Keyword, value_among, keywords_of}
-use Rattle.langtag_tables.proofs.Alike.{alike_is, are_alike-right}
+use Rattle.langtag_text.proofs.Alike.{alike_is, are_alike-right}
 
 -- ---- the case of letters
 

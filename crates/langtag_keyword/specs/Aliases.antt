@@ -1,8 +1,8 @@
--- The aliases of Unicode's CLDR 48.2 (the notice: unicode/LICENSE-UNICODE). Written by unicode/generate.py. Do not edit.
+-- The aliases of Unicode's CLDR 48.2 (the notice: LICENSE-UNICODE). Written by data/unicode/generate.py. Do not edit.
 use Rattle.std.specs.Prelude.{[], ◌∷◌, List, codes}
 use Rattle.std.specs.List.{flat_map}
-use Rattle.langtag_tables.specs.Words.{words}
-use Rattle.langtag_keyword.specs.Alias.{Alias, TypeAlias, aliases_of, type_aliases_of}
+use Rattle.langtag_text.specs.Words.{words}
+use Rattle.langtag_text.specs.Alias.{Alias, TypeAlias, aliases_of, type_aliases_of}
 
 -- the types of the extension u that are replaced: a key, the old type and the new type
 unfoldable pub unicode_type_aliases : List TypeAlias

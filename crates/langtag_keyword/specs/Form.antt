@@ -3,7 +3,7 @@
 use Rattle.std.specs.Prelude.{ℕ, Bool, true, false, not, ◌&&◌, ◌||◌, ◌==◌, leb, List, [], ◌∷◌, ◌++◌, length, map, codes, if◌then◌else◌, unwrap_or, filter, flat_map}
 use Rattle.langtag_scan.specs.Prelude.{list_any, option_map_or, is_lt, nat_cmp, slice_cmp}
 use Rattle.langtag_scan.specs.Grammar.{are_alike, fold_byte, fold_text, is_primary, is_region, is_script, is_variant, Extension, Record, join, subtags}
-use Rattle.langtag_keyword.specs.Alias.{alias_for, type_alias_for}
+use Rattle.langtag_text.specs.Alias.{alias_for, type_alias_for}
 use Rattle.langtag_keyword.specs.Aliases.{subdivision_aliases, transform_type_aliases, unicode_type_aliases}
 use Rattle.langtag_keyword.specs.Keywords.{before_key, is_key, value_of}
 use Rattle.langtag_keyword.specs.Transform.{is_field_key}

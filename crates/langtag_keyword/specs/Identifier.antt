@@ -1,7 +1,7 @@
 -- The parts of a unicode_language_id (UTS #35, part 1): its language, script, region and variants.
-use Rattle.std.specs.Prelude.{ℕ, List, [], ◌∷◌, ◌++◌}
-use Rattle.langtag_scan.specs.Grammar.{is_region, is_script, one_flat}
-use Rattle.langtag_tables.specs.Fields.{Fields, subtag_of}
+use Rattle.std.specs.Prelude.{ℕ, List, [], ◌∷◌, ◌++◌, IsTrue}
+use Rattle.langtag_scan.specs.Grammar.{AllByRecursion, is_region, is_script, is_variant, one_flat}
+use Rattle.langtag_text.specs.Fields.{Fields, subtag_of}
 use Rattle.langtag_keyword.specs.Form.{after_one, one_of}
 
 -- the first subtag, or the empty text if there is none
@@ -19,3 +19,7 @@ identifier_fields s ss = record { language = s; script = first_subtag (one_of is
 
 abbrev pub identifier_variants : List (List ℕ) → List (List ℕ)
 identifier_variants ss = after_one is_region (after_one is_script ss)
+
+-- each is a variant
+abbrev pub AreVariants : List (List ℕ) → Type 0
+AreVariants vs = AllByRecursion (λ v. IsTrue (is_variant v)) vs

@@ -1,4 +1,3 @@
-pub mod Alias
 pub mod Aliases
 pub mod Edit
 pub mod EditText

@@ -1,6 +1,6 @@
 //! Replacing types and subdivisions (UTS #35, part 1, Annex C).
-ghost use Rattle.std.specs.Prelude.{◌≡◌, map, option_map};
-ghost use Rattle.langtag_keyword.specs.Alias.{alias_for, type_alias_for};
+ghost use Rattle.std.specs.Prelude.{◌≡◌, flat_map, map, option_map};
+ghost use Rattle.langtag_text.specs.Alias.{type_alias_for};
 ghost use Rattle.langtag_keyword.specs.Aliases as list;
 ghost use Rattle.langtag_keyword.specs.Keys.{canonical_value_of};
 ghost use Rattle.langtag_keyword.specs.Form as spec;
@@ -8,6 +8,10 @@ ghost use Rattle.langtag_keyword.specs.Form as spec;
 use crate::alias_tables as tables;
 use crate::keys::Keys;
 use langtag_scan::case_insensitive_eq;
+use langtag_text::alias_for;
+
+/// A key, and its types that are replaced, each with its replacement.
+type KeyAliases = (&'static str, &'static [(&'static str, &'static str)]);
 
 /// Returns the canonical value of a key, except that its case may differ.
 pub(crate) fn canonical_value<'a>(keys: Keys, key: &[u8], value: &'a str) -> &'a str
@@ -60,7 +64,7 @@ fn subdivision(value: &str) -> &str
 fn unicode_type<'a>(key: &[u8], value: &'a str) -> &'a str
     ensures { result.now ≡ spec.unicode_type key.now value.now }
 {
-    match type_alias_for(unicode_type_aliases(), key, value.as_bytes()) {
+    match key_alias_for(unicode_type_aliases(), key, value.as_bytes()) {
         Some(other) => other,
         None => value,
     }
@@ -70,38 +74,22 @@ fn unicode_type<'a>(key: &[u8], value: &'a str) -> &'a str
 fn transform_value<'a>(key: &[u8], value: &'a str) -> &'a str
     ensures { result.now ≡ spec.transform_value key.now value.now }
 {
-    match type_alias_for(transform_type_aliases(), key, value.as_bytes()) {
+    match key_alias_for(transform_type_aliases(), key, value.as_bytes()) {
         Some(other) => other,
         None => value,
     }
 }
 
-/// Returns the replacement of a string, if there is one.
-pub fn alias_for(rows: &'static [(&'static str, &'static str)], text: &[u8]) -> Option<&'static str>
-    ensures { option_map (λ t. t.now) result ≡ alias_for (map (λ row. record { old = row.0.now; new = row.1.now }) rows.now) text.now }
-{
-    let mut rows = rows;
-    while let [(old, new), others @ ..] = rows {
-        if case_insensitive_eq(old.as_bytes(), text) {
-            return Some(new);
-        }
-        rows = others;
-    }
-    None
-}
-
 /// Returns the replacement of a type of a key, if there is one.
-pub fn type_alias_for(
-    rows: &'static [(&'static str, &'static str, &'static str)],
-    key: &[u8],
-    text: &[u8],
-) -> Option<&'static str>
-    ensures { option_map (λ t. t.now) result ≡ type_alias_for (map (λ row. record { key = row.0.now; old = row.1.now; new = row.2.now }) rows.now) key.now text.now }
+fn key_alias_for(rows: &'static [KeyAliases], key: &[u8], text: &[u8]) -> Option<&'static str>
+    ensures { option_map (λ t. t.now) result ≡ type_alias_for (flat_map (λ group. map (λ row. record { key = group.0.now; old = row.0.now; new = row.1.now }) group.1.now) rows.now) key.now text.now }
 {
     let mut rows = rows;
-    while let [(of, old, new), others @ ..] = rows {
-        if case_insensitive_eq(of.as_bytes(), key) && case_insensitive_eq(old.as_bytes(), text) {
-            return Some(new);
+    while let [(of, types), others @ ..] = rows {
+        if case_insensitive_eq(of.as_bytes(), key) {
+            if let Some(new) = alias_for(types, text) {
+                return Some(new);
+            }
         }
         rows = others;
     }
@@ -109,15 +97,15 @@ pub fn type_alias_for(
 }
 
 #[tactic(auto, using(crate::proofs::Aliases::unicode_rows))]
-fn unicode_type_aliases() -> &'static [(&'static str, &'static str, &'static str)]
-    ensures { map (λ row. record { key = row.0.now; old = row.1.now; new = row.2.now }) result.now ≡ list.unicode_type_aliases }
+fn unicode_type_aliases() -> &'static [KeyAliases]
+    ensures { flat_map (λ group. map (λ row. record { key = group.0.now; old = row.0.now; new = row.1.now }) group.1.now) result.now ≡ list.unicode_type_aliases }
 {
     &tables::UNICODE_TYPE_ALIASES
 }
 
 #[tactic(auto, using(crate::proofs::Aliases::transform_rows))]
-fn transform_type_aliases() -> &'static [(&'static str, &'static str, &'static str)]
-    ensures { map (λ row. record { key = row.0.now; old = row.1.now; new = row.2.now }) result.now ≡ list.transform_type_aliases }
+fn transform_type_aliases() -> &'static [KeyAliases]
+    ensures { flat_map (λ group. map (λ row. record { key = group.0.now; old = row.0.now; new = row.1.now }) group.1.now) result.now ≡ list.transform_type_aliases }
 {
     &tables::TRANSFORM_TYPE_ALIASES
 }

@@ -1,15 +1,14 @@
 //! Subtags in lowercase and in alphabetical order, written to an output.
 ghost use Rattle.std.specs.Prelude.{◌≡◌, ◌≤◌, ◌∷◌, [], map};
-ghost use Rattle.langtag_scan.specs.Grammar.{AllByRecursion, fold_text, segments_left, subtags};
-ghost use Rattle.langtag_output.specs.Output.{Pushes};
-ghost use Rattle.langtag_scan.proofs.SubtagFacts.{IsSubtag};
+ghost use Rattle.langtag_scan.specs.Grammar.{AllByRecursion, fold_text, segments_left, subtags, IsSubtag};
+ghost use Rattle.langtag_text.specs.Output.{Pushes};
 ghost use Rattle.langtag_keyword.specs.Form as spec;
 ghost use Rattle.langtag_keyword.specs.Least.{IsOffered, order_number};
 
 use crate::least_numbers::{FEW, LeastNumbers, MANY, order_number, push_numbers};
 use crate::subtags::split_first;
-use langtag_output::Output;
 use langtag_scan::{Subtags, into_smallcase};
+use langtag_text::Output;
 
 /// Appends subtags in lowercase and in alphabetical order, each once.
 pub(crate) fn push_in_alphabet(out: &mut Output<'_>, rest: Option<&str>)
@@ -88,7 +87,7 @@ pub(crate) fn push_each_lowercase(out: &mut Output<'_>, text: &str)
 }
 
 /// Appends a subtag in lowercase, after a hyphen if there is text before it.
-pub fn push_lowercase(out: &mut Output<'_>, subtag: &str)
+pub(crate) fn push_lowercase(out: &mut Output<'_>, subtag: &str)
     ensures { Pushes (fold_text subtag.now ∷ []) out.old out.new }
 {
     out.push_subtag(b"");

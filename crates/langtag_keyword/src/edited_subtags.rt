@@ -1,14 +1,14 @@
 //! Writing the subtags of the extension `u` with a keyword set or removed.
 ghost use Rattle.std.specs.Prelude.{◌≡◌, ◌∷◌, find, length, nat_lt, is_some, option_map};
 ghost use Rattle.langtag_scan.specs.Grammar.{segments_left, subtags};
-ghost use Rattle.langtag_output.specs.Output.{Pushes};
+ghost use Rattle.langtag_text.specs.Output.{Pushes};
 ghost use Rattle.langtag_keyword.specs.Edit as spec;
 
 use crate::alphabet::is_before;
 use crate::keys::Keys;
 use crate::subtags::{nonempty, split_first};
-use langtag_output::Output;
 use langtag_scan::{Subtags, case_insensitive_eq};
+use langtag_text::Output;
 
 /// Returns whether a string has a subtag that belongs to no keyword of a key.
 pub(crate) fn has_others(text: &str, key: &str) -> bool

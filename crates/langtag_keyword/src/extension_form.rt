@@ -1,10 +1,9 @@
 //! The canonical form of the extensions `u` and `t` (UTS #35, part 1, Annex C).
 ghost use Rattle.std.specs.Prelude.{◌≡◌, ◌<◌, ◌∷◌, ◌&&◌, ◌||◌, not, [], List, false, flat_map};
-ghost use Rattle.langtag_scan.specs.Grammar.{AllByRecursion, subtags};
+ghost use Rattle.langtag_scan.specs.Grammar.{AllByRecursion, subtags, IsSubtag};
 ghost use Rattle.langtag_extension.specs.Spelling.{SpellsExtension, SpellsExtensions};
 ghost use Rattle.langtag_extension.specs.Text.{extension_text, extensions_text};
-ghost use Rattle.langtag_output.specs.Output.{Pushes};
-ghost use Rattle.langtag_scan.proofs.SubtagFacts.{IsSubtag};
+ghost use Rattle.langtag_text.specs.Output.{Pushes};
 ghost use Rattle.langtag_scan.specs.Record as model;
 ghost use Rattle.langtag_keyword.specs.Form as spec;
 
@@ -14,8 +13,8 @@ use crate::keyword_form::push_keywords;
 use crate::subtags::preceding;
 use crate::transform_form::{is_transform, push_transform};
 use langtag_extension::{Extension, Extensions};
-use langtag_output::Output;
 use langtag_scan::into_smallcase;
+use langtag_text::Output;
 
 /// Appends extensions, with the first `u` and the first `t` in canonical form.
 pub fn push_extensions(out: &mut Output<'_>, extensions: Extensions<'_>)

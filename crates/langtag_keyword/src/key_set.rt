@@ -1,7 +1,6 @@
 //! A set of keys.
 ghost use Rattle.std.specs.Prelude.{◌≡◌, ◌<◌, not, replicate, true};
-ghost use Rattle.langtag_scan.specs.Grammar.{is_alphanumeric};
-ghost use Rattle.langtag_scan.proofs.SubtagFacts.{IsSubtag};
+ghost use Rattle.langtag_scan.specs.Grammar.{is_alphanumeric, IsSubtag};
 ghost use Rattle.langtag_keyword.specs.KeySets as spec;
 
 use langtag_scan::into_smallcase;

@@ -1,7 +1,6 @@
 //! The values of the keys that begin with one character, found by one walk over the subtags.
 ghost use Rattle.std.specs.Prelude.{◌≡◌, ◌<◌, ◌∷◌, ◌&&◌, ◌==◌, [], IfSome, IsTrue, None, false, get_or, ℕ, option_map};
-ghost use Rattle.langtag_scan.specs.Grammar.{AllByRecursion, option_map_or, are_alike, is_alphanumeric, join, subtags};
-ghost use Rattle.langtag_scan.proofs.SubtagFacts.{IsSubtag};
+ghost use Rattle.langtag_scan.specs.Grammar.{AllByRecursion, option_map_or, are_alike, is_alphanumeric, join, subtags, IsSubtag};
 ghost use Rattle.langtag_keyword.specs.Keys.{opens_keyword};
 ghost use Rattle.langtag_keyword.specs.Keywords.{value_of};
 ghost use Rattle.langtag_keyword.specs.KeySets as spec;

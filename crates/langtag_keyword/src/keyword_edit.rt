@@ -3,7 +3,7 @@ ghost use Rattle.std.specs.Prelude.{◌≡◌, List, map, flat_map, is_some};
 ghost use Rattle.langtag_scan.specs.Grammar.{AllByRecursion, IsWellFormedExtension, subtags};
 ghost use Rattle.langtag_extension.specs.Spelling.{SpellsExtension, SpellsExtensions, extension_spelling, find_extension};
 ghost use Rattle.langtag_extension.specs.Text.{extension_text, extensions_left, extensions_text};
-ghost use Rattle.langtag_output.specs.Output.{Pushes};
+ghost use Rattle.langtag_text.specs.Output.{Pushes};
 ghost use Rattle.langtag_scan.specs.Record as model;
 ghost use Rattle.langtag_keyword.specs.Edit as spec;
 ghost use Rattle.langtag_keyword.specs.EditText.{edited_by, replaces};
@@ -12,8 +12,8 @@ use crate::edited_subtags::{has_others, push_with_keyword, push_without_keyword}
 use crate::extension_form::subtags_of;
 use crate::subtags::nonempty;
 use langtag_extension::{Extension, Extensions, ExtensionsIter, Singleton};
-use langtag_output::Output;
 use langtag_scan::into_smallcase;
+use langtag_text::Output;
 
 /// A key and its new value, or `None` to remove the key.
 #[derive(Clone, Copy, Drop)]

@@ -1,8 +1,7 @@
 //! Keywords and fields with their canonical values, in the order of their keys, written to an output.
 ghost use Rattle.std.specs.Prelude.{◌≡◌, ◌≤◌, List, map, ℕ, All, filter, flat_map, option_map};
-ghost use Rattle.langtag_scan.specs.Grammar.{AllByRecursion, join, subtags};
-ghost use Rattle.langtag_output.specs.Output.{Pushes};
-ghost use Rattle.langtag_scan.proofs.SubtagFacts.{IsSubtag};
+ghost use Rattle.langtag_scan.specs.Grammar.{AllByRecursion, join, subtags, IsSubtag};
+ghost use Rattle.langtag_text.specs.Output.{Pushes};
 ghost use Rattle.langtag_keyword.specs.Form as spec;
 ghost use Rattle.langtag_keyword.specs.Keys.{canonical_value_of, opens_keyword};
 ghost use Rattle.langtag_keyword.specs.Keywords.{value_of};
@@ -15,8 +14,8 @@ use crate::key_values::values_after;
 use crate::keys::Keys;
 use crate::least_numbers::{FEW, LeastNumbers, MANY, order_number};
 use crate::subtags::value_in;
-use langtag_output::Output;
 use langtag_scan::Subtags;
+use langtag_text::Output;
 
 /// Appends the keywords of a string, each once, in the order of their keys.
 ///

@@ -1,14 +1,13 @@
 //! The language of the extension `t` (UTS #35, part 1, `unicode_language_id`).
 ghost use Rattle.std.specs.Prelude.{◌≡◌, ◌-◌, ◌^◌, [], IsTrue, fold, length, map, min, option_map};
-ghost use Rattle.langtag_scan.specs.Grammar.{AllByRecursion, list_all, list_any, are_alike, fold_text, is_region, is_script, one_flat, segments, segments_left, is_variant};
-ghost use Rattle.langtag_output.specs.Output.{Pushes, with_subtag};
-ghost use Rattle.langtag_scan.proofs.SubtagFacts.{IsSubtag};
+ghost use Rattle.langtag_scan.specs.Grammar.{AllByRecursion, list_all, list_any, are_alike, fold_text, is_region, is_script, one_flat, segments, segments_left, is_variant, IsSubtag};
+ghost use Rattle.langtag_text.specs.Output.{Pushes, with_subtag};
 ghost use Rattle.langtag_keyword.specs.Form as spec;
 
 use crate::alphabet::{push_in_alphabet, push_lowercase};
 use crate::subtags::split_first;
-use langtag_output::Output;
 use langtag_scan::{case_insensitive_eq, is_primary, is_region, is_script, is_variant};
+use langtag_text::Output;
 
 /// Returns whether a string is a language with an optional script, an optional region, and any number of different
 /// variants.

@@ -1,11 +1,11 @@
 //! The least of many numbers, in little memory.
 ghost use Rattle.std.specs.Prelude.{◌≡◌, ◌<◌, ◌≤◌, ℕ, List, [], ◌∷◌, length, ltb, take, true, filter, flat_map};
-ghost use Rattle.langtag_output.specs.Output.{Pushes};
-ghost use Rattle.langtag_scan.proofs.SubtagFacts.{IsSubtag};
+ghost use Rattle.langtag_scan.specs.Grammar.{IsSubtag};
+ghost use Rattle.langtag_text.specs.Output.{Pushes};
 ghost use Rattle.langtag_keyword.specs.Least.{AscendsFrom, HoldsLeast, IsOffered, IsSettled, Least, ascending_after, is_within, number_text, order_number};
 
-use langtag_output::Output;
 use langtag_scan::folded_number;
+use langtag_text::Output;
 use std::marker::Model;
 
 /// Room for the numbers of a few subtags.

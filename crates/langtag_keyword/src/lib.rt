@@ -22,9 +22,8 @@ mod transform_form;
 pub use keys::Keys;
 pub use keyword_error::KeywordError;
 
-// For langtag_unicode, langtag_locale and langtag_span.
-pub use alias::{alias_for, type_alias_for};
-pub use alphabet::{are_few, push_lowercase};
+// For langtag_unicode, langtag_locale and langtag_c.
+pub use alphabet::are_few;
 pub use extension_form::{is_of, push_extensions, push_unicode, subtags_of};
 pub use key_set::KeySet;
 pub use keyword_check::{invalid_type, is_unicode_key};

@@ -1,8 +1,7 @@
 //! The canonical form of the extension `t`, written to an output.
 ghost use Rattle.std.specs.Prelude.{◌≡◌, ◌∷◌, [], false};
-ghost use Rattle.langtag_scan.specs.Grammar.{AllByRecursion, subtags};
-ghost use Rattle.langtag_output.specs.Output.{Pushes};
-ghost use Rattle.langtag_scan.proofs.SubtagFacts.{IsSubtag};
+ghost use Rattle.langtag_scan.specs.Grammar.{AllByRecursion, subtags, IsSubtag};
+ghost use Rattle.langtag_text.specs.Output.{Pushes};
 ghost use Rattle.langtag_keyword.specs.Form as spec;
 ghost use Rattle.langtag_keyword.specs.Keywords.{before_key};
 ghost use Rattle.langtag_keyword.specs.Transform.{is_field_key};
@@ -11,8 +10,8 @@ use crate::keys::Keys;
 use crate::keyword_form::push_keywords;
 use crate::language_id::{is_language_id, push_language_id};
 use crate::subtags::preceding;
-use langtag_output::Output;
 use langtag_scan::Subtags;
+use langtag_text::Output;
 
 /// Returns whether the subtags after the singleton are what UTS #35 allows: a language, fields, or both.
 pub fn is_transform(text: &str) -> bool

@@ -1,7 +1,7 @@
 -- A rule and its test say the same: one list of subtags spells a text, and it is what stands between the hyphens.
 use Rattle.langtag_scan.proofs.Prelude.{◌≡◌, ◌↔◌, ℕ, true, Bool, IsTrue, List, [], ◌∷◌, map, refl, sym, ap, ◌∙◌, arith, leb-true, le-leb, and_parts, nil_from_length, length-map, common_steps}
 use Rattle.langtag_scan.specs.Grammar.{fold_text, are_alike, is_extended, join, subtags}
-use Rattle.langtag_scan.proofs.TextLaws.{each_test-fold, alike_subtags_test, classes-fold, length-fold, of_primary, of_extended, each_from_test, test_from_each, each_subtag, subtags-joined, join-subtags}
+use Rattle.langtag_scan.proofs.Laws.{each_test-fold, alike_subtags_test, classes-fold, length-fold, of_primary, of_extended, each_from_test, test_from_each, each_subtag, subtags-joined, join-subtags}
 use Rattle.langtag_language.specs.Language.{SpellsLanguageExtension, IsLanguageExtension, SpellsLanguage, IsLanguage}
 use Rattle.langtag_language.specs.Decided.{are_extended, are_extended_within, extended_room, are_language_extension, are_language, is_language_extension, is_language}
 

@@ -1,15 +1,15 @@
 -- The maximal and the minimal record of a record are their own, and each undoes the other.
 use Rattle.langtag_scan.proofs.Prelude.{◌≡◌, ℕ, true, false, List, [], ◌∷◌, Option, None, Some, option_map, refl, sym, ap, ◌∙◌, arith, codes, ◌≤◌, length, map, inl, inr, ◌⊎◌, IsTrue, AllByRecursion, option_map_or, nat_tests}
 use Rattle.langtag_scan.specs.Grammar.{AlikeRecords, fold_record, Alike, fold_text, are_alike, is_extended, Record, IsWellFormed}
-use Rattle.langtag_tables.proofs.Letters.{primary_length, extended_primary}
+use Rattle.langtag_text.proofs.Letters.{primary_length, extended_primary}
 use Rattle.langtag_cldr.specs.Definitions.{or_other, filled, known, known_fields, add_likely, language_alone, without_script, without_region, likely_subtags, add_likely_subtags, canonical_fields, least, suffices}
 use Rattle.langtag_likely.proofs.Definitions.{fields_of, language_field, put_fields, put_language, maximal_record, minimal_record}
-use Rattle.langtag_tables.specs.Fields.{Fields}
+use Rattle.langtag_text.specs.Fields.{Fields}
 use Rattle.langtag_cldr.proofs.AddedTwice.{either_way, some_value, AreKnown, or_other_there}
 use Rattle.langtag_cldr.proofs.CanonicalFields.{likely_added}
 use Rattle.langtag_cldr.proofs.TableRows.{is_there}
 use Rattle.langtag_cldr.proofs.AlikeFields.{alike_fields, known-alike, known_fields-alike, suffices-alike, AlikeOptions, likely_added-alike, removed-alike, by_options}
-use Rattle.langtag_tables.proofs.Alike.{AlikeFields}
+use Rattle.langtag_text.proofs.Alike.{AlikeFields}
 
 -- ---- one field
 

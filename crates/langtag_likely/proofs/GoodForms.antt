@@ -1,18 +1,18 @@
 -- The maximal and the minimal record of a well-formed one are well-formed, and not much longer; the laws of both forms, over texts.
 use Rattle.langtag_scan.proofs.Prelude.{◌≡◌, ℕ, ◌≤◌, true, Bool, cond, List, [], ◌∷◌, length, Option, Some, option_map, IfSome, IsTrue, refl, arith, rules, codes, ◌+◌, length-append, sym, ap, ◌∙◌, and_parts, list_all, AllByRecursion, option_map_or, nat_tests}
 use Rattle.langtag_scan.specs.Grammar.{is_primary, is_extended, is_script, is_region, Record, IsWellFormed, one_flat, spell, IsNormal}
-use Rattle.langtag_scan.proofs.TextLaws.{script_four, region_short, hyphenated, length-spell, of_primary, spelled_once}
-use Rattle.langtag_tables.specs.FieldClasses.{is_language_field, is_script_field, is_region_field}
-use Rattle.langtag_tables.specs.Fields.{Fields}
+use Rattle.langtag_scan.proofs.Laws.{script_four, region_short, hyphenated, length-spell, of_primary, spelled_once}
+use Rattle.langtag_text.specs.FieldClasses.{is_language_field, is_script_field, is_region_field}
+use Rattle.langtag_text.specs.Fields.{Fields}
 use Rattle.langtag.specs.Definitions.{IsForm, IsAlikeForm}
 use Rattle.langtag_cldr.specs.Definitions.{Likely, likely_for, looked_up, or_else, filled, known_fields, add_likely, language_alone, without_script, without_region, likely_subtags, language_aliases, region_aliases, language_replaced, region_alone, region_replaced, add_likely_subtags, canonical_fields, least, remove_likely_subtags}
 use Rattle.langtag_likely.proofs.Definitions.{fields_of, language_field, put_fields, maximal_record, minimal_record, IsMaximalForm, IsMinimalForm}
 use Rattle.langtag_cldr.proofs.RowLaws.{aliases_listed, region_aliases_listed}
 use Rattle.langtag_cldr.proofs.FieldClasses.{from_extended, known_good}
 use Rattle.langtag_cldr.proofs.TableRows.{are_good, rows_listed}
-use Rattle.langtag_tables.proofs.FieldClasses.{from_primary}
+use Rattle.langtag_text.proofs.FieldClasses.{from_primary}
 use Rattle.langtag_likely.specs.MaximalLaws.{UndoesMinimal, UndoesMaximal, TellsAsMaximal, KeepsOthers}
-use Rattle.langtag_output.proofs.FormLaws.{alike_forms, composed, some_form, undone}
+use Rattle.langtag.proofs.FormLaws.{alike_forms, composed, some_form, undone}
 use Rattle.langtag_likely.proofs.FormsTwice.{maximal-twice, minimal-twice, minimal-of_maximal, maximal-of_minimal, maximal-alike, minimal-alike}
 
 -- ---- the fields

@@ -1,10 +1,10 @@
 -- A tag with other fields, piece by piece.
 use Rattle.langtag_scan.proofs.Prelude.{◌≡◌, ℕ, ◌+◌, ◌≤◌, true, List, [], ◌∷◌, ◌++◌, length, drop, arith, append_assoc, rules, codes, flat_map, length-append, append-nil, common_steps, nat_tests}
 use Rattle.langtag_scan.specs.Grammar.{are_alike, ends_of, Record, one_flat, extension_flat, private_part_flat, spell, join}
-use Rattle.langtag_scan.proofs.TextLaws.{hyphenated, hyphenated-append, join-append, drop-join, ends_in_order, length-spell}
-use Rattle.langtag_tables.specs.Fields.{Fields, subtag_of}
+use Rattle.langtag_scan.proofs.Laws.{hyphenated, hyphenated-append, join-append, drop-join, ends_in_order, length-spell}
+use Rattle.langtag_text.specs.Fields.{Fields, subtag_of}
 use Rattle.langtag.specs.Definitions.{SpellsLanguage}
-use Rattle.langtag_tables.proofs.Letters.{primary_length, extended_primary}
+use Rattle.langtag_text.proofs.Letters.{primary_length, extended_primary}
 use Rattle.langtag_cldr.specs.Definitions.{or_other}
 use Rattle.langtag_likely.proofs.Definitions.{put_fields, put_language}
 

@@ -2,7 +2,7 @@
 use Rattle.std.specs.Prelude.{ℕ, List, [], ◌∷◌, codes, if◌then◌else◌, unwrap_or}
 use Rattle.langtag_scan.specs.Grammar.{option_map_or, are_alike, Record}
 use Rattle.langtag_cldr.specs.Definitions.{known, or_other, add_likely_subtags, remove_likely_subtags}
-use Rattle.langtag_tables.specs.Fields.{Fields, subtag_of}
+use Rattle.langtag_text.specs.Fields.{Fields, subtag_of}
 use Rattle.langtag.specs.Definitions.{IsForm}
 
 -- ---- the fields of a tag

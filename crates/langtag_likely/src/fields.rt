@@ -2,7 +2,7 @@
 ghost use Rattle.std.specs.Prelude.{◌≡◌, IsTrue, [], codes, unwrap_or, option_map};
 ghost use Rattle.langtag_scan.specs.Grammar.{EachRecord};
 ghost use Rattle.langtag.specs.Definitions.{EachLanguageSpelling, language_text, script_text, region_text, normal_lang_tag_text};
-ghost use Rattle.langtag_tables.specs.FieldClasses.{is_language_field, is_script_field, is_region_field};
+ghost use Rattle.langtag_text.specs.FieldClasses.{is_language_field, is_script_field, is_region_field};
 ghost use Rattle.langtag_cldr.specs.Definitions.{known, field_texts};
 ghost use Rattle.langtag_likely.specs.Maximal.{fields_of, language_field};
 

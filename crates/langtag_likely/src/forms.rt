@@ -8,7 +8,7 @@ use crate::fields::fields_of;
 use crate::put::write_changed;
 use langtag::{LangTag, LangTagBuf, tag_of};
 use langtag_cldr::{add_likely_subtags, remove_likely_subtags};
-use langtag_output::write_text;
+use langtag_text::write_text;
 use std::alloc::{AllocError, Global};
 
 /// Adds the likely subtags to a tag (UTS #35, Add Likely Subtags): `zh-TW` becomes `zh-Hant-TW`, `en` and `und` become

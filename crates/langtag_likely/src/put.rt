@@ -3,13 +3,13 @@ ghost use Rattle.std.specs.Prelude.{◌≡◌, ◌∷◌, ◌++◌, drop, flat_m
 ghost use Rattle.langtag_scan.specs.Grammar.{option_map_or, ends_of, EachRecord, one_flat, spell, join};
 ghost use Rattle.langtag.specs.Definitions.{EachLanguageSpelling, language_text, normal_lang_tag_text, Writes};
 ghost use Rattle.langtag_likely.specs.Maximal.{put_fields, put_language};
-ghost use Rattle.langtag_tables.specs.Fields.{subtag_of};
+ghost use Rattle.langtag_text.specs.Fields.{subtag_of};
 ghost use Rattle.langtag_cldr.specs.Definitions.{field_texts};
 
 use langtag::NormalLangTag;
 use langtag_cldr::{TagFields, or_other};
 use langtag_language::Language;
-use langtag_output::{write_pieces, write_text};
+use langtag_text::{write_pieces, write_text};
 
 /// Writes a tag with the given fields to a buffer, or the unchanged tag if `None` is given.
 pub(crate) fn write_changed(

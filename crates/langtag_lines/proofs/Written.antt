@@ -1,5 +1,5 @@
 -- Lines of bytes, and how the answers that a writer holds grow as bytes are taken.
-use Rattle.std.proofs.Common.{◌≡◌, ◌∙◌, ℕ, ◌+◌, Bool, true, false, eqb-true, None, Some, List, [], ◌∷◌, ◌++◌, take, drop, get_or, refl, sym, ap, append_assoc, length-append, take-append-drop, get_or-take, arith, Result, Err, ◌-◌, Option, ◌<◌, ◌≤◌, length, length-drop, append-nil, subst, ◌≢◌}
+use Rattle.std.proofs.Common.{◌≡◌, ◌∙◌, ℕ, ◌+◌, Bool, true, false, eqb-true, None, Some, List, [], ◌∷◌, ◌++◌, take, drop, get_or, refl, sym, ap, append_assoc, length-append, take-append-drop, get_or-take, arith, Result, Err, ◌-◌, Option, ◌<◌, ◌≤◌, length, length-drop, append-nil, subst, ◌≢◌, inr}
 use Rattle.std.specs.List.{flat_map, AllByRecursion, position}
 use Rattle.std.proofs.lemmas.Grind.{common_steps}
 use Rattle.std.proofs.lemmas.List.{take_at, get_or_at, take_more, take-append-le}
@@ -9,12 +9,12 @@ use Rattle.std.proofs.lemmas.List.Sums.{fails_before_first}
 use Rattle.std.proofs.lemmas.List.Splits.{slice_split-cons_yes, slice_split-cons_no, slice_split_none, slice_split_at}
 use Rattle.std.proofs.lemmas.Bool.Decides.{nat_tests}
 use Rattle.langtag_lines.specs.Lines.{IsCutInto, is_line_feed, ended, pieces, complete_lines, rest_of, NoLineFeed, last_line, lines_of}
-use Rattle.langtag_lines.specs.Report.{AreAnswersBy, none, one_more, AnswersBy, FirstAnswersBy, HasRun, HavingRead, read_len}
+use Rattle.langtag_lines.specs.Report.{AreAnswersBy, none, one_more, AnswersBy, HasRun, HasStopped, HasStoppedIn, HavingRead, IsWanting}
 use Rattle.std.specs.Prelude.{OnOk, IfSome, IfErr, IsErrOf}
 use Rattle.std.specs.Result.{is_ok}
 use Rattle.std.specs.Io.KnownBytes.{Appends, IsAtEnd, Keeps, append_known}
 use Rattle.std.proofs.KnownBytes.{Appends-nil, Appends-trans, Appends-kept}
-use Rattle.std.proofs.Math.Seq.{take-add, take-append_seam, take-append-add, take-length}
+use Rattle.std.proofs.Math.Seq.{take-add, take-append-add, take-length}
 use Rattle.langtag_lines.specs.declared.run_error.RunError.{RunError}
 use Rattle.langtag_lines.specs.declared.run_error.RunError.TheVariants.{Memory, Read}
 
@@ -146,10 +146,6 @@ lines_more :
     complete_lines (input ++ more) ≡ complete_lines input ++ complete_lines (rest ++ more)
 lines_more input rest more is = complete_lines-append input more ∙ ap (λ r. complete_lines input ++ complete_lines (r ++ more)) (sym is)
 
--- the first bytes of an input have no more lines than all of it
-few_lines : (n : ℕ) (input : List ℕ) → length (complete_lines (take n input)) ≤ length (complete_lines input)
-few_lines n input = grind (arith, nat_tests, take-append-drop n input, complete_lines-append, length-append)
-
 pub free_rest : (input rest : List ℕ) → rest ≡ rest_of input → NoLineFeed rest
 free_rest input rest is = subst NoLineFeed (sym is) (lines_cut input).rest_free
 
@@ -226,27 +222,33 @@ module _ {IsAnswer : List ℕ → List ℕ → Type 0} where
       → AnswersBy IsAnswer a c (complete_lines (input ++ more))
   written_more a b c input rest more is p q = Answers-same a c _ _ (sym (lines_more input rest more is)) (Answers-trans a b c _ _ p q)
 
-  -- a run that stops has the answers to what stood, and to the first k lines that more bytes complete
-  pub written_first :
-      (a b c : Option (List ℕ)) (input rest more : List ℕ) → rest ≡ rest_of input → length more ≤ read_len → AnswersBy IsAnswer a b (complete_lines input) →
-      ((k : ℕ) × AnswersBy IsAnswer b c (take k (complete_lines (rest ++ more)))) → FirstAnswersBy IsAnswer a c (input ++ more)
-  written_first a b c input rest more is few p (k, q) =
-      let prefix = lines_more input rest more is in
-      (length (complete_lines input) + k, grind (arith, nat_tests, length-append input more, take-append-le, few_lines), rw (prefix, take-append-add) (Answers-trans a b c _ _ p q))
+  -- where a run stopped in what came after a line in hand, it stopped in what came after the whole input
+  pub stopped_more :
+      (Wanting : List ℕ → List ℕ → Type 0) (a b c : Option (List ℕ)) (input rest more : List ℕ) → rest ≡ rest_of input → AnswersBy IsAnswer a b (complete_lines input) →
+      HasStopped IsAnswer Wanting b c rest more → HasStopped IsAnswer Wanting a c input more
+  stopped_more Wanting a b c input rest more is p s = record {
+    taken = s.taken;
+    more = s.more;
+    after = s.after;
+    read = s.read;
+    free = s.free;
+    wanting = subst (λ held. Wanting held s.more) (rest_more input rest s.taken is) s.wanting;
+    written = written_more a b c input rest s.taken is p s.written;
+  }
 
-  -- or to all that were read
-  pub written_whole : (a b : Option (List ℕ)) (input : List ℕ) → AnswersBy IsAnswer a b (complete_lines input) → FirstAnswersBy IsAnswer a b input
-  written_whole a b input p = (length (complete_lines input), few_lines (length input - read_len) input, rw take-length p)
-
-  -- the answers on a page that is written out are those to the first lines of what came
-  pub written_before :
-      (a b c : Option (List ℕ)) (page line taken left bytes : List ℕ) → taken ++ left ≡ bytes → AnswersBy IsAnswer a (append_known b page) (complete_lines (line ++ taken)) →
-      Appends b c page → (k : ℕ) × AnswersBy IsAnswer a c (take k (complete_lines (line ++ bytes)))
-  written_before a b c page line taken left bytes are p gained =
-      let lines = complete_lines (line ++ taken) in
-      let prefix : take (length lines) (complete_lines (line ++ bytes)) ≡ lines =
-      grind (arith, nat_tests, append_assoc line taken left, complete_lines-append (line ++ taken) left, take-append_seam) in
-      (length lines, Answers-same a c _ _ (sym prefix) (Answers-written a b c page _ p gained))
+  -- or it stopped at the last line
+  pub stopped_last :
+      (Refuses : List ℕ → List ℕ → Type 0) (TakesMemory : List ℕ → Type 0) (a b : Option (List ℕ)) (input rest : List ℕ) → rest ≡ rest_of input →
+      AnswersBy IsAnswer a b (complete_lines input) → TakesMemory rest → HasStopped IsAnswer (IsWanting Refuses TakesMemory) a b input []
+  stopped_last Refuses TakesMemory a b input rest is p takes = record {
+    taken = [];
+    more = [];
+    after = [];
+    read = refl;
+    free = All-nil (λ x. is_line_feed x ≡ false);
+    wanting = rw (append-nil input, append-nil (rest_of input)) (inr (subst TakesMemory is takes));
+    written = rw (append-nil input) p;
+  }
 
   -- the answers to the complete lines, and then to the last one
   pub written_all :
@@ -256,18 +258,18 @@ module _ {IsAnswer : List ℕ → List ℕ → Type 0} where
 
   -- ---- a run, by what ends it
 
-  module _ (unread left old new : Option (List ℕ)) where
+  module _ (Wanting : List ℕ → List ℕ → Type 0) (unread left old new : Option (List ℕ)) where
     -- the end of the input
     pub run_ended :
         (result : Result (Unit {0}) RunError) → IsAtEnd left → OnOk result (IfSome unread (λ input. AnswersBy IsAnswer old new (lines_of input))) →
-        IfErr result (λ e. e ≢ Read) → (IsErrOf result Memory → HavingRead unread left (FirstAnswersBy IsAnswer old new)) →
-        HasRun IsAnswer result unread left old new
+        IfErr result (λ e. e ≢ Read) → (IsErrOf result Memory → HavingRead unread left (HasStoppedIn IsAnswer Wanting old new)) →
+        HasRun IsAnswer Wanting result unread left old new
     run_ended result end report other memory = grind (arith, common_steps, nat_tests)
 
     -- an error before it, but for a failed read
     pub run_stopped :
         (result : Result (Unit {0}) RunError) (e : RunError) → result ≡ Err e → e ≢ Read →
-        (IsErrOf result Memory → HavingRead unread left (FirstAnswersBy IsAnswer old new)) → HasRun IsAnswer result unread left old new
+        (IsErrOf result Memory → HavingRead unread left (HasStoppedIn IsAnswer Wanting old new)) → HasRun IsAnswer Wanting result unread left old new
     run_stopped result e is other memory = grind (arith, nat_tests)
 
 -- ---- a message, of which a writer may take only the first bytes

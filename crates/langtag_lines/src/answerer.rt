@@ -13,6 +13,9 @@ pub trait Answerer {
     /// Says whether a string is the answer to a line.
     ghost is_answer: { List ℕ → List ℕ → Type 0 };
 
+    /// Says whether the answer to a line may take memory.
+    ghost takes_memory: { List ℕ → Type 0 };
+
     /// Adds the answer to a line, and an LF, to the page.
     ///
     /// # Errors
@@ -29,6 +32,7 @@ pub trait Answerer {
             (append_known (W.contents output.new) page.new) (line.now ∷ [])) }
         ensures memory { IsErrOf result RunError.Memory →
             append_known (W.contents output.new) page.new ≡ append_known (W.contents output.old) page.old }
+        ensures wanted { IsErrOf result RunError.Memory → takes_memory line.now }
         ensures other { IfErr result (λ e. e ≢ RunError.Read) };
 
     /// A line has only one answer.

@@ -1,5 +1,5 @@
 //! A line that is collected from several reads.
-ghost use Rattle.std.specs.Prelude.{◌≡◌, ℕ, List, [], ◌++◌, OnOk};
+ghost use Rattle.std.specs.Prelude.{◌≡◌, ⊤, ℕ, List, [], ◌++◌, OnOk, OnErr};
 
 use std::alloc::AllocError;
 
@@ -8,6 +8,9 @@ use std::alloc::AllocError;
 pub trait GatheredLine {
     /// The bytes that were added since the line was last cleared.
     ghost bytes: { Self → List ℕ };
+
+    /// Says whether more bytes may be refused, after the bytes that the line has.
+    ghost refuses: { List ℕ → List ℕ → Type 0 };
 
     /// Returns all bytes of the line.
     fn as_bytes(&self) -> &[u8]
@@ -19,7 +22,8 @@ pub trait GatheredLine {
     ///
     /// Returns an error if there is no room for the bytes. The run then ends, and does not use the line again.
     fn extend(&mut self, more: &[u8]) -> Result<(), AllocError>
-        ensures { OnOk result (bytes self.new ≡ bytes self.old ++ more.now) };
+        ensures added { OnOk result (bytes self.new ≡ bytes self.old ++ more.now) }
+        ensures refused { OnErr result (refuses (bytes self.old) more.now) };
 
     /// Removes all bytes.
     fn clear(&mut self)
@@ -28,6 +32,8 @@ pub trait GatheredLine {
 
 impl GatheredLine for Vec<u8> {
     ghost bytes = { λ line. line.items };
+
+    ghost refuses = { λ held more. ⊤ };
 
     fn as_bytes(&self) -> &[u8] {
         self.as_slice()

@@ -11,6 +11,8 @@
 //! impl Answerer for Lengths {
 //!     ghost is_answer = { λ line text. text ≡ (if length line == 0 then codes "empty" else codes "full") };
 //!
+//!     ghost takes_memory = { λ line. ⊥ };
+//!
 //!     fn put_answer<W: Write>(&self, line: &[u8], page: &mut Page, output: &mut W) -> Result<(), RunError> {
 //!         if line.is_empty() {
 //!             return page.put_line(&["empty"], output);

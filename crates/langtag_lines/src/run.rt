@@ -1,8 +1,8 @@
 //! A run: reads the input, and writes the answer to each line.
-ghost use Rattle.std.specs.Prelude.{◌≡◌, ◌≢◌, ℕ, List, [], ◌∷◌, ◌++◌, take, OnOk, IfErr, IsErrOf, position};
+ghost use Rattle.std.specs.Prelude.{◌≡◌, ◌≢◌, ⊤, ℕ, List, [], ◌∷◌, ◌++◌, OnOk, IfErr, IsErrOf, position};
 ghost use Rattle.std.specs.Io.KnownBytes.{Appends, Keeps, append_known};
 ghost use Rattle.langtag_lines.specs.Lines.{IsCutInto, NoLineFeed, is_line_feed, complete_lines, rest_of, last_line};
-ghost use Rattle.langtag_lines.specs.Report.{AreAnswersBy, AnswersBy, HasRun};
+ghost use Rattle.langtag_lines.specs.Report.{AreAnswersBy, AnswersBy, HasRun, HasStopped, IsWanting};
 
 use crate::answerer::Answerer;
 use crate::gathered_line::GatheredLine;
@@ -33,7 +33,7 @@ pub fn answer_lines<A: Answerer, R: Read, W: Write>(
     input: &mut R,
     output: &mut W,
 ) -> Result<(), RunError>
-    ensures report { HasRun A.is_answer result (R.remaining input.old) (R.remaining input.new) (W.contents output.old) (W.contents output.new) }
+    ensures report { HasRun A.is_answer (IsWanting (λ held more. ⊤) A.takes_memory) result (R.remaining input.old) (R.remaining input.new) (W.contents output.old) (W.contents output.new) }
 
     // law: the input is split into lines
     ensures cut { (i : List ℕ) → IsCutInto i (complete_lines i) (rest_of i) }
@@ -61,7 +61,7 @@ pub fn answer_lines_in<A: Answerer, L: GatheredLine + Drop, R: Read, W: Write>(
     input: &mut R,
     output: &mut W,
 ) -> Result<(), RunError>
-    ensures report { HasRun A.is_answer result (R.remaining input.old) (R.remaining input.new) (W.contents output.old) (W.contents output.new) }
+    ensures report { HasRun A.is_answer (IsWanting L.refuses A.takes_memory) result (R.remaining input.old) (R.remaining input.new) (W.contents output.old) (W.contents output.new) }
 {
     line.clear();
     let mut page = Page::new();
@@ -93,8 +93,8 @@ fn take_bytes<A: Answerer, L: GatheredLine, W: Write>(
     ensures ok { OnOk result (AnswersBy A.is_answer (W.contents output.old) (W.contents output.new) (complete_lines (L.bytes line.old ++ bytes.now))) }
     ensures rest { OnOk result (L.bytes line.new ≡ rest_of (L.bytes line.old ++ bytes.now)) }
     ensures empty { OnOk result (page.new ≡ []) }
-    ensures memory { IsErrOf result RunError.Memory → (k : ℕ) ×
-        AnswersBy A.is_answer (W.contents output.old) (W.contents output.new) (take k (complete_lines (L.bytes line.old ++ bytes.now))) }
+    ensures memory { IsErrOf result RunError.Memory →
+        HasStopped A.is_answer (IsWanting L.refuses A.takes_memory) (W.contents output.old) (W.contents output.new) (L.bytes line.old) bytes.now }
     ensures other { IfErr result (λ e. e ≢ RunError.Read) }
 {
     let mut left = bytes;
@@ -126,6 +126,7 @@ fn end_line<A: Answerer, L: GatheredLine, W: Write>(
         ((L.bytes line.old ++ end.now) ∷ [])) }
     ensures cleared { OnOk result (L.bytes line.new ≡ []) }
     ensures memory { IsErrOf result RunError.Memory → Appends (W.contents output.old) (W.contents output.new) page.old }
+    ensures wanting { IsErrOf result RunError.Memory → IsWanting L.refuses A.takes_memory (L.bytes line.old) end.now }
     ensures other { IfErr result (λ e. e ≢ RunError.Read) }
 {
     if line.as_bytes().is_empty() {
@@ -149,6 +150,7 @@ fn gather<L: GatheredLine, W: Write>(
     ensures gathered { OnOk result (L.bytes line.new ≡ L.bytes line.old ++ bytes.now) }
     ensures kept { OnOk result (append_known (W.contents output.new) page.new ≡ append_known (W.contents output.old) page.old) }
     ensures memory { IsErrOf result RunError.Memory → Appends (W.contents output.old) (W.contents output.new) page.old }
+    ensures refused { IsErrOf result RunError.Memory → L.refuses (L.bytes line.old) bytes.now }
     ensures other { IfErr result (λ e. e ≢ RunError.Read) }
 {
     if line.extend(bytes).is_err() {
@@ -169,6 +171,7 @@ fn answer<A: Answerer, W: Write>(
     ensures ok { OnOk result (AnswersBy A.is_answer (append_known (W.contents output.old) page.old)
         (append_known (W.contents output.new) page.new) (line.now ∷ [])) }
     ensures memory { IsErrOf result RunError.Memory → Appends (W.contents output.old) (W.contents output.new) page.old }
+    ensures wanted { IsErrOf result RunError.Memory → A.takes_memory line.now }
     ensures other { IfErr result (λ e. e ≢ RunError.Read) }
 {
     match answerer.put_answer(line, page, output) {
@@ -198,6 +201,7 @@ fn finish<A: Answerer, W: Write>(
     requires { page.old ≡ [] }
     ensures ok { OnOk result (AnswersBy A.is_answer (W.contents output.old) (W.contents output.new) (last_line rest.now)) }
     ensures memory { IsErrOf result RunError.Memory → Keeps (W.contents output.old) (W.contents output.new) }
+    ensures wanted { IsErrOf result RunError.Memory → A.takes_memory rest.now }
     ensures other { IfErr result (λ e. e ≢ RunError.Read) }
 {
     if !rest.is_empty() {

@@ -1,13 +1,13 @@
 -- The form of a language identifier has a language, and maybe a script and a region.
 use Rattle.langtag_keyword.proofs.Common.{each-weaker, ◌≡◌, ℕ, Bool, true, List, [], ◌∷◌, ◌++◌, ◌&&◌, length, fold, Option, Some, None, refl, sym, ap, ◌∙◌, append_assoc, arith, common_steps, length-map, flat_map, list_all, AllByRecursion, with_joined, of_primary, IsSubtag, of_variant, are_alike, is_region, is_script, is_variant, IsWellFormed, Record, extension_flat, one_flat, private_part_flat, spell, segments, Alias, TypeAlias, alias_for, is_unicode_language, both, found_has, nat_tests, each-append}
 use Rattle.langtag_scan.specs.Grammar.{fold_byte, Spells, IsNormal}
-use Rattle.langtag_case.proofs.RecommendedLaws.{recommended_alike}
-use Rattle.langtag_case.specs.RecommendedCase.{recommended_text}
-use Rattle.langtag_tables.proofs.FieldClasses.{from_region, from_script}
+use Rattle.langtag_text.proofs.RecommendedLaws.{recommended_alike}
+use Rattle.langtag_text.specs.RecommendedCase.{recommended_text}
+use Rattle.langtag_text.proofs.FieldClasses.{from_region, from_script}
 use Rattle.langtag_cldr.specs.Definitions.{language_aliases, region_replacements, Likely, are_alike_fields, language_alone, likely_for, looked_up, or_else, or_other, language_rows, likely_subtags, other_rows, language_replaced, region_alone}
-use Rattle.langtag_tables.specs.FieldClasses.{is_region_field, is_script_field}
-use Rattle.langtag_tables.specs.Fields.{Fields, subtag_of}
-use Rattle.langtag_output.specs.Output.{with_subtag}
+use Rattle.langtag_text.specs.FieldClasses.{is_region_field, is_script_field}
+use Rattle.langtag_text.specs.Fields.{Fields, subtag_of}
+use Rattle.langtag_text.specs.Output.{with_subtag}
 use Rattle.langtag_scan.proofs.NormalTexts.{spelled_once}
 use Rattle.langtag_locale.specs.Locale.{is_locale_record}
 use Rattle.langtag_locale.specs.LocaleForm.{IsLocaleForm, extensions_in_order, identifier_form, language_after, locale_record, locale_text, new_variants}

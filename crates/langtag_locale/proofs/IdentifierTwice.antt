@@ -3,9 +3,9 @@ use Rattle.std.proofs.lemmas.Bool.Decides.{nat_tests}
 use Rattle.langtag_keyword.proofs.Common.{rules, arith, ◌≡◌, ℕ, Bool, true, false, not, cond, List, [], ◌∷◌, ◌&&◌, ◌||◌, fold, Option, Some, None, find, refl, sym, ap, ◌∙◌, unwrap_or, common_steps, false_from_ne_true, false≢true, not-true, AllByRecursion, list_all, is_none, is_some, option_map_or, IsTrue, codes, each-append, each_from_test, Alike, are_alike, are_alike-decides, one_flat, segments, Alias, TypeAlias, alias_for, type_alias_for, both, found_has, fold_text-twice}
 use Rattle.std.proofs.lemmas.Bool.{cond_both, or_parts}
 use Rattle.langtag_cldr.proofs.AlikeFields.{likely_for-alike}
-use Rattle.langtag_tables.proofs.Alike.{are_alike-left, are_alike-right}
+use Rattle.langtag_text.proofs.Alike.{are_alike-left, are_alike-right}
 use Rattle.langtag_cldr.specs.Definitions.{language_aliases, region_replacements, language_alone, likely_for, language_replaced, region_alone}
-use Rattle.langtag_tables.specs.Fields.{Fields, subtag_of}
+use Rattle.langtag_text.specs.Fields.{Fields, subtag_of}
 use Rattle.langtag_locale.specs.LocaleForm.{forms, has_variant, language_after, sign_for, variant_form, identifier_form, new_variants}
 use Rattle.langtag_locale.proofs.LocaleCase.{has_variant-alike, is_gone, region_by, replaced_by, replacement}
 use Rattle.langtag_keyword.proofs.Aliases.{alias_for-alike, type_alias_for-alike}

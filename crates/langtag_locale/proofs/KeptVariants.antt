@@ -1,7 +1,7 @@
 -- A variant keeps its form if its number is not one of those in the table.
 use Rattle.std.proofs.lemmas.Bool.Decides.{nat_tests}
 use Rattle.langtag_keyword.proofs.Common.{arith, ◌≡◌, ℕ, Bool, true, false, ◌==◌, List, [], ◌∷◌, map, refl, sym, ap, ◌∙◌, false_from_ne_true, false≢true, list_all, list_any, IsSubtag, are_alike, are_alike-decides, one_flat, Alias, TypeAlias, order_number, both}
-use Rattle.langtag_tables.specs.Fields.{subtag_of}
+use Rattle.langtag_text.specs.Fields.{subtag_of}
 use Rattle.langtag_scan.specs.Case.{fold_byte}
 use Rattle.langtag_keyword.specs.Least.{left_number}
 use Rattle.langtag_locale.specs.LocaleAliases as list

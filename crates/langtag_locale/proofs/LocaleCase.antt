@@ -1,9 +1,9 @@
 -- The case of a tag changes nothing in its form as a Unicode locale identifier.
 use Rattle.langtag_keyword.proofs.Common.{keywords_form, common_steps, arith, ◌≡◌, ℕ, Bool, cond, List, [], ◌∷◌, ◌++◌, ◌&&◌, ◌||◌, map, fold, Option, find, option_map, unwrap_or, refl, sym, ap, subst, ◌∙◌, map-append, length-map, list_any, flat_map, list_all, is_some, option_map_or, is_none, codes, bytes_eq, Alike, are_alike, fold_text, fold_byte, one_flat, Extension, Record, spell, segments, Alias, TypeAlias, alias_for, type_alias_for, nat_tests, find_extension, fold_text-twice, AlikeRecords, transform_value, before_key, is_field_key, slice_get-map}
 use Rattle.langtag_cldr.proofs.AlikeFields.{added-alike, by_options, by_same, known-alike, language-alike, likely_for-alike, or_other-alike}
-use Rattle.langtag_tables.proofs.Alike.{AlikeFields, are_alike-left, are_alike-right}
+use Rattle.langtag_text.proofs.Alike.{AlikeFields, are_alike-left, are_alike-right}
 use Rattle.langtag_cldr.specs.Definitions.{or_else, or_other}
-use Rattle.langtag_tables.specs.Fields.{Fields, subtag_of}
+use Rattle.langtag_text.specs.Fields.{Fields, subtag_of}
 use Rattle.langtag.specs.Definitions.{singletons}
 use Rattle.langtag_scan.specs.Grammar.{PrivateUse, fold_extension, fold_private_use, fold_record}
 use Rattle.langtag_locale.specs.LocaleForm.{forms, has_variant, heir, identifier_form, is_pair_of, language_after, new_variants, sign_for, variant_form}
@@ -19,7 +19,7 @@ use Rattle.langtag_locale.proofs.LocaleRecords.{locale_form_by, locale_form_test
 use Rattle.langtag_keyword.proofs.WalkLaws.{field_key-fold}
 use Rattle.langtag_keyword.proofs.ExtensionCase.{before-fold, fields-fold, is_of-fold, is_transform-fold, keywords-fold, lower-twice, transform_value-fold, unicode-fold, variants-fold}
 use Rattle.langtag.specs.Repeat.{are_alike_bytes, repeat, repeat_index_after}
-use Rattle.langtag_case.proofs.RecommendedLaws.{alike_recommended}
+use Rattle.langtag_text.proofs.RecommendedLaws.{alike_recommended}
 use Rattle.langtag_keyword.proofs.FormTwice.{unicode_language-fold}
 use Rattle.langtag_locale.specs.LocaleAliases as list
 use Rattle.langtag_locale.specs.LocaleForm as form

@@ -3,16 +3,16 @@ use Rattle.langtag_keyword.proofs.Common.{common_steps, flat_map-append, ◌≡�
 use Rattle.langtag_scan.proofs.Prelude.{list_all_at, IfSome}
 use Rattle.langtag_scan.specs.Grammar.{is_singleton, is_extension_subtag, IsNormal, IsTag}
 use Rattle.langtag_extension.proofs.ExtensionLookUp.{first_byte-spelling}
-use Rattle.langtag_tables.specs.FieldClasses.{is_region_field, is_script_field}
-use Rattle.langtag_tables.specs.Fields.{Fields, subtag_of}
+use Rattle.langtag_text.specs.FieldClasses.{is_region_field, is_script_field}
+use Rattle.langtag_text.specs.Fields.{Fields, subtag_of}
 use Rattle.langtag.specs.Definitions.{of_singleton, singletons}
 use Rattle.langtag_locale.specs.Locale.{is_locale_extension, is_locale_record}
 use Rattle.langtag_locale.specs.LocaleForm.{extension_at, locale_extension_form, locale_transform_form, identifier_form, locale_record, locale_text}
 use Rattle.langtag_locale.specs.LocaleForm.{new_variants, record_fields, transform_language_form}
-use Rattle.langtag_case.proofs.RecommendedLaws.{recommended_alike}
+use Rattle.langtag_text.proofs.RecommendedLaws.{recommended_alike}
 use Rattle.langtag_cldr.specs.Matching.{language_replaced}
-use Rattle.langtag_scan.proofs.TextLaws.{alike_tag, region_two_three, script_four, variant_long, of_region, of_script}
-use Rattle.langtag_tables.proofs.Letters.{primary_length}
+use Rattle.langtag_scan.proofs.Laws.{alike_tag, region_two_three, script_four, variant_long, of_region, of_script}
+use Rattle.langtag_text.proofs.Letters.{primary_length}
 use Rattle.langtag_keyword.specs.Identifier.{identifier_flat}
 use Rattle.langtag_keyword.proofs.ExtensionsPut.{AreLeft, left-opens}
 use Rattle.langtag_keyword.proofs.FormTwice.{alphabet-variants}

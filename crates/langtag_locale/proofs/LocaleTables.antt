@@ -2,8 +2,8 @@
 use Rattle.langtag_keyword.proofs.Common.{common_steps, arith, ◌≡◌, ℕ, Bool, true, List, [], ◌∷◌, fold, map, option_map, Some, refl, ◌+◌, ◌*◌, ◌==◌, not, ◌&&◌, ◌++◌, codes, list_all, are_alike, fold_text, segments, Alias, TypeAlias, alias_for, type_alias_for, both, found_has, nat_tests, is_none, is_some, are_alike-decides, find, ◌||◌}
 use Rattle.langtag_scan.proofs.Prelude.{and-false, eq-eqb}
 use Rattle.langtag_scan.specs.Grammar.{fold_byte, is_digit, is_letter, is_primary, is_region, is_script}
-use Rattle.langtag_tables.specs.FieldClasses.{is_language_field, is_region_field, is_script_field}
-use Rattle.langtag_tables.specs.Fields.{Fields}
+use Rattle.langtag_text.specs.FieldClasses.{is_language_field, is_region_field, is_script_field}
+use Rattle.langtag_text.specs.Fields.{Fields}
 use Rattle.langtag_locale.specs.LocaleForm.{has_variant, heir, language_after}
 use Rattle.langtag_cldr.specs.Definitions.{language_aliases, region_replacements, Likely, are_alike_fields, language_alone, likely_for, region_alone}
 use Rattle.langtag_locale.specs.LocaleAliases as list

@@ -2,10 +2,10 @@
 use Rattle.std.proofs.lemmas.Bool.Decides.{nat_tests}
 use Rattle.langtag_keyword.proofs.Common.{each-weaker, common_steps, arith, ◌≡◌, ℕ, true, false, not, ◌||◌, ◌==◌, List, [], ◌∷◌, map, Some, refl, ap, ◌∙◌, eqb-true, Bool, cond, ◌&&◌, sym, Option, None, option_map, unwrap_or, not-true, IsTrue, AllByRecursion, flat_map, list_all, list_any, each-append, each_from_test, are_alike, fold_text, Extension, IsWellFormed, IsWellFormedExtension, Record, spell, is_unicode_key, unicode_form, are_different_variants, are_fields, is_language_or_none, is_of, is_transform, is_unicode_language, is_key, value_of, before_key, both, found_has, is_none, option_map_or, extension_found, is_field_key, find_extension, find}
 use Rattle.langtag.specs.Repeat.{are_alike_bytes, repeat}
-use Rattle.langtag_tables.specs.Fields.{Fields, subtag_of}
+use Rattle.langtag_text.specs.Fields.{Fields, subtag_of}
 use Rattle.langtag.specs.Definitions.{singletons}
 use Rattle.langtag_cldr.specs.Matching.{language_replaced}
-use Rattle.langtag_scan.proofs.TextLaws.{test_from_each, alike_parts}
+use Rattle.langtag_scan.proofs.Laws.{test_from_each, alike_parts}
 use Rattle.langtag_scan.specs.Case.{fold_byte}
 use Rattle.langtag_locale.specs.Locale.{is_unicode_subtag, is_locale_extension, is_locale_record, IsLocale}
 use Rattle.langtag_locale.specs.LocaleForm.{extension_at, extensions_in_order, forms, locale_extension_form, new_variants, identifier_form, locale_record}
@@ -23,8 +23,8 @@ use Rattle.langtag_keyword.proofs.FormTwice.{IsLanguageForm, after_language, fie
 use Rattle.langtag_locale.proofs.IdentifierForms.{form_subtags, record_subtags, form_is}
 use Rattle.langtag_locale.proofs.IdentifierTwice.{identifier_form-twice, new_variants-twice}
 use Rattle.langtag_keyword.proofs.TransformParts.{identifier-no_field, identifier-variants}
-use Rattle.langtag_case.proofs.RecommendedLaws.{recommended_alike}
-use Rattle.langtag_case.specs.RecommendedCase.{recommended_text}
+use Rattle.langtag_text.proofs.RecommendedLaws.{recommended_alike}
+use Rattle.langtag_text.specs.RecommendedCase.{recommended_text}
 use Rattle.langtag_locale.proofs.LocaleCase.{locale-alike, text-alike}
 
 -- ---- the variants

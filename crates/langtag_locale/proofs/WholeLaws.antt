@@ -8,8 +8,8 @@ use Rattle.langtag.specs.Definitions.{IsGrandfathered, SpellsLanguageExtension}
 use Rattle.langtag_language.proofs.Rules.{subtags-extension}
 use Rattle.langtag_fields.specs.Fields.{preferred_tag}
 use Rattle.langtag_fields.specs.Registered.{is_registered_extlang}
-use Rattle.langtag_scan.proofs.TextLaws.{normal_or_not, spelled_once, alike_normal, alike_parts}
-use Rattle.langtag_tables.proofs.Letters.{extended_primary}
+use Rattle.langtag_scan.proofs.Laws.{normal_or_not, spelled_once, alike_normal, alike_parts}
+use Rattle.langtag_text.proofs.Letters.{extended_primary}
 use Rattle.langtag_locale.specs.Locale.{IsLocale, is_locale_record}
 use Rattle.langtag_locale.specs.LocaleForm.{IsLocaleForm, IsWholeForm, extlang_replaced, locale_text, record_form, replace_language, IsOwnForm}
 use Rattle.langtag.proofs.RegisteredLaws.{grandfathered_alike}

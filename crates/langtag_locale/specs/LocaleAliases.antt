@@ -1,8 +1,8 @@
--- The aliases of language identifiers of Unicode's CLDR 48.2 (the notice: unicode/LICENSE-UNICODE). Written by unicode/generate.py. Do not edit.
+-- The aliases of language identifiers of Unicode's CLDR 48.2 (the notice: LICENSE-UNICODE). Written by data/unicode/generate.py. Do not edit.
 use Rattle.std.specs.Prelude.{ℕ, [], ◌∷◌, List, codes}
 use Rattle.std.specs.List.{flat_map}
-use Rattle.langtag_tables.specs.Words.{words}
-use Rattle.langtag_keyword.specs.Alias.{Alias, TypeAlias, aliases_of, type_aliases_of}
+use Rattle.langtag_text.specs.Words.{words}
+use Rattle.langtag_text.specs.Alias.{Alias, TypeAlias, aliases_of, type_aliases_of}
 
 -- the languages that change with a variant: the language, the variant and the new language
 unfoldable pub variant_languages : List TypeAlias

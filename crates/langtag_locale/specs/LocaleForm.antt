@@ -4,11 +4,11 @@ use Rattle.std.specs.Prelude.{◌≡◌, ℕ, Bool, List, [], ◌∷◌, ◌++�
 use Rattle.langtag_scan.specs.Prelude.{list_any, option_map_or}
 use Rattle.langtag.specs.Definitions.{PartOf, IsGrandfathered, recommended_text, find_extension, singletons}
 use Rattle.langtag_cldr.specs.Definitions.{region_replacements, add_likely, known, likely_for, or_else, or_other, likely_subtags, language_replaced, region_alone}
-use Rattle.langtag_tables.specs.Fields.{Fields, subtag_of}
+use Rattle.langtag_text.specs.Fields.{Fields, subtag_of}
 use Rattle.langtag_fields.specs.Fields.{preferred_tag}
 use Rattle.langtag_fields.specs.Registered.{is_registered_extlang}
 use Rattle.langtag_scan.specs.Grammar.{Alike, are_alike, Extension, Record, one_flat, spell, segments}
-use Rattle.langtag_keyword.specs.Alias.{Alias, TypeAlias, alias_for, type_alias_for}
+use Rattle.langtag_text.specs.Alias.{Alias, TypeAlias, alias_for, type_alias_for}
 use Rattle.langtag_keyword.specs.Form.{in_alphabet, is_of, keywords_form, transform_value, unicode_form}
 use Rattle.langtag_keyword.specs.Keywords.{before_key}
 use Rattle.langtag_locale.specs.Locale.{IsLocale, is_locale_record}

@@ -1,7 +1,7 @@
 //! The canonical form of a Unicode locale identifier (UTS #35, part 1, Annex C).
 ghost use Rattle.std.specs.Prelude.{◌≡◌, ◌≤◌, ◌<◌, ◌+◌, IfOk, IfSome, IsTrue, None, Some, [], unwrap_or, option_map};
 ghost use Rattle.langtag.specs.Definitions.{lang_tag_buf_text, lang_tag_text, normal_lang_tag_text, EachLanguageSpelling, language_text, IsCounted, WritesWhole, region_text, script_text};
-ghost use Rattle.langtag_tables.specs.FieldClasses.{is_language_field, is_region_field, is_script_field};
+ghost use Rattle.langtag_text.specs.FieldClasses.{is_language_field, is_region_field, is_script_field};
 ghost use Rattle.langtag_cldr.specs.Definitions.{field_texts};
 ghost use Rattle.langtag_scan.specs.Record as model;
 ghost use Rattle.langtag_locale.specs.Locale as identifier;
@@ -12,10 +12,9 @@ use crate::locale_for::locale_for;
 use langtag::{
     LangTag, LangTagBuf, Language, NormalLangTag, Region, Script, push_private_use, tag_of,
 };
-use langtag_case::make_recommended_case;
 use langtag_cldr::TagFields;
 use langtag_keyword::nonempty;
-use langtag_output::Output;
+use langtag_text::{Output, make_recommended_case};
 use std::alloc::{AllocError, Global};
 
 /// How many bytes longer than its tag a form is expected to be at most. A longer form is right, too, but takes longer.
@@ -157,7 +156,7 @@ fn fields_of<'a>(tag: NormalLangTag<'a>) -> TagFields<'a>
     }
 }
 
-#[tactic(auto, using(langtag_tables::proofs::FieldClasses::from_primary))]
+#[tactic(auto, using(langtag_text::proofs::FieldClasses::from_primary))]
 fn primary_field<'a>(language: Language<'a>) -> &'a [u8]
     ensures field { EachLanguageSpelling (language_text language.entry) (λ primary extended. result.now ≡ primary) }
     ensures in_class { IsTrue (is_language_field result.now) }

@@ -1,14 +1,13 @@
 //! The extensions in the form of a Unicode locale identifier (UTS #35, part 1, Annex C).
 ghost use Rattle.std.specs.Prelude.{◌≡◌, ◌∷◌, [], IsTrue, List, flat_map, option_map};
-ghost use Rattle.langtag_scan.specs.Grammar.{AllByRecursion, is_singleton, segments, segments_left, subtags};
+ghost use Rattle.langtag_scan.specs.Grammar.{AllByRecursion, is_singleton, segments, segments_left, subtags, IsSubtag};
 ghost use Rattle.langtag.specs.Definitions.{SpellsExtension, SpellsExtensions, extension_text, extensions_text, Pushes};
-ghost use Rattle.langtag_tables.specs.Fields.{subtag_of};
+ghost use Rattle.langtag_text.specs.Fields.{subtag_of};
 ghost use Rattle.langtag_cldr.specs.Definitions.{field_texts};
-ghost use Rattle.langtag_scan.proofs.SubtagFacts.{IsSubtag};
 ghost use Rattle.langtag_scan.specs.Record as model;
 ghost use Rattle.langtag_locale.specs.Allowed.{AreAllowed, IsAllowed};
 ghost use Rattle.langtag_keyword.specs.Form.{is_language_id, is_transform};
-ghost use Rattle.langtag_keyword.proofs.IdentifierParts.{AreVariants};
+ghost use Rattle.langtag_keyword.specs.Identifier.{AreVariants};
 ghost use Rattle.langtag_keyword.specs.Identifier.{first_subtag, identifier_flat};
 ghost use Rattle.langtag_keyword.specs.Keywords.{before_key};
 ghost use Rattle.langtag_locale.specs.LocaleForm as spec;
@@ -23,7 +22,7 @@ use langtag_keyword::{
     Keys, is_of, preceding, push_keywords, push_unicode, split_first, subtags_of, take_region,
     take_script,
 };
-use langtag_output::Output;
+use langtag_text::Output;
 
 /// Appends the extensions in their forms, in the order of their singletons.
 pub(crate) fn push_locale_extensions(out: &mut Output<'_>, extensions: Extensions<'_>)

@@ -1,8 +1,8 @@
 //! Language, script and region in the form of a Unicode locale identifier (UTS #35, part 1, Annex C).
 ghost use Rattle.std.specs.Prelude.{◌≡◌, IfSome, IsTrue, map, fold, option_map};
 ghost use Rattle.langtag_scan.specs.Grammar.{segments, segments_left};
-ghost use Rattle.langtag_tables.specs.FieldClasses.{is_language_field, is_region_field, is_script_field};
-ghost use Rattle.langtag_tables.specs.Fields.{Fields};
+ghost use Rattle.langtag_text.specs.FieldClasses.{is_language_field, is_region_field, is_script_field};
+ghost use Rattle.langtag_text.specs.Fields.{Fields};
 ghost use Rattle.langtag_cldr.specs.Definitions.{or_other, language_replaced, field_texts};
 ghost use Rattle.langtag_locale.specs.LocaleAliases as list;
 ghost use Rattle.langtag_locale.specs.LocaleForm as spec;
@@ -11,7 +11,8 @@ use crate::locale_tables as tables;
 use crate::locale_variants::variant_languages;
 use langtag::case_insensitive_eq;
 use langtag_cldr::{TagFields, add_likely, region_replacement};
-use langtag_keyword::{alias_for, is_among, split_first};
+use langtag_keyword::{is_among, split_first};
+use langtag_text::alias_for;
 
 /// Returns the form of the fields of a language identifier with these variants. The first step, which replaces the
 /// language, is done already.

@@ -1,4 +1,4 @@
-//! The aliases of language identifiers of Unicode's CLDR 48.2, in tables (the notice: unicode/LICENSE-UNICODE). Written by unicode/generate.py. Do not edit.
+//! The aliases of language identifiers of Unicode's CLDR 48.2, in tables (the notice: LICENSE-UNICODE). Written by data/unicode/generate.py. Do not edit.
 
 /// The languages that change with a variant: the language, the variant and the new language.
 #[rattlefmt::skip]

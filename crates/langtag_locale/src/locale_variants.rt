@@ -1,21 +1,19 @@
 //! The variants in the form of a Unicode locale identifier (UTS #35, part 1, Annex C).
 ghost use Rattle.std.specs.Prelude.{◌≡◌, ◌≤◌, IsTrue, List, false, find, map, ℕ, option_map};
-ghost use Rattle.langtag_scan.specs.Grammar.{AllByRecursion, list_any, are_alike, is_variant, one_flat, segments_left};
-ghost use Rattle.langtag_tables.specs.Fields.{subtag_of};
+ghost use Rattle.langtag_scan.specs.Grammar.{AllByRecursion, list_any, are_alike, is_variant, one_flat, segments_left, IsSubtag};
+ghost use Rattle.langtag_text.specs.Fields.{subtag_of};
 ghost use Rattle.langtag.specs.Definitions.{Pushes};
-ghost use Rattle.langtag_scan.proofs.SubtagFacts.{IsSubtag};
 ghost use Rattle.langtag_keyword.specs.Least.{IsOffered, order_number};
-ghost use Rattle.langtag_keyword.proofs.IdentifierParts.{AreVariants};
+ghost use Rattle.langtag_keyword.specs.Identifier.{AreVariants};
 ghost use Rattle.langtag_locale.specs.LocaleAliases as list;
 ghost use Rattle.langtag_locale.specs.LocaleForm as spec;
 
 use crate::locale_tables as tables;
 use langtag::case_insensitive_eq;
 use langtag_keyword::{
-    FEW, LeastNumbers, MANY, alias_for, are_few, is_among, order_number, push_numbers, split_first,
-    type_alias_for,
+    FEW, LeastNumbers, MANY, are_few, is_among, order_number, push_numbers, split_first,
 };
-use langtag_output::Output;
+use langtag_text::{Output, alias_for, type_alias_for};
 
 /// Appends the variants of a language identifier in their forms, each once, in lowercase and in alphabetical order.
 pub(crate) fn push_variants(out: &mut Output<'_>, language: &[u8], variants: Option<&str>)

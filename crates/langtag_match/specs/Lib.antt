@@ -7,8 +7,11 @@ pub use Rattle.langtag_header.specs.Compared
 pub use Rattle.langtag_header.specs.LookUp
 pub use Rattle.langtag_header.specs.Stable
 pub use Rattle.langtag_header.specs.Text
+pub use Rattle.langtag_header.specs.declared.accept_language_error
+pub use Rattle.langtag_header.specs.declared.weighted_range
 pub use Rattle.langtag_range.specs.Basic
 pub use Rattle.langtag_range.specs.BasicForm
+pub use Rattle.langtag_range.specs.Definitions
 pub use Rattle.langtag_range.specs.Element
 pub use Rattle.langtag_range.specs.Extended
 pub use Rattle.langtag_range.specs.Fallback

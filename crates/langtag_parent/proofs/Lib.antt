@@ -1,4 +1,7 @@
-pub mod Cuts
-pub mod ListedParents
-pub mod OtherScript
-mod ParentSteps
+pub mod Bases
+pub mod Chains
+pub mod Latin
+pub mod Lines
+pub mod Members
+pub mod Rows
+pub mod Texts

@@ -1,15 +1,81 @@
--- A tag, its parent, the parent of its parent, and so on, as an iterator returns them.
-use Rattle.std.specs.Prelude.{◌≡◌, ℕ, List, Option, None, MatchOption, option_map}
-use Rattle.langtag.specs.Definitions.{lang_tag_text}
-use Rattle.langtag.specs.declared.lang_tag.LangTag.{LangTag}
-use Rattle.langtag_parent.specs.Parent.{IsParent}
+-- A tag and its parents, the nearest first: the order in which a catalogue looks for a string.
+use Rattle.std.specs.Prelude.{ℕ, zero, suc, ◌==◌, nat_lt, List, [], ◌∷◌, ◌++◌, length, Option, flat_map, map, if◌then◌else◌}
+use Rattle.langtag_scan.specs.Grammar.{option_map_or, Record, extension_flat, one_flat, private_part_flat, join}
+use Rattle.langtag.specs.Definitions.{PartOf}
+use Rattle.langtag_text.specs.Fields.{Fields, subtag_of}
+use Rattle.langtag_parent.specs.declared.parent_tag.ParentTag.{ParentTag}
 use Rattle.langtag_parent.specs.declared.parents.Parents.{Parents}
+use Rattle.langtag_parent.specs.Base.{base_fields}
+use Rattle.langtag_parent.specs.declared.base.Base.{Base}
+use Rattle.langtag_parent.specs.Parent.{fields_of, has_likely_script, parent_of, short}
 
--- the tag that comes next
-abbrev pub tag_left : Parents → Option (List ℕ)
-tag_left walk = option_map lang_tag_text walk.next
+-- ---- texts
 
--- the item is the tag that comes next, and its parent comes after it; nothing comes after a tag without a parent
-abbrev pub StepsToParent : Parents → Option LangTag → Parents → Type 0
-StepsToParent before item after =
-    (option_map lang_tag_text item ≡ tag_left before) × MatchOption (tag_left before) (tag_left after ≡ None) (λ tag. IsParent tag (tag_left after))
+-- the subtags, each after a hyphen
+abbrev pub hyphenated : List (List ℕ) → List ℕ
+hyphenated subtags = flat_map (λ s. 45 ∷ s) subtags
+
+-- a language, a script and a region, and what stands after them
+abbrev pub text_of : Fields → List ℕ → List ℕ
+text_of f rest = join (f.language ∷ (one_flat (subtag_of f.script) ++ one_flat (subtag_of f.region))) ++ rest
+
+-- a text without its last subtag, without its last two subtags, and so on
+abbrev pub shorter : List ℕ → List (List ℕ)
+shorter [] = []
+shorter (b ∷ text) = map (λ t. b ∷ t) (shorter text) ++ (if b == 45 then [] ∷ [] else [])
+
+-- ---- a language with its script and its region, and those above it
+
+-- the fields, their parent, the parent of this parent, and so on, each parent being that of the short form. They are
+-- never more than seven
+abbrev pub line : ℕ → Fields → List Fields
+line zero f = []
+line (suc most) f = f ∷ option_map_or (line most) (parent_of (short f)) []
+
+-- the text of fields, and then that of their short form if it is another one
+abbrev pub forms : Fields → List ℕ → List (List ℕ)
+forms f rest = text_of f rest ∷ (if has_likely_script f then text_of (short f) rest ∷ [] else [])
+
+-- the fields with each of these endings
+abbrev pub with_each : List (List ℕ) → Fields → List (List ℕ)
+with_each endings f = flat_map (forms f) endings
+
+-- the fields and those above them, each with the variants, which go one by one
+abbrev pub above : List ℕ → Option Fields → List (List ℕ)
+above variants parent = flat_map (with_each (variants ∷ shorter variants)) (option_map_or (line 8) parent [])
+
+-- ---- the chain
+
+-- what stands after the region of a tag
+abbrev pub rest_of : Record → List ℕ
+rest_of r = hyphenated (r.variants ++ (flat_map extension_flat r.extensions ++ private_part_flat r.private_use))
+
+-- an ending, without its extensions and private use if it has them, and then without one variant after another
+abbrev pub endings : List ℕ → List ℕ → List (List ℕ)
+endings variants rest = rest ∷ (if nat_lt (length variants) (length rest) then variants ∷ shorter variants else shorter rest)
+
+-- a normal tag and its parents: the tag as it is, if its script is likely anyway; then its short form, first with
+-- all that stands after the region; and then those above it
+abbrev pub chain_of : Record → List (List ℕ)
+chain_of r =
+    (if has_likely_script (fields_of r) then text_of (fields_of r) (rest_of r) ∷ [] else [])
+    ++ (with_each (endings (hyphenated r.variants) (rest_of r)) (short (fields_of r))
+    ++ above (hyphenated r.variants) (parent_of (short (short (fields_of r)))))
+
+-- a tag and its parents; a private use tag and an irregular tag have none
+abbrev pub IsChain : List ℕ → List (List ℕ) → Type 0
+IsChain tag chain = PartOf tag chain_of (tag ∷ []) chain
+
+-- ---- the types
+
+-- the text of a tag of the chain
+abbrev pub parent_text : ParentTag → List ℕ
+parent_text tag = text_of (record { language = tag.language.now; script = tag.script.now; region = tag.region.now }) tag.rest.now
+
+-- the tags of a base with an ending and the shorter ones, and those above it
+abbrev pub bases_left : Option Base → List ℕ → List ℕ → List (List ℕ)
+bases_left base rest variants = option_map_or (λ base. with_each (endings variants rest) (base_fields base) ++ above variants (parent_of (short (base_fields base)))) base []
+
+-- the tags that an iterator has not returned yet
+abbrev pub parents_left : Parents → List (List ℕ)
+parents_left walk = option_map_or (λ tag. parent_text tag ∷ []) walk.pending [] ++ bases_left walk.base walk.rest.now walk.variants.now

@@ -1,6 +1,6 @@
+pub mod Base
 pub mod Chain
+pub mod Decided
 pub mod Parent
 pub mod ParentLaws
 pub mod ParentLocales
-pub mod Plain
-pub mod Rows

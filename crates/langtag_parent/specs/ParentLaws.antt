@@ -1,47 +1,57 @@
--- Laws of the parents of a tag (UTS #35, part 1, 'Parent Locales'). Each law is about one parent, and so about each
--- member of the chain.
-use Rattle.std.specs.Prelude.{◌≡◌, ℕ, zero, suc, ◌⊎◌, List, [], ◌++◌, Option, None, Some, IfSome, MatchOption, option_map, unwrap_or, bytes_eq, true}
-use Rattle.langtag_scan.specs.Grammar.{list_any, option_map_or, Alike, EachRecord, Record}
-use Rattle.langtag_parent.specs.Parent.{IsParent, likely_of}
+-- Laws of a tag and its parents (UTS #35, part 1, section 'Parent Locales').
+use Rattle.std.specs.Prelude.{◌≡◌, ℕ, zero, suc, ◌⊎◌, List, [], ◌++◌, Option, None, Some, IfSome, MatchOption, if◌then◌else◌}
+use Rattle.langtag_scan.specs.Grammar.{Alike, AllByRecursion, EachRecord, Record}
+use Rattle.langtag_text.specs.Fields.{Fields}
+use Rattle.langtag_cldr.specs.Definitions.{likely_for}
+use Rattle.langtag_parent.specs.Chain.{IsChain}
+use Rattle.langtag_parent.specs.Parent.{fields_of, is_empty, likely_script, parent_of, short}
 use Rattle.langtag_parent.specs.ParentLocales.{parent_locales}
 
 -- ---- the chain ends
 
--- a text, its parent, the parent of its parent, and so on are at most `most` texts
-abbrev pub EndsWithin : ℕ → List ℕ → Type 0
-EndsWithin zero text = ⊥
-EndsWithin (suc most) text = (parent : List ℕ) → IsParent text (Some parent) → EndsWithin most parent
+-- fields, their parent, the parent of this parent, and so on are at most `most`
+abbrev pub EndsWithin : ℕ → Fields → Type 0
+EndsWithin zero f = ⊥
+EndsWithin (suc most) f = (parent : Fields) → parent_of (short f) ≡ Some parent → EndsWithin most parent
+
+-- ---- each member of the chain of a tag
+
+-- what holds of the record of the tag, and of the record of each member of its chain
+abbrev pub EachMember : (Record → Record → Type 0) → Type 0
+EachMember P = (tag : List ℕ) (chain : List (List ℕ)) → IsChain tag chain → EachRecord tag (λ r. AllByRecursion (λ member. EachRecord member (P r)) chain)
 
 -- ---- one script
 
 -- the script in which a tag is written: its own, or else the likely script of its language in its region
-abbrev pub script_of : Record → Option (List ℕ)
-script_of r = option_map_or Some r.script (option_map (λ f. f.script) (likely_of r.primary r.extended (unwrap_or r.region [])))
+abbrev pub script_of : Fields → Option (List ℕ)
+script_of f = if is_empty f.script then likely_script f.language f.region else Some f.script
 
--- if it is known in which script the second record is written, then the first is written in the same script
-abbrev pub IsWrittenAs : Record → Record → Type 0
-IsWrittenAs r q = IfSome (script_of q) (λ script. MatchOption (script_of r) ⊥ (λ own. Alike own script))
+-- if it is known in which script the second is written, then the first is written in the same script
+abbrev pub IsWrittenAs : Fields → Fields → Type 0
+IsWrittenAs f g = IfSome (script_of g) (λ script. MatchOption (script_of f) ⊥ (λ own. Alike own script))
 
--- a tag is written in the script of its parent, if this is known
-abbrev pub IsInOneScript : List ℕ → List ℕ → Type 0
-IsInOneScript tag parent = EachRecord tag (λ r. EachRecord parent (λ q. IsWrittenAs r q))
+-- the same of two tags
+abbrev pub IsInOneScript : Record → Record → Type 0
+IsInOneScript r q = IsWrittenAs (fields_of r) (fields_of q)
 
 -- ---- nothing is added
 
--- a text is the parent in some row of CLDR's list
-abbrev pub IsListed : List ℕ → Type 0
-IsListed parent = list_any (λ row. bytes_eq row.parent parent) parent_locales ≡ true
+-- CLDR states that these are the parent of other fields
+abbrev pub IsListed : Fields → Type 0
+IsListed f = (key : Fields) × (likely_for parent_locales key ≡ Some f)
 
--- the language is the same, ignoring case; the region and the last variants may be absent; there are no extensions and
--- no private use
-pub record AddsNothing (r q : Record) : Type 0 where
-  pub language : Alike q.primary r.primary
-  pub extended : q.extended ≡ r.extended
-  pub region : (q.region ≡ None) ⊎ (q.region ≡ r.region)
+-- the language is the same, and there is the same region or none
+abbrev pub IsKept : Fields → Fields → Type 0
+IsKept f g = (g.language ≡ f.language) × ((g.region ≡ []) ⊎ (g.region ≡ f.region))
+
+-- the second record has the language of the fields, and their region or none; the last variants of the first record may
+-- be absent, and so may its extensions with its private use
+pub record AddsNothing (f : Fields) (r q : Record) : Type 0 where
+  pub kept : IsKept f (fields_of q)
   pub variants : (last : List (List ℕ)) × (q.variants ++ last ≡ r.variants)
-  pub extensions : q.extensions ≡ []
-  pub private_use : q.private_use ≡ None
+  pub extensions : (q.extensions ≡ []) ⊎ (q.extensions ≡ r.extensions)
+  pub private_use : (q.private_use ≡ None) ⊎ (q.private_use ≡ r.private_use)
 
--- a parent that is not in CLDR's list adds nothing to the tag but a script
-abbrev pub IsKeptOrListed : List ℕ → List ℕ → Type 0
-IsKeptOrListed tag parent = IsListed parent ⊎ EachRecord tag (λ r. EachRecord parent (λ q. AddsNothing r q))
+-- a member adds nothing to the tag but a script, or else nothing to a parent that CLDR lists, with the variants of the tag
+abbrev pub IsKeptOrListed : Record → Record → Type 0
+IsKeptOrListed r q = AddsNothing (fields_of r) r q ⊎ ((f : Fields) × IsListed f × AddsNothing f r q)

@@ -4,20 +4,23 @@
 //!
 //! ```
 //! use langtag::LangTag;
-//! use langtag_parent::parent;
+//! use langtag_parent::{Parents, parent};
 //!
-//! parent(LangTag::new("es-MX")?).map(|tag| tag.as_str()); // Some("es-419")
-//! parent(LangTag::new("zh-Hant")?); // None
+//! Parents::new(LangTag::new("es-MX")?).count(); // 3: `es-MX`, `es-419` and `es`
+//! parent(LangTag::new("zh-Hant")?).is_none(); // true
 //! ```
 #![tactic(auto)]
 
+mod base;
 mod laws;
-mod likely_script;
-mod locales;
+mod parent_base;
+mod parent_tag;
 mod parents;
-mod scripted;
+mod scripts;
+mod stated;
 mod tables;
 mod tag_parent;
 
+pub use parent_tag::ParentTag;
 pub use parents::Parents;
-pub use tag_parent::parent;
+pub use tag_parent::{nth_parent, parent};

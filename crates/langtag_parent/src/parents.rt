@@ -1,47 +1,168 @@
 //! A tag and its parents.
-ghost use Rattle.std.specs.Prelude.{◌≡◌, Some};
-ghost use Rattle.langtag.specs.Definitions.{lang_tag_text};
-ghost use Rattle.langtag_parent.specs.Chain.{StepsToParent, tag_left};
+ghost use Rattle.std.specs.Prelude.{◌≡◌, ◌∷◌, ◌++◌, ◌≤◌, [], IfSome, MatchOption, drop, length, if◌then◌else◌};
+ghost use Rattle.langtag_scan.specs.Grammar.{EachRecord, IsHyphenFree, YieldsFirstBy, ends_of, item_count, option_map_or, spell};
+ghost use Rattle.langtag.specs.Definitions.{lang_tag_text, normal_lang_tag_text};
+ghost use Rattle.langtag_parent.specs.Base.{base_fields};
+ghost use Rattle.langtag_parent.specs.Chain.{IsChain, above, bases_left, chain_of, endings, forms, parent_text, parents_left, shorter, text_of, with_each};
+ghost use Rattle.langtag_parent.specs.Parent.{has_likely_script, parent_of, short};
 
-use crate::tag_parent::parent;
-use langtag::LangTag;
+use crate::base::Base;
+use crate::parent_base::parent_of;
+use crate::parent_tag::ParentTag;
+use crate::scripts::{has_likely_script, short};
+use langtag::{LangTag, NormalLangTag};
+use langtag_scan::segment_start;
 
-/// An iterator over a tag, its parent, the parent of its parent, and so on.
+/// An iterator over a tag and its parents, the nearest first.
 ///
 /// ```
 /// use langtag::LangTag;
 /// use langtag_parent::Parents;
 ///
-/// let mut chain = Parents::new(LangTag::new("pt-AO")?);
-/// chain.next().map(|tag| tag.as_str()); // Some("pt-AO")
-/// chain.next().map(|tag| tag.as_str()); // Some("pt-PT")
-/// chain.next().map(|tag| tag.as_str()); // Some("pt")
-/// chain.next(); // None
+/// Parents::new(LangTag::new("pt-AO")?).count(); // 3: `pt-AO`, `pt-PT` and `pt`
 /// ```
 #[derive(Clone, Debug, Drop)]
 pub struct Parents<'a> {
-    next: Option<LangTag<'a>>,
+    // A tag that comes before those of `base`.
+    pending: Option<ParentTag<'a>>,
+    base: Option<Base<'a>>,
+    // What stands after the region of the next tag, with the hyphen before it.
+    rest: &'a [u8],
+    // The variants of the first tag, with the hyphen before them.
+    variants: &'a [u8],
 }
 
 impl<'a> Parents<'a> {
     /// Returns an iterator that starts at the tag itself.
+    #[tactic(auto, using(crate::proofs::Chains::some_tag, crate::proofs::Chains::other_chain, crate::proofs::Chains::normal_chain))]
     pub fn new(tag: LangTag<'a>) -> Self
-        ensures starts { tag_left result ≡ Some (lang_tag_text tag.entry) }
-        ensures cloned { (walk copy : Parents) → ⟦<Parents<'a> as Clone>⟧.is_clone walk copy → tag_left copy ≡ tag_left walk }
+        ensures chain { IsChain (lang_tag_text tag.entry) (parents_left result) }
+        ensures cloned { (walk copy : Parents) → ⟦<Parents<'a> as Clone>⟧.is_clone walk copy → parents_left copy ≡ parents_left walk }
         ensures clone_succeeds { (walk : Parents) → ⟦<Parents<'a> as Clone>⟧.is_infallible walk }
     {
-        Parents { next: Some(tag) }
+        match tag.as_normal() {
+            Some(tag) => Parents::of_normal(tag),
+            None => Parents {
+                pending: Some(ParentTag::whole(tag.as_str().as_bytes())),
+                base: None,
+                rest: b"",
+                variants: b"",
+            },
+        }
+    }
+
+    /// Returns an iterator that starts at a normal tag.
+    fn of_normal(tag: NormalLangTag<'a>) -> Self
+        ensures { EachRecord (normal_lang_tag_text tag.entry) (λ r. parents_left result ≡ chain_of r) }
+    {
+        let base = Base::of(tag);
+        let rest = after_region(tag);
+        Parents {
+            pending: given_form(base, rest),
+            base: Some(short(base)),
+            rest,
+            variants: after_region(tag.base()),
+        }
     }
 }
 
 impl<'a> Iterator for Parents<'a> {
-    type Item = LangTag<'a>;
+    type Item = ParentTag<'a>;
 
-    ghost next_gives = { StepsToParent };
+    ghost next_gives = { YieldsFirstBy parent_text parents_left };
 
-    fn next(&mut self) -> Option<LangTag<'a>> {
-        let tag = self.next?;
-        self.next = parent(tag);
-        Some(tag)
+    ghost remaining = { item_count parents_left };
+
+    fn next(&mut self) -> Option<ParentTag<'a>> {
+        if let Some(pending) = self.pending {
+            self.pending = None;
+            return Some(pending);
+        }
+        let base = self.base?;
+        let rest = self.rest;
+        self.pending = short_form(base, rest);
+        (self.base, self.rest) = following(base, rest, self.variants);
+        Some(ParentTag::new(base, rest))
     }
+}
+
+/// Returns the tag of a base with its script, if this script is likely anyway.
+fn given_form<'a>(base: Base<'a>, rest: &'a [u8]) -> Option<ParentTag<'a>>
+    ensures { option_map_or (λ tag. parent_text tag ∷ []) result []
+        ≡ if has_likely_script (base_fields base.entry) then text_of (base_fields base.entry) rest.now ∷ [] else [] }
+{
+    if has_likely_script(base) {
+        Some(ParentTag::new(base, rest))
+    } else {
+        None
+    }
+}
+
+/// Returns the tag of a base without its script, if this script is likely anyway.
+fn short_form<'a>(base: Base<'a>, rest: &'a [u8]) -> Option<ParentTag<'a>>
+    ensures { option_map_or (λ tag. parent_text tag ∷ []) result []
+        ≡ if has_likely_script (base_fields base.entry) then text_of (short (base_fields base.entry)) rest.now ∷ [] else [] }
+{
+    if has_likely_script(base) {
+        Some(ParentTag::new(short(base), rest))
+    } else {
+        None
+    }
+}
+
+/// Returns the base of the next tag, and what stands after its region: the same base with less after it, or the parent
+/// of the base with all variants.
+#[tactic(auto, using(crate::proofs::Lines::step_some, crate::proofs::Lines::step_none))]
+fn following<'a>(base: Base<'a>, rest: &'a [u8], variants: &'a [u8]) -> (Option<Base<'a>>, &'a [u8])
+    ensures { with_each (endings variants.now rest.now) (base_fields base.entry) ++ above variants.now (parent_of (short (base_fields base.entry)))
+        ≡ forms (base_fields base.entry) rest.now ++ bases_left result.0 result.1.now variants.now }
+{
+    match shortened(rest, variants) {
+        Some(shorter) => (Some(base), shorter),
+        None => (parent_of(short(base)), variants),
+    }
+}
+
+/// Returns what stands after the region of the next tag of the same language, script and region: without extensions and
+/// private use, and then without the last variant. Returns `None` if nothing stands there.
+#[tactic(auto, using(crate::proofs::Texts::endings_first, crate::proofs::Texts::endings_next))]
+fn shortened<'a>(rest: &'a [u8], variants: &'a [u8]) -> Option<&'a [u8]>
+    ensures { endings variants.now rest.now ≡ rest.now ∷ option_map_or (λ shorter. endings variants.now shorter.now) result [] }
+{
+    if variants.len() < rest.len() {
+        return Some(variants);
+    }
+    without_last(rest)
+}
+
+/// Returns a string without its last subtag and the hyphen before it.
+fn without_last(text: &[u8]) -> Option<&[u8]>
+    ensures fewer { IfSome result (λ shorter. length shorter.now ≤ length text.now) }
+    ensures shorter { shorter text.now ≡ option_map_or (λ text. text.now ∷ shorter text.now) result [] }
+{
+    let (shorter, _) = split_last(text);
+    shorter
+}
+
+/// Returns the string before the last hyphen and the string after it. If there is no hyphen, returns `None` and the
+/// whole string.
+#[tactic(auto, using(langtag_scan::proofs::SubtagLists::splits))]
+fn split_last(text: &[u8]) -> (Option<&[u8]>, &[u8])
+    ensures hyphen_free { IsHyphenFree result.1.now }
+    ensures joined { MatchOption result.0 (text.now ≡ result.1.now) (λ prefix. text.now ≡ prefix.now ++ 45 ∷ result.1.now) }
+{
+    let start = segment_start(text, text.len());
+    if start == 0 {
+        return (None, text);
+    }
+    (Some(&text[..start - 1]), &text[start..])
+}
+
+/// Returns what stands after the region of a tag, with the hyphen before it.
+#[tactic(auto, unfolding(langtag_scan::specs::Tag::IsNormal), using(crate::proofs::Texts::region_inside))]
+fn after_region<'a>(tag: NormalLangTag<'a>) -> &'a [u8]
+    ensures { EachRecord (normal_lang_tag_text tag.entry) (λ r. result.now ≡ drop (ends_of r).region (spell r)) }
+{
+    let text = tag.as_str();
+    &text.as_bytes()[tag.ends().region..]
 }

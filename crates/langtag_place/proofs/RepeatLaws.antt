@@ -6,7 +6,7 @@ use Rattle.std.proofs.lemmas.List.Quantifiers.{all_pairs_push}
 use Rattle.langtag_place.specs.Repeat.{repeat_index_after, repeat_index, repeat, IsFirstRepeat, IsFirstRepeatAt}
 use Rattle.langtag_scan.specs.Grammar.{are_alike, folded_number, is_variant}
 use Rattle.langtag_place.specs.VariantBlocks.{HasNoRepeatBefore, IsPlaceOf, AreMet, HoldsFrom}
-use Rattle.langtag_scan.proofs.TextLaws.{among-numbers, folded_number-tells, of_variant}
+use Rattle.langtag_scan.proofs.Laws.{among-numbers, folded_number-tells, of_variant}
 
 -- ---- a walk that has come to a member
 

@@ -1,7 +1,7 @@
 -- The one list of variants that spells a text is the list of its subtags, and the test says whether there is one.
 use Rattle.langtag_scan.proofs.Prelude.{◌≡◌, ◌↔◌, ℕ, Bool, IsTrue, List, map, sym, ◌∙◌, ap, arith, common_steps}
 use Rattle.langtag_scan.specs.Grammar.{fold_text, are_alike, is_variant, subtags}
-use Rattle.langtag_scan.proofs.TextLaws.{each_test-fold, alike_subtags_test, classes-fold, of_variant, each_from_test, test_from_each, each_subtag, subtags-joined, join-subtags, length-subtags}
+use Rattle.langtag_scan.proofs.Laws.{each_test-fold, alike_subtags_test, classes-fold, of_variant, each_from_test, test_from_each, each_subtag, subtags-joined, join-subtags, length-subtags}
 use Rattle.langtag_place.specs.Decided.{are_variants, is_variants}
 use Rattle.langtag_place.specs.Variants.{IsVariants, SpellsVariants}
 

@@ -1,4 +1,6 @@
 pub mod Definitions
+pub mod KeywordNameLaws
 pub mod PosixLaws
 pub mod PosixNameLaws
 pub mod PosixNameRead
+pub mod TextOfName

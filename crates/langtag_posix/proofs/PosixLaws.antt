@@ -1,14 +1,14 @@
 -- The tag of a POSIX locale's name: its parts, its length, and the keyword va-posix for an only variant POSIX.
 use Rattle.langtag_scan.proofs.Prelude.{◌≡◌, ℕ, ◌+◌, ◌-◌, ◌≤◌, true, false, List, [], ◌∷◌, ◌++◌, length, take, drop, take_at, drop_at, IsTrue, refl, sym, ap, inl, ◌∙◌, arith, codes, flat_map, append_assoc, append-nil, length-append, Bool, cond, Option, None, Some, IfSome, MatchOption, Bor, IsUtf8, subst, AllByRecursion, and_parts, false_from_ne_true, option_map, option_or, IsUtf8-from_ascii, common_steps}
 use Rattle.langtag_scan.specs.Grammar.{are_alike, is_extension_subtag, is_mark, is_singleton, is_letter, is_digit, is_variant, is_script, ends_of, to_region, Extension, Record, IsWellFormed, extension_flat, private_part_flat, spell, EachRecord, Spells, join, IsNormal, IsTag}
-use Rattle.langtag_scan.proofs.TextLaws.{ends_in_order, length-spell, hyphenated, hyphenated-append, join-hyphenated, length-join, script_four, IsAscii-spelled, of_script, variant_four}
-use Rattle.langtag_tables.proofs.Alike.{alike_length}
+use Rattle.langtag_scan.proofs.Laws.{ends_in_order, length-spell, hyphenated, hyphenated-append, join-hyphenated, length-join, script_four, IsAscii-spelled, of_script, variant_four}
+use Rattle.langtag_text.proofs.Alike.{alike_length}
 use Rattle.langtag_cldr.specs.Definitions.{or_else}
 use Rattle.langtag_posix.proofs.Definitions.{IsAroundPosix, is_posix_alone, posix_extension, posix_replaced, modifier_of, said_script, script_behind, with_said, with_said_script, with_said_variant, is_script_code, modifier_script, modifier_variant}
 use Rattle.langtag.specs.Definitions.{with_script, script_text, IsVariants, IsForm}
 use Rattle.langtag.proofs.EditLaws.{script-replaces}
 use Rattle.langtag_place.specs.declared.script.Script.{Script}
-use Rattle.langtag_output.specs.Writes.{Writes}
+use Rattle.langtag_text.specs.Writes.{Writes}
 
 -- ---- the only variant
 

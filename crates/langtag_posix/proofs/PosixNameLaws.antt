@@ -1,10 +1,12 @@
 -- The text of a name, and that it is read as it stands: neither Android nor .NET writes a tag so.
-use Rattle.langtag_scan.proofs.Prelude.{◌≡◌, ℕ, ◌≤◌, not, true, false, Bool, cond, suc, List, [], ◌∷◌, ◌++◌, length, IfSome, refl, sym, ap, ◌∙◌, arith, flat_map, append_assoc, append-nil, unwrap_or, ◌<◌, ◌==◌, inl, inr, None, subst, ◌⊎◌, codes, length-append, AllByRecursion, after_first, before_first, list_any, and_parts, or_parts, false_from_ne_true, nat_tests, map-append, list_any-append, take_while-cons}
-use Rattle.langtag_scan.specs.Grammar.{Alike, fold_byte, are_alike, are_alphanumeric, is_alphanumeric, is_digit, is_letter, is_region, is_script, Record, extension_flat, one_flat, private_part_flat, spell, join, is_hyphen, are_alike-decides}
-use Rattle.langtag_scan.proofs.TextLaws.{drop-join, hyphenated, hyphenated-append, join-hyphenated, alike_region, region_short, script_four, of_region}
+use Rattle.langtag_scan.proofs.Prelude.{◌≡◌, ℕ, ◌≤◌, not, true, false, Bool, cond, suc, List, [], ◌∷◌, ◌++◌, length, IfSome, refl, sym, ap, ◌∙◌, arith, flat_map, append_assoc, append-nil, unwrap_or, ◌<◌, ◌==◌, inl, inr, None, subst, ◌⊎◌, codes, length-append, AllByRecursion, after_first, before_first, list_any, and_parts, or_parts, false_from_ne_true, nat_tests, map-append, list_any-append, take_while-cons, option_map, ◌&&◌, Some}
+use Rattle.langtag_scan.specs.Grammar.{Alike, fold_byte, are_alike, are_alphanumeric, is_alphanumeric, is_digit, is_letter, is_region, is_script, is_variant, Record, extension_flat, one_flat, private_part_flat, spell, join, is_hyphen, are_alike-decides}
+use Rattle.langtag_scan.proofs.Laws.{drop-join, hyphenated, hyphenated-append, join-hyphenated, alike_region, region_short, script_four, of_region, of_variant}
 use Rattle.langtag_range.specs.Wanted.{hyphened, hyphened_byte}
-use Rattle.langtag_posix.proofs.Definitions.{is_empty, is_script_code, after_variants, marked, is_plus, marked_region, platform_behind, platform_read, read_place, region_now}
-use Rattle.langtag_tables.proofs.Alike.{alike_is, alike_length}
+use Rattle.langtag_cldr.specs.Definitions.{or_else}
+use Rattle.langtag_posix.specs.PlatformNames.{behind_nothing, is_short_language, language_or_und}
+use Rattle.langtag_posix.proofs.Definitions.{behind_gap, filled, platform_text, is_empty, is_script_code, after_variants, marked, is_plus, without_gap, marked_region, platform_behind, platform_read, read_place, region_now}
+use Rattle.langtag_text.proofs.Alike.{alike_is, alike_length}
 
 -- ---- marks
 
@@ -93,7 +95,11 @@ script_code_four script is = (script_four script (and_parts (is_script script) _
 pub region_now_few : (language region : List ℕ) → is_region region ≡ true → length (region_now language region) ≤ 3
 region_now_few language region is = grind (arith, region_short)
 
-marked_some : (text : List ℕ) → 1 ≤ length text → marked 45 text ≡ 45 ∷ text
+pub begins_some : (text : List ℕ) → is_variant (before_first is_hyphen text) ≡ true → 1 ≤ length text
+begins_some [] is = absurd (let some = (of_variant [] is).some in omega (arith, some))
+begins_some (b ∷ text) is = omega arith
+
+pub marked_some : (text : List ℕ) → 1 ≤ length text → marked 45 text ≡ 45 ∷ text
 marked_some text some = grind (arith, nat_tests)
 
 pub region_now_marked : (language region : List ℕ) → is_region region ≡ true → marked 45 (region_now language region) ≡ 45 ∷ region_now language region
@@ -137,6 +143,21 @@ region_unmarked region is = grind (arith, nat_tests)
 pub no_mark : (mark : ℕ) → mark < 48 → (b : ℕ) → is_alphanumeric b ≡ true → (b == mark) ≡ false
 unfolding is_letter is_digit
 no_mark mark small b is = grind (arith, nat_tests)
+
+-- no field before or behind a region is empty
+region_gap : (region rest : List ℕ) → is_region region ≡ true → behind_gap (region ++ rest) ≡ None
+region_gap [] rest is = absurd (let some = (of_region [] is).some in omega (arith, some))
+region_gap (b ∷ region) rest is =
+    rw (no_mark 45 (omega arith) b (and_parts (is_alphanumeric b) (are_alphanumeric region) (of_region (b ∷ region) is).alphanumeric).0) refl
+
+region_no_script : (region : List ℕ) → is_region region ≡ true → is_script region ≡ false
+region_no_script region is = false_from_ne_true (is_script region) (λ script. omega (arith, (script_four region script).0, region_short region is))
+
+region_gapless : (region rest : List ℕ) → is_region region ≡ true → before_first is_hyphen rest ≡ [] → without_gap (region ++ rest) ≡ None
+region_gapless region rest is ends =
+    let free = free_of is_hyphen (no_mark 45 (omega arith)) region (of_region region is).alphanumeric in
+    let first : before_first is_hyphen (region ++ rest) ≡ region = before_rest is_hyphen region rest free ∙ ap (λ t. region ++ t) ends ∙ append-nil region in
+    rw (region_gap region rest is, first, region_no_script region is) refl
 
 region_behind : (region : List ℕ) → is_region region ≡ true → IsOrdinary region
 region_behind region is = record {
@@ -182,12 +203,54 @@ behind_is b c (inl none) (inr posix) = grind arith
 behind_is b c (inr is) (inl plain) = rw (plain, marked_some b (of_region b is).some) (subst IsOrdinary (sym (append-nil b)) (region_behind b is))
 behind_is b c (inr is) (inr posix) = rw (posix, marked_some b (of_region b is).some) (both_behind b is)
 
+gapless_behind : (b c : List ℕ) → (b ≡ []) ⊎ (is_region b ≡ true) → (c ≡ []) ⊎ (c ≡ codes "POSIX") → without_gap (after_first is_hyphen (marked 45 b ++ (marked 45 c ++ []))) ≡ None
+unfolding is_script fold_byte
+gapless_behind b c (inl none) (inl plain) = rw (none, plain) refl
+gapless_behind b c (inl none) (inr posix) = rw (none, posix) refl
+gapless_behind b c (inr is) (inl plain) = rw (plain, marked_some b (of_region b is).some) (region_gapless b [] is refl)
+gapless_behind b c (inr is) (inr posix) = rw (posix, marked_some b (of_region b is).some) (region_gapless b (45 ∷ codes "POSIX") is refl)
+
+ends_first : (b c : List ℕ) → before_first is_hyphen (marked 45 b ++ (marked 45 c ++ [])) ≡ []
+ends_first [] [] = refl
+ends_first [] (x ∷ c) = refl
+ends_first (x ∷ b) c = refl
+
+same_both : {X : Type 0} (test : Bool) (x : X) → cond test x x ≡ x
+same_both true x = refl
+same_both false x = refl
+
+some_not_empty : (text : List ℕ) → 2 ≤ length text → is_empty text ≡ false
+some_not_empty [] long = absurd (omega (arith, long))
+some_not_empty (b ∷ text) long = refl
+
 module _ (a b c : List ℕ) (first : are_alphanumeric a ≡ true) (second : are_alphanumeric b ≡ true) (third : are_alphanumeric c ≡ true) (long : 2 ≤ length a) (is : IsTerritory b c) where
   abbrev text : List ℕ
   text = tag_text a [] b c []
 
+  abbrev rest : List ℕ
+  rest = marked 45 b ++ (marked 45 c ++ [])
+
+  abbrev behind : List ℕ
+  behind = after_first is_hyphen rest
+
+  free : list_any is_hyphen a ≡ false
+  free = free_of is_hyphen (no_mark 45 (omega arith)) a first
+
+  no_platform : platform_text a behind ≡ None
+  no_platform =
+      ap (λ o. cond (is_short_language a) (option_map (λ text. a ++ 45 ∷ text) o) None) (ordinary a behind (behind_is b c is.territory is.variant)) ∙ same_both (is_short_language a) None
+
+  no_field : filled a behind ≡ None
+  no_field =
+      ap (λ o. option_map (λ text. language_or_und a ++ 45 ∷ text) (or_else o (behind_nothing a behind))) (gapless_behind b c is.territory is.variant)
+      ∙ ap (λ empty. option_map (λ text. language_or_und a ++ 45 ∷ text) (cond (empty && not (is_empty behind)) (Some behind) None)) (some_not_empty a long)
+
   kept : platform_read text ≡ text
-  kept = grind (arith, nat_tests, after_rest, free_of, no_mark, ordinary, behind_is)
+  kept =
+      ap (λ l. unwrap_or (or_else (platform_text l (after_first is_hyphen text)) (filled l (after_first is_hyphen text))) text)
+      (before_rest is_hyphen a rest free ∙ ap (λ t. a ++ t) (ends_first b c) ∙ append-nil a)
+      ∙ ap (λ t. unwrap_or (or_else (platform_text a t) (filled a t)) text) (after_rest is_hyphen a rest free)
+      ∙ ap (λ o. unwrap_or (or_else o (filled a behind)) text) no_platform ∙ ap (λ o. unwrap_or o text) no_field
 
   unplussed : are_alike (codes "b") (before_first is_plus (place_text a b c)) ≡ false
   unplussed =

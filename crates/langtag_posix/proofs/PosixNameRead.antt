@@ -1,21 +1,22 @@
 -- `from_posix` reads the name of a tag as the tag.
-use Rattle.langtag_scan.proofs.Prelude.{◌≡◌, ℕ, ◌+◌, ◌≤◌, not, true, false, Bool, cond, List, [], ◌∷◌, ◌++◌, length, Option, None, Some, IfSome, IsTrue, IsAscii, IsUtf8, ◌<◌, refl, sym, ap, subst, inl, inr, ◌∙◌, ◌⊎◌, arith, codes, find, flat_map, append_assoc, append-nil, length-append, option_map, unwrap_or, Bor, ◌&&◌, leb, AllByRecursion, after_first, before_first, list_all, list_any, option_and_then, and_parts, false_from_ne_true, leb-true, or_right, common_steps, nat_tests, list_any-append, IsAscii-append, IsUtf8-from_ascii, IsAscii-cons, IsAscii-nil, lowercase-uppercase}
+use Rattle.langtag_scan.proofs.Prelude.{◌≡◌, ℕ, ◌+◌, ◌≤◌, not, true, false, Bool, cond, List, [], ◌∷◌, ◌++◌, length, Option, None, Some, IfSome, IsTrue, IsAscii, IsUtf8, ◌<◌, refl, sym, ap, subst, inl, inr, ◌∙◌, ◌⊎◌, arith, codes, find, flat_map, append_assoc, append-nil, length-append, option_map, unwrap_or, Bor, ◌&&◌, ◌||◌, take, leb, AllByRecursion, after_first, before_first, list_all, list_any, option_and_then, and_parts, false_from_ne_true, leb-true, or_right, common_steps, nat_tests, list_any-append, IsAscii-append, IsUtf8-from_ascii, IsAscii-cons, IsAscii-nil, lowercase-uppercase}
 use Rattle.langtag_scan.specs.Grammar.{Alike, are_alike, fold_byte, fold_text, are_alike-decides, are_alphanumeric, are_letters, is_alphanumeric, is_digit, is_letter, is_region, is_script, is_variant, language_part, variants_part, Extension, IsWellFormed, Record, extension_flat, one_flat, spell, is_hyphen, join, IsNormal, IsTag}
-use Rattle.langtag_scan.proofs.TextLaws.{alike_primary, alike_region, fold_text-twice, hyphen-fold, length-fold, extended_three, region_short, hyphenated, length-join, IsAscii-each, alphanumeric_below, normal_or_not, letters_alphanumeric, of_primary, of_region, of_script, of_variant}
-use Rattle.langtag_case.specs.RecommendedCase.{capital_text}
-use Rattle.langtag_tables.specs.Fields.{Fields}
+use Rattle.langtag_scan.proofs.Laws.{alike_primary, alike_region, fold_text-twice, hyphen-fold, length-fold, extended_three, region_short, hyphenated, length-join, IsAscii-each, alphanumeric_below, normal_or_not, letters_alphanumeric, of_primary, of_region, of_script, of_variant}
+use Rattle.langtag_text.specs.RecommendedCase.{capital_text}
+use Rattle.langtag_text.specs.Fields.{Fields}
 use Rattle.langtag.specs.Definitions.{with_script}
-use Rattle.langtag_tables.proofs.Alike.{alike_is, alike_length}
+use Rattle.langtag_text.proofs.Alike.{alike_is, alike_length}
 use Rattle.langtag_range.specs.Definitions.{ends_locale, front_of, is_hash, locale_place, place_before, without_mark, hyphened}
 use Rattle.langtag_range.proofs.AlikeTexts.{list_any-fold}
 use Rattle.langtag_cldr.specs.Definitions.{language_alone, or_else, without_script}
 use Rattle.langtag_likely.proofs.Definitions.{fields_of}
-use Rattle.langtag_posix.proofs.Definitions.{is_empty, modifier_for, modifier_script, modifier_variant, modifiers, names, IsLocalePlace, IsTagOfName, is_at, is_underscore, modifier_of, posix_extension, posix_replaced, said_script, script_behind, with_said, with_said_script, with_said_variant, IsPosixName, IsReadBack, NameParts, ReadsBack, after_variants, is_likely, is_named, marked, name_modifier, name_parts, name_variant, read_place}
+use Rattle.langtag_posix.proofs.Definitions.{is_empty, modifier_for, modifier_script, modifier_variant, modifiers, names, IsTagOfName, NamesTag, are_keywords, keywords_text, extensions_behind, is_java_place, place_of, place_read, text_of_name, without_java_field, is_at, is_underscore, modifier_of, posix_extension, posix_replaced, said_script, script_behind, with_said, with_said_script, with_said_variant, IsPosixName, IsReadBack, NameParts, ReadsBack, after_variants, is_likely, is_named, marked, name_modifier, name_parts, name_variant, read_place}
+use Rattle.langtag_posix.specs.KeywordNames.{key_named, key_names, keyword_texts, type_named, type_names}
 use Rattle.langtag_posix.specs.ToPosix.{name_text}
 use Rattle.langtag_posix.proofs.PosixNameLaws.{no_mark, place_kept, IsPlain, after_others, after_rest, alike_text, before_rest, marked_cut, others, place_free, place_hyphened, place_text, spelled_text, tag_text}
 use Rattle.langtag_cldr.proofs.AddedTwice.{some_value}
 use Rattle.langtag_posix.proofs.PosixLaws.{said_well_formed, others_stay}
-use Rattle.langtag_tables.proofs.Letters.{primary_length}
+use Rattle.langtag_text.proofs.Letters.{primary_length}
 
 -- ---- the parts of the name of a record
 
@@ -105,18 +106,23 @@ record IsSaid (s v modifier : List ℕ) : Type 0 where
   variants : Alike (unwrap_or (modifier_variant modifier) []) v
   few : length modifier ≤ 14
   letters : are_letters modifier ≡ true
+  no_keywords : are_keywords modifier ≡ false
 
 found_in : {X : Type 0} (test is_good : X → Bool) (xs : List X) (x : X) → list_all is_good xs ≡ true → find test xs ≡ Some x → (test x ≡ true) × (is_good x ≡ true)
 found_in test is_good [] x all is = absurd cc
 found_in test is_good (y ∷ xs) x all is = grind (arith, common_steps, and_parts (is_good y), found_in test is_good xs x)
 
+not_true : (b : Bool) → not b ≡ true → b ≡ false
+not_true b is = grind (arith, common_steps)
+
 modifier_said : (s v modifier : List ℕ) → modifier_for s v ≡ Some modifier → IsSaid s v modifier
-unfolding modifier_for is_letter
+unfolding modifier_for is_letter key_named key_names type_named type_names fold_byte
 modifier_said s v modifier is =
-    let (named, good) = found_in (names s v) (λ m. leb (length m) 14 && are_letters m) modifiers modifier refl is in
+    let (named, good) = found_in (names s v) (λ m. (leb (length m) 14 && are_letters m) && not (are_keywords m)) modifiers modifier refl is in
     let both = and_parts (are_alike (unwrap_or (modifier_script modifier) []) s) (are_alike (unwrap_or (modifier_variant modifier) []) v) named in
-    let size = and_parts (leb (length modifier) 14) (are_letters modifier) good in
-    record { script = alike_is _ s both.0; variants = alike_is _ v both.1; few = leb-true (length modifier) 14 size.0; letters = size.1 }
+    let plain = and_parts (leb (length modifier) 14 && are_letters modifier) (not (are_keywords modifier)) good in
+    let size = and_parts (leb (length modifier) 14) (are_letters modifier) plain.0 in
+    record { script = alike_is _ s both.0; variants = alike_is _ v both.1; few = leb-true (length modifier) 14 size.0; letters = size.1; no_keywords = not_true (are_keywords modifier) plain.1 }
 
 tried : (likely alone : Bool) (written left_out : Option (List ℕ)) (m : List ℕ) → cond (not likely) written (cond alone left_out (or_else written left_out)) ≡ Some m →
     (written ≡ Some m) ⊎ ((left_out ≡ Some m) × (likely ≡ true))
@@ -209,6 +215,7 @@ no_script = refl
 record IsCut (p m name : List ℕ) : Type 0 where
   front : front_of name ≡ p
   place : locale_place name ≡ p
+  behind : after_first is_hash (front_of name) ≡ []
   modifier : modifier_of name ≡ m
   script : said_script name ≡ or_else (modifier_script m) None
 
@@ -228,9 +235,50 @@ name_cut a b c modifier first second third =
     record {
       front = front;
       place = ap place_before front ∙ ap (λ test. cond test (without_mark (without_mark (before_first is_hash place))) place) hash;
+      behind = ap (after_first is_hash) front ∙ behind;
       modifier = said;
       script = ap (λ m. or_else (modifier_script m) (script_behind (front_of (place ++ marked 64 modifier)))) said ∙ ap (or_else (modifier_script modifier)) (ap script_behind front ∙ none);
     }
+
+-- ---- the text of a name
+
+no_java_field : (place : List ℕ) → is_java_place place [] ≡ false
+unfolding fold_byte
+no_java_field place = neither _ _
+  where
+    neither : (a b : Bool) → ((a && false) || (b && false)) ≡ false
+    neither a b = grind (arith, common_steps)
+
+-- a name without extensions and keywords is read as its place
+record IsPlaceAlone (place name : List ℕ) : Type 0 where
+  extensions : extensions_behind (front_of name) ≡ []
+  place_of : place_of name ≡ place
+  place_read : place_read name ≡ read_place place
+  text : text_of_name name ≡ read_place place
+
+place_alone : (p m name : List ℕ) → IsCut p m name → are_keywords m ≡ false → IsPlaceAlone p name
+unfolding is_script place_read text_of_name
+place_alone p m name cut none =
+    let extensions : extensions_behind (front_of name) ≡ [] =
+    ap (λ t. cond (is_script (before_first is_underscore t)) (after_first is_underscore t) t) cut.behind in
+    let of_name : place_of name ≡ p =
+    ap (λ t. cond (is_empty (locale_place name) && not (is_empty t)) (codes "und") (locale_place name)) cut.behind
+    ∙ ap (λ b. cond b (codes "und") (locale_place name)) (and-no (is_empty (locale_place name))) ∙ cut.place in
+    let is_read : place_read name ≡ read_place p =
+    ap (without_java_field (read_place (place_of name))) extensions
+    ∙ ap (λ b. cond b (take 5 (read_place (place_of name))) (read_place (place_of name))) (no_java_field (read_place (place_of name))) ∙ ap read_place of_name in
+    record {
+      extensions = extensions;
+      place_of = of_name;
+      place_read = is_read;
+      text =
+          ap (λ t. (place_read name ++ marked 45 t) ++ keywords_text (modifier_of name)) extensions
+          ∙ ap (λ b. (place_read name ++ []) ++ cond b (codes "-u" ++ keyword_texts (modifier_of name)) []) (ap are_keywords cut.modifier ∙ none)
+          ∙ append-nil (place_read name ++ []) ∙ append-nil (place_read name) ∙ is_read;
+    }
+  where
+    and-no : (b : Bool) → (b && false) ≡ false
+    and-no b = grind (arith, common_steps)
 
 -- ---- the name is read back
 
@@ -293,10 +341,24 @@ module _ (r : Record) (fits : IsWellFormed r) (short : IsShort r) (v m s : List 
   spelled_read : spell (place_record r v) ≡ read_place place
   spelled_read = spelled_place ∙ sym read_kept
 
-  names_tag : IsLocalePlace place
+  alone : IsPlaceAlone place name
+  alone = place_alone place m name cut said.no_keywords
+
+  place_tag : IsTag (read_place place) × (are_alike (read_place place) (codes "POSIX") ≡ false) × (length place ≤ 255) × (length (read_place place) ≤ 260)
   unfolding IsTag IsNormal
-  names_tag =
+  place_tag =
       grind (arith, nat_tests, common_steps, fits_place, spelled_read, read_kept, place_hyphened, letters_first, letters_second, not_posix, length-fold, region_short, unwrap-capital, length-append, marked_few)
+
+  names_tag : NamesTag name
+  names_tag =
+      let (tag, other, short, few) = place_tag in
+      record {
+        tag = subst IsTag (sym alone.text) tag;
+        other = ap (λ t. are_alike t (codes "POSIX")) alone.place_read ∙ other;
+        follows = rw (alone.extensions, cut.modifier, said.no_keywords) refl;
+        short = omega (arith, ap length alone.place_of, short);
+        few = omega (arith, ap length alone.text, few);
+      }
 
   said_is : with_said name (place_record r v) ≡ read_record r m extensions
   said_is = grind (arith, common_steps, nat_tests, cut, said_of_place)
@@ -307,7 +369,7 @@ module _ (r : Record) (fits : IsWellFormed r) (short : IsShort r) (v m s : List 
   read_alike :
       (script : Option (List ℕ)) → IsWellFormed (with_script r script) → unwrap_or script [] ≡ s → (tag : List ℕ) → IsTagOfName name tag → Alike tag (spell (with_script r script))
   read_alike script whole is tag read =
-      let parts = read.parts (place_record r v) (fits_place, spelled_read ∙ ap read_place (sym cut.place)) in
+      let parts = read.parts (place_record r v) (fits_place, spelled_read ∙ sym alone.text) in
       let plain = plain_of (with_script r script) whole short.none in
       ap fold_text (parts ∙ ap spell said_is ∙ spelled_text (read_record r m extensions) plain_read)
       ∙ alike_text (fold_text r.primary) (unwrap_or (modifier_script m) []) (unwrap_or (option_map capital_text r.region) []) (join (one_flat (modifier_variant m))) (others (read_record r m extensions))
@@ -329,7 +391,7 @@ module _ (r : Record) (fits : IsWellFormed r) (short : IsShort r) (v m s : List 
   read_back :
       (script : Option (List ℕ)) → IsWellFormed (with_script r script) → unwrap_or script [] ≡ s →
       (script ≡ r.script) ⊎ ((script ≡ None) × IsTrue (is_likely (without_script (fields_of r)) (unwrap_or r.script []))) → IsReadBack r name
-  read_back script whole is kept = record { script = script; names = subst IsLocalePlace (sym cut.place) names_tag; back = read_alike script whole is; kept = kept }
+  read_back script whole is kept = record { script = script; names = names_tag; back = read_alike script whole is; kept = kept }
 
 -- a name that is read back, of some ASCII bytes
 abbrev IsGood : Record → List ℕ → Type 0

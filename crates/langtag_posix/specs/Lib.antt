@@ -1,3 +1,4 @@
+pub mod KeywordNames
 pub mod Modifiers
 pub mod PlatformNames
 pub mod Posix

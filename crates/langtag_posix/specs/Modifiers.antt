@@ -2,6 +2,7 @@
 use Rattle.std.specs.Prelude.{ℕ, Bool, true, false, ◌&&◌, ◌||◌, List, [], ◌∷◌, Option, None, Some, codes, find, is_some, unwrap_or, if◌then◌else◌}
 use Rattle.langtag_scan.specs.Grammar.{list_any, are_alike, is_script}
 use Rattle.langtag_cldr.specs.Definitions.{script_codes}
+use Rattle.langtag_posix.specs.KeywordNames.{are_keywords}
 
 -- whether a text is the code of a script (ISO 15924)
 abbrev pub is_script_code : List ℕ → Bool
@@ -35,9 +36,10 @@ abbrev pub is_empty : List ℕ → Bool
 is_empty [] = true
 is_empty (b ∷ text) = false
 
--- whether the modifier is empty, names a script or a variant, or is not about the language
+-- whether the modifier is empty, names a script or a variant, is not about the language, or consists of keywords that can be
+-- read
 unfoldable pub is_known : List ℕ → Bool
-is_known modifier = is_empty modifier || (is_some (modifier_script modifier) || (is_some (modifier_variant modifier) || says_nothing modifier))
+is_known modifier = is_empty modifier || (is_some (modifier_script modifier) || (is_some (modifier_variant modifier) || (says_nothing modifier || are_keywords modifier)))
 
 -- ---- the modifier for a script and variants
 

@@ -1,10 +1,16 @@
--- The language and the territory of a locale name, as Android's resource folders and old versions of .NET write them.
-use Rattle.std.specs.Prelude.{ℕ, ◌==◌, ◌&&◌, ◌||◌, Bool, List, [], ◌∷◌, ◌++◌, Option, None, Some, codes, length, map, nat_le, option_map, unwrap_or, if◌then◌else◌}
+-- The language and the territory of a locale name, as Android's resource folders and old versions of .NET write them, or as
+-- Java and ICU do if a field is empty.
+use Rattle.std.specs.Prelude.{ℕ, ◌==◌, ◌&&◌, ◌||◌, Bool, not, List, [], ◌∷◌, ◌++◌, Option, None, Some, codes, length, map, nat_le, option_map, unwrap_or, if◌then◌else◌}
 use Rattle.langtag_scan.specs.Prelude.{after_first, before_first}
-use Rattle.langtag_scan.specs.Grammar.{are_alike, is_primary, is_region, is_hyphen}
+use Rattle.langtag_scan.specs.Grammar.{are_alike, is_primary, is_region, is_script, is_variant, is_hyphen}
 use Rattle.langtag_range.specs.Definitions.{hyphened}
 use Rattle.langtag_cldr.specs.Definitions.{or_else}
-use Rattle.langtag_posix.specs.Modifiers.{is_script_code}
+use Rattle.langtag_posix.specs.Modifiers.{is_empty, is_script_code}
+
+-- a part after its mark, or the empty text if the part is empty
+abbrev pub marked : ℕ → List ℕ → List ℕ
+marked mark [] = []
+marked mark (b ∷ text) = mark ∷ (b ∷ text)
 
 -- ---- Android: b+sr+Latn and zh-rTW
 
@@ -46,6 +52,31 @@ region_now language region = if are_alike (codes "sr") language && are_alike (co
 abbrev pub script_first : List ℕ → List ℕ → List ℕ → Option (List ℕ)
 script_first language region script = if is_region region && is_script_code script then Some (script ++ 45 ∷ region_now language region) else None
 
+-- ---- Java and ICU: _US, en__POSIX and zh_Hant__PINYIN, in which an empty field keeps its mark
+
+-- the variants behind an empty field
+abbrev pub behind_gap : List ℕ → Option (List ℕ)
+behind_gap [] = None
+behind_gap (b ∷ variants) = if is_hyphen b && is_variant (before_first is_hyphen variants) then Some variants else None
+
+-- the text behind a language, without the mark of an empty region: POSIX of -POSIX, and Hant-PINYIN of Hant--PINYIN
+abbrev pub without_gap : List ℕ → Option (List ℕ)
+without_gap behind =
+    or_else (behind_gap behind)
+    (if is_script (before_first is_hyphen behind) then option_map (λ variants. before_first is_hyphen behind ++ 45 ∷ variants) (behind_gap (after_first is_hyphen behind)) else None)
+
+-- the text behind an empty language, if there is some
+abbrev pub behind_nothing : List ℕ → List ℕ → Option (List ℕ)
+behind_nothing language behind = if is_empty language && not (is_empty behind) then Some behind else None
+
+-- a language, `und` for an empty one
+abbrev pub language_or_und : List ℕ → List ℕ
+language_or_und language = if is_empty language then codes "und" else language
+
+-- the text of a name with an empty field
+abbrev pub filled : List ℕ → List ℕ → Option (List ℕ)
+filled language behind = option_map (λ text. language_or_und language ++ 45 ∷ text) (or_else (without_gap behind) (behind_nothing language behind))
+
 -- ---- what a name is read as
 
 -- a language of two or three letters
@@ -61,9 +92,12 @@ platform_behind language behind =
 abbrev pub platform_text : List ℕ → List ℕ → Option (List ℕ)
 platform_text language behind = if is_short_language language then option_map (λ text. language ++ 45 ∷ text) (platform_behind language behind) else None
 
--- the tag for a text in a form of Android or .NET, or else the text as it stands
+-- the tag for a text in a form of Android or .NET or with an empty field, or else the text as it stands
 abbrev pub platform_read : List ℕ → List ℕ
-platform_read text = unwrap_or (platform_text (before_first is_hyphen text) (after_first is_hyphen text)) text
+platform_read text =
+    unwrap_or
+    (or_else (platform_text (before_first is_hyphen text) (after_first is_hyphen text)) (filled (before_first is_hyphen text) (after_first is_hyphen text)))
+    text
 
 -- the text that the language and the territory of a name are read as
 unfoldable pub read_place : List ℕ → List ℕ

@@ -1,15 +1,16 @@
 -- The tag for a locale name: language[_territory][.codeset][@modifier] (IEEE Std 1003.1, section 8.2), a name as Java and
--- Android print it, with a script after `_#`, or a name as in `PlatformNames`.
-use Rattle.std.specs.Prelude.{◌≡◌, ℕ, ◌+◌, ◌≤◌, ◌==◌, ◌&&◌, Bool, true, false, List, [], ◌∷◌, ◌++◌, length, Option, None, Some, codes, if◌then◌else◌}
-use Rattle.langtag_scan.specs.Prelude.{before_first, after_first, Bor}
-use Rattle.langtag_scan.specs.Grammar.{are_alike, is_script, Extension, Record, spell, IsTag}
+-- Android print it, with a script and extensions after `_#`, or a name as in `PlatformNames`. ICU's keywords stand after `@`.
+use Rattle.std.specs.Prelude.{◌≡◌, ℕ, ◌+◌, ◌≤◌, ◌==◌, ◌&&◌, Bool, true, false, List, [], ◌∷◌, ◌++◌, length, not, take, ◌||◌, Option, None, Some, codes, if◌then◌else◌}
+use Rattle.langtag_scan.specs.Prelude.{before_first, after_first, list_any, slice_split, Bor}
+use Rattle.langtag_scan.specs.Grammar.{are_alike, is_hyphen, is_script, Extension, Record, spell, IsTag}
 use Rattle.langtag.specs.Definitions.{with_script, with_variants, IsForm}
 use Rattle.langtag_range.specs.Definitions.{front_of, is_hash, locale_place}
 use Rattle.langtag_cldr.specs.Definitions.{or_else}
-use Rattle.langtag_posix.specs.Modifiers.{modifier_script, modifier_variant}
+use Rattle.langtag_posix.specs.KeywordNames.{are_keywords, keywords_text}
+use Rattle.langtag_posix.specs.Modifiers.{is_empty, modifier_script, modifier_variant}
 use Rattle.langtag_posix.specs.declared.posix_error.PosixError.{PosixError}
 use Rattle.langtag_posix.specs.declared.posix_error.PosixError.TheVariants.{NoTag, Memory}
-use Rattle.langtag_posix.specs.PlatformNames.{read_place}
+use Rattle.langtag_posix.specs.PlatformNames.{marked, read_place}
 
 -- ---- the parts of a name
 
@@ -19,14 +20,58 @@ is_at b = b == 64
 abbrev pub is_underscore : ℕ → Bool
 is_underscore b = b == 95
 
--- the script after `#`; any other text after `#` is dropped
+-- the script after `#`
 abbrev pub script_behind : List ℕ → Option (List ℕ)
 script_behind front =
     if is_script (before_first is_underscore (after_first is_hash front)) then Some (before_first is_underscore (after_first is_hash front)) else None
 
+-- the extensions after `#`, or after a script and `_`: u-ca-roc of zh_TW_#Hant_u-ca-roc
+abbrev pub extensions_behind : List ℕ → List ℕ
+extensions_behind front =
+    if is_script (before_first is_underscore (after_first is_hash front)) then after_first is_underscore (after_first is_hash front) else after_first is_hash front
+
+-- the language and the territory; `und` if a name has neither, but a script or extensions: __#Latn
+abbrev pub place_of : List ℕ → List ℕ
+place_of name = if is_empty (locale_place name) && not (is_empty (after_first is_hash (front_of name))) then codes "und" else locale_place name
+
 -- the modifier: the text after the first `@`
 abbrev pub modifier_of : List ℕ → List ℕ
 modifier_of name = after_first is_at name
+
+-- ---- the text of a name: its language and territory, and its extensions
+
+-- whether the last field stands for the extension behind it, as Java has it: ja_JP_JP_#u-ca-japanese, th_TH_TH_#u-nu-thai
+abbrev pub is_java_place : List ℕ → List ℕ → Bool
+is_java_place place extensions =
+    (are_alike (codes "ja-JP-JP") place && are_alike (codes "u-ca-japanese") extensions) || (are_alike (codes "th-TH-TH") place && are_alike (codes "u-nu-thai") extensions)
+
+abbrev pub without_java_field : List ℕ → List ℕ → List ℕ
+without_java_field place extensions = if is_java_place place extensions then take 5 place else place
+
+-- the text that the language and the territory of a name are read as
+unfoldable pub place_read : List ℕ → List ℕ
+place_read name = without_java_field (read_place (place_of name)) (extensions_behind (front_of name))
+
+-- the text that a name is read as, but for the script and the variant that the name gives
+unfoldable pub text_of_name : List ℕ → List ℕ
+text_of_name name = (place_read name ++ marked 45 (extensions_behind (front_of name))) ++ keywords_text (modifier_of name)
+
+abbrev pub is_single : List ℕ → Bool
+is_single subtag = length subtag == 1
+
+-- whether a text begins with a subtag of one byte, as extensions and private use do
+abbrev pub begins_extension : List ℕ → Bool
+begins_extension text = is_single (before_first is_hyphen text)
+
+-- whether a text has a subtag of one byte, which begins an extension or private use
+abbrev pub has_extension : List ℕ → Bool
+has_extension text = list_any is_single (slice_split is_hyphen text)
+
+-- whether extensions or keywords may follow a place: it has no extension and no private use, a singleton begins the
+-- extensions, and a name has not both
+abbrev pub may_follow : List ℕ → List ℕ → Bool → Bool
+may_follow place extensions keywords =
+    (is_empty extensions && not keywords) || (not (has_extension place) && (is_empty extensions || (begins_extension extensions && not keywords)))
 
 -- ---- the variant POSIX
 
@@ -73,20 +118,19 @@ with_said_variant (Some variant) r = with_variants r (variant ∷ [])
 abbrev pub with_said : List ℕ → Record → Record
 with_said name r = with_said_variant (modifier_variant (modifier_of name)) (with_said_script (said_script name) (posix_replaced r))
 
--- a language and a territory are read as a tag other than `POSIX`, and are not too long; `C` and the empty text are not
--- tags
-pub record IsLocalePlace (place : List ℕ) : Type 0 where
-  pub tag : IsTag (read_place place)
-  pub other : are_alike (read_place place) (codes "POSIX") ≡ false
-  pub short : length place ≤ 255
+-- a name has a tag: its language and territory, which are not `POSIX`, and its extensions are read as a tag and are not too
+-- long. `C` and the empty text are not tags
+pub record NamesTag (name : List ℕ) : Type 0 where
+  pub tag : IsTag (text_of_name name)
+  pub other : are_alike (place_read name) (codes "POSIX") ≡ false
+  pub follows : may_follow (place_read name) (extensions_behind (front_of name)) (are_keywords (modifier_of name)) ≡ true
+  pub short : length (place_of name) ≤ 255
+  pub few : length (text_of_name name) ≤ 260
 
--- `IsLocalePlace` holds for the language and the territory of the name
-abbrev pub NamesTag : List ℕ → Type 0
-NamesTag name = IsLocalePlace (locale_place name)
-
--- the tag of a name: its language and territory as a tag, with the script and the variant that the name gives
+-- the tag of a name: its language and territory with its extensions, as a tag, with the script and the variant that the name
+-- gives
 abbrev pub IsTagOfName : List ℕ → List ℕ → Type 0
-IsTagOfName name tag = IsForm (with_said name) (read_place (locale_place name)) tag
+IsTagOfName name tag = IsForm (with_said name) (text_of_name name) tag
 
 -- the error: the name has no tag, and the error contains the name; or allocation failed
 abbrev pub IsRefusal : Bor (List ℕ) → PosixError → Type 0

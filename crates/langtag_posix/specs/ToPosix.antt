@@ -1,13 +1,14 @@
 -- The POSIX locale name of a tag (IEEE Std 1003.1, section 8.2), language[_territory][@modifier], which `Posix` reads as
 -- the tag. A name has a variant only for the keyword `va-posix`: en_US_POSIX.
-use Rattle.std.specs.Prelude.{◌≡◌, ℕ, Bool, false, not, ◌&&◌, ◌⊎◌, ◌++◌, List, [], ◌∷◌, IsTrue, Option, None, Some, codes, drop, length, nat_le, unwrap_or, option_map, option_and_then, if◌then◌else◌}
+use Rattle.std.specs.Prelude.{◌≡◌, ℕ, Bool, false, not, ◌&&◌, ◌⊎◌, ◌++◌, List, [], IsTrue, Option, None, Some, codes, drop, length, nat_le, unwrap_or, option_map, option_and_then, if◌then◌else◌}
 use Rattle.langtag_scan.specs.Prelude.{option_map_or}
 use Rattle.langtag_scan.specs.Grammar.{Alike, are_alike, fold_text, ends_of, language_part, variants_part, EachRecord, Record, spell}
 use Rattle.langtag.specs.Definitions.{capital_text, with_script, PartOf}
-use Rattle.langtag_tables.specs.Fields.{Fields}
+use Rattle.langtag_text.specs.Fields.{Fields}
 use Rattle.langtag_cldr.specs.Definitions.{language_alone, or_else, without_script, add_likely_subtags}
 use Rattle.langtag_likely.specs.Maximal.{fields_of}
 use Rattle.langtag_posix.specs.Modifiers.{is_empty, modifier_for}
+use Rattle.langtag_posix.specs.PlatformNames.{marked}
 use Rattle.langtag_posix.specs.Posix.{IsTagOfName, NamesTag}
 
 -- ---- the parts of a name
@@ -24,7 +25,7 @@ abbrev pub is_named : List ℕ → Bool
 is_named language = nat_le (length language) 3 && not (are_alike (codes "und") language)
 
 -- the variant for the text after the variants of a tag, which are its extensions and its private use part: `POSIX` for
--- the keyword `va-posix` alone. A name cannot say any other extension
+-- the keyword `va-posix` alone. A POSIX name has no other extension
 abbrev pub name_variant : List ℕ → Option (List ℕ)
 name_variant text = if is_empty text then Some [] else if are_alike (codes "-u-va-posix") text then Some (codes "POSIX") else None
 
@@ -55,11 +56,6 @@ name_parts r =
     else None
 
 -- ---- the name
-
--- a part after its mark, or the empty text if the part is empty
-abbrev pub marked : ℕ → List ℕ → List ℕ
-marked mark [] = []
-marked mark (b ∷ text) = mark ∷ (b ∷ text)
 
 -- the language in lowercase, the territory in uppercase and the variant, with `_` between them, and the modifier after
 -- `@`

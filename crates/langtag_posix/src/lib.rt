@@ -1,5 +1,5 @@
 //! The tags for the names of POSIX locales (IEEE Std 1003.1, section 8.2), and the names for tags. The names as Java,
-//! Android and .NET write them are read, too.
+//! Android, .NET, ICU and Apple's systems write them are read, too.
 //!
 //! ```
 //! use langtag::LangTag;
@@ -10,6 +10,7 @@
 //! ```
 #![tactic(auto)]
 
+mod keyword_names;
 mod locale_name;
 mod modifiers;
 mod platform_names;
@@ -17,6 +18,7 @@ mod posix;
 mod posix_error;
 mod posix_name;
 mod posix_parts;
+mod posix_text;
 mod posix_variant;
 
 pub use locale_name::{to_posix, write_to_posix};

@@ -6,6 +6,7 @@ ghost use Rattle.langtag_posix.specs.Modifiers as spec;
 ghost use Rattle.langtag_posix.specs.Posix.{modifier_of};
 ghost use Rattle.langtag_cldr.specs.Definitions.{script_codes};
 
+use crate::keyword_names::are_keywords;
 use langtag::case_insensitive_eq;
 use langtag_cldr::script_codes;
 use langtag_place::Script;
@@ -13,10 +14,10 @@ use langtag_range::split_at_byte;
 use langtag_scan::is_script;
 
 /// Returns the modifier of a locale name if [`write_from_posix`] and `from_posix` drop it because they do not know
-/// it: `b"foo"` for `de_DE@foo`.
+/// it: `b"foo"` for `de_DE@foo`, and `b"x=y"` for `de_DE@x=y`.
 ///
-/// Returns `None` if there is no modifier, if the modifier names a script or a variant, or if it is not about the
-/// language, such as `euro`.
+/// Returns `None` if there is no modifier, if the modifier names a script or a variant, if it consists of keywords that
+/// are read, or if it is not about the language, such as `euro`.
 ///
 /// ```
 /// use langtag_posix::unknown_modifier;
@@ -46,6 +47,7 @@ fn is_known(modifier: &[u8]) -> bool
         || modifier_script(modifier).is_some()
         || modifier_variant(modifier).is_some()
         || says_nothing(modifier)
+        || are_keywords(modifier)
 }
 
 /// Returns the script that a modifier names.

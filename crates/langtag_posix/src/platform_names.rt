@@ -1,21 +1,22 @@
-//! The language and the territory of a locale name, as Android and .NET write them.
-ghost use Rattle.std.specs.Prelude.{◌≡◌, ◌≤◌, ◌∷◌, ◌++◌, IfSome, length, option_map};
-ghost use Rattle.langtag_posix.specs.PlatformNames.{hyphened_at, android_region, chinese_script, is_short_language, platform_behind, platform_read, read_place, region_now};
-ghost use Rattle.langtag_posix.specs.ToPosix.{marked};
+//! The language and the territory of a locale name, as Android and .NET write them, or with an empty field.
+ghost use Rattle.std.specs.Prelude.{◌≡◌, ◌+◌, ◌≤◌, ◌∷◌, ◌++◌, IfSome, length, option_map};
+ghost use Rattle.langtag_scan.specs.Prelude.{before_first};
+ghost use Rattle.langtag_scan.specs.Grammar.{is_hyphen, is_variant};
+ghost use Rattle.langtag_posix.specs.PlatformNames.{hyphened_at, android_region, behind_gap, chinese_script, filled, is_short_language, language_or_und, marked, platform_behind, platform_read, platform_text, read_place, region_now, without_gap};
 
 use crate::modifiers::is_script_code;
-use langtag_output::write_pieces;
 use langtag_range::split_at_byte;
-use langtag_scan::{case_insensitive_eq, is_primary, is_region};
+use langtag_scan::{case_insensitive_eq, is_primary, is_region, is_script, is_variant};
+use langtag_text::write_pieces;
 
 /// The greatest length of a language and a territory, in bytes.
 pub(crate) const MOST: usize = 255;
 
-/// The greatest length of the tag for a name in a form of Android or .NET, in bytes: a language, a script and a region.
-pub(crate) const MOST_READ: usize = 12;
+/// The greatest length of the string that they are read as, in bytes: `und` may come before them.
+pub(crate) const MOST_READ: usize = 260;
 
 /// Returns the string that a language and a territory are read as, written into `room` or `short`: `zh-TW` for `zh_TW`,
-/// and for `zh-rTW` and `b+zh+TW`.
+/// and for `zh-rTW` and `b+zh+TW`, and `und-TW` for `_TW`.
 #[tactic(auto, unfolding(crate::specs::PlatformNames::read_place))]
 pub(crate) fn read_place<'a>(
     place: &[u8],
@@ -24,7 +25,7 @@ pub(crate) fn read_place<'a>(
 ) -> &'a [u8]
     requires { length place.now ≤ 255 }
     ensures text { result.now ≡ read_place place.now }
-    ensures few { length result.now ≤ 255 }
+    ensures few { length result.now ≤ 260 }
 {
     let (front, tag) = split_at_byte(place, b'+');
     if case_insensitive_eq(b"b", front) {
@@ -55,18 +56,18 @@ fn hyphenate(bytes: &mut [u8], mark: u8)
     }
 }
 
-/// Returns the tag for a string in a form of Android or .NET, or else the string as it stands.
+/// Returns the tag for a string in a form of Android or .NET or with an empty field, or else the string as it stands.
 fn platform_read<'a>(text: &'a [u8], short: &'a mut [u8; MOST_READ]) -> &'a [u8]
     requires { length text.now ≤ 255 }
     ensures text { result.now ≡ platform_read text.entry.now }
-    ensures few { length result.now ≤ 255 }
+    ensures few { length result.now ≤ 260 }
 {
     let (language, behind) = split_at_byte(text, b'-');
-    if !is_short_language(language) {
-        return text;
+    if let Some((first, second)) = platform_text(language, behind) {
+        return written(language, first, second, short);
     }
-    match platform_behind(language, behind) {
-        Some((first, second)) => written(language, first, second, short),
+    match filled_behind(language, behind) {
+        Some((first, second)) => written(language_or_und(language), first, second, short),
         None => text,
     }
 }
@@ -78,11 +79,9 @@ fn written<'t, 'r>(
     second: &'t [u8],
     room: &'r mut [u8; MOST_READ],
 ) -> &'r [u8]
-    requires language { length language.now ≤ 3 }
-    requires first { length first.now ≤ 4 }
-    requires second { length second.now ≤ 3 }
+    requires { length language.now + (length first.now + length second.now) ≤ 258 }
     ensures text { result.now ≡ language.now ++ (45 ∷ first.now ++ marked 45 second.now) }
-    ensures few { length result.now ≤ 12 }
+    ensures few { length result.now ≤ 260 }
 {
     let pieces: [&[u8]; 5] = [language, b"-", first, b"-", second];
     let used = if second.is_empty() { 3 } else { 5 };
@@ -95,6 +94,18 @@ fn is_short_language(language: &[u8]) -> bool
     ensures { result ≡ is_short_language language.now }
 {
     is_primary(language) && language.len() <= 3
+}
+
+/// Returns what [`platform_behind`] does, after a language of two or three letters.
+fn platform_text<'a>(language: &[u8], behind: &'a [u8]) -> Option<(&'a [u8], &'a [u8])>
+    ensures read { option_map (λ pair. language.now ++ (45 ∷ pair.0.now ++ marked 45 pair.1.now)) result ≡ platform_text language.now behind.now }
+    ensures few { IfSome result (λ pair. length language.now + (length pair.0.now + length pair.1.now) ≤ 10) }
+{
+    if is_short_language(language) {
+        platform_behind(language, behind)
+    } else {
+        None
+    }
 }
 
 /// Returns the one or two subtags that are read for the string after a language, if the string has a form of Android
@@ -157,4 +168,68 @@ fn region_now<'a>(language: &[u8], region: &'a [u8]) -> &'a [u8]
         return b"RS";
     }
     region
+}
+
+/// Returns the string behind a language in a name with an empty field, in one or two parts: `POSIX` for `-POSIX`, and `Hant`
+/// and `PINYIN` for `Hant--PINYIN`. If the language is empty, any string behind it is returned.
+fn filled_behind<'a>(language: &[u8], behind: &'a [u8]) -> Option<(&'a [u8], &'a [u8])>
+    ensures read { option_map (λ pair. language_or_und language.now ++ (45 ∷ pair.0.now ++ marked 45 pair.1.now)) result ≡ filled language.now behind.now }
+    ensures few { IfSome result (λ pair. length pair.0.now + length pair.1.now ≤ length behind.now) }
+{
+    if let Some(found) = without_gap(behind) {
+        return Some(found);
+    }
+    if language.is_empty() && !behind.is_empty() {
+        Some((behind, b""))
+    } else {
+        None
+    }
+}
+
+/// Returns the string behind a language without the mark of an empty region, in one or two parts.
+fn without_gap(behind: &[u8]) -> Option<(&[u8], &[u8])>
+    ensures read { option_map (λ pair. pair.0.now ++ marked 45 pair.1.now) result ≡ without_gap behind.now }
+    ensures few { IfSome result (λ pair. length pair.0.now + length pair.1.now ≤ length behind.now) }
+{
+    if let Some(variants) = behind_gap(behind) {
+        return Some((variants, b""));
+    }
+    let (script, others) = split_at_byte(behind, b'-');
+    if !is_script(script) {
+        return None;
+    }
+    let variants = behind_gap(others)?;
+    Some((script, variants))
+}
+
+/// Returns the variants behind an empty field.
+#[tactic(auto, using(crate::proofs::PosixNameLaws::begins_some))]
+fn behind_gap(behind: &[u8]) -> Option<&[u8]>
+    ensures variants { option_map (λ variants. variants.now) result ≡ behind_gap behind.now }
+    ensures few { IfSome result (λ variants. length variants.now + 1 ≡ length behind.now) }
+    ensures some { IfSome result (λ variants. 1 ≤ length variants.now) }
+{
+    match behind {
+        [b'-', variants @ ..] if begins_variant(variants) => Some(variants),
+        _ => None,
+    }
+}
+
+fn begins_variant(text: &[u8]) -> bool
+    ensures { result ≡ is_variant (before_first is_hyphen text.now) }
+{
+    let (first, _) = split_at_byte(text, b'-');
+    is_variant(first)
+}
+
+/// Returns a language, or `und` for an empty one.
+fn language_or_und(language: &[u8]) -> &[u8]
+    ensures language { result.now ≡ language_or_und language.now }
+    ensures few { length result.now ≤ length language.now + 3 }
+{
+    if language.is_empty() {
+        b"und"
+    } else {
+        language
+    }
 }

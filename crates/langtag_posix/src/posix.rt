@@ -2,21 +2,19 @@
 ghost use Rattle.std.specs.Prelude.{◌≡◌, ◌+◌, ◌≤◌, ℕ, IsTrue, List, None, Some, IfOk, IfErr, IfSome, MatchOption, length, option_map};
 ghost use Rattle.langtag_scan.specs.Grammar.{is_variant};
 ghost use Rattle.langtag.specs.Definitions.{SetsPart, SetsVariants, IsVariants, script_text, lang_tag_text, lang_tag_buf_text, Writes, IsForm};
-ghost use Rattle.langtag_range.specs.Definitions.{front_of};
-ghost use Rattle.langtag_posix.specs.PlatformNames.{read_place};
-ghost use Rattle.langtag_posix.specs.Posix.{IsLocalePlace, IsRefusal, IsTagOfName, NamesTag, modifier_of, script_behind, with_said_script, with_said_variant};
+ghost use Rattle.langtag_posix.specs.Posix.{IsRefusal, IsTagOfName, NamesTag, script_behind, with_said_script, with_said_variant};
 
 use crate::modifiers::{modifier_script, modifier_variant, script_of};
-use crate::platform_names::{MOST, MOST_READ, read_place};
 use crate::posix_error::PosixError;
+use crate::posix_text::{MOST_NAMED, front_and_modifier, tag_of_name};
 use crate::posix_variant::{MOST_WITH_KEYWORD, tag_with_keyword};
 use langtag::{LangTag, LangTagBuf, Part, tag_of, write_part};
-use langtag_output::write_text;
 use langtag_place::{Script, Variants};
-use langtag_range::{locale_place, split_at_byte, split_at_either};
+use langtag_range::split_at_byte;
+use langtag_text::write_text;
 use std::alloc::{AllocError, Global};
 
-/// The greatest length of a language and a territory with the keyword `va-posix` and a script, in bytes.
+/// The greatest length of the tag for a name with the keyword `va-posix` and a script, in bytes.
 const MOST_WITH_SCRIPT: usize = MOST_WITH_KEYWORD + 5;
 
 /// Returns the tag for a POSIX locale name (IEEE Std 1003.1, section 8.2),
@@ -28,11 +26,18 @@ const MOST_WITH_SCRIPT: usize = MOST_WITH_KEYWORD + 5;
 /// - `latin`, `cyrillic`, `devanagari`, `iqtelif`, and the code of a script, such as `Cyrl` and `shaw`;
 /// - `valencia`, `tarask`, `ijekavian`, and `ijekavianlatin`, which names both a script and a variant.
 ///
-/// Other modifiers are dropped, such as `euro`; [`unknown_modifier`] returns a modifier whose meaning is not known.
+/// A modifier may also consist of keywords, `key=type` with semicolons between them, as ICU and Apple's systems write
+/// them: `en-US-u-ca-buddhist` for `en_US@calendar=buddhist`. Their keys and types have ICU's names, such as `collation`
+/// and `phonebook`, or those of CLDR, such as `co` and `phonebk`. They keep their order.
+///
+/// Other modifiers are dropped, such as `euro`; [`unknown_modifier`] returns a modifier whose meaning is not known. If one
+/// keyword cannot be read, such as `timezone=America/New_York`, that is all of the modifier.
 ///
 /// These names are read, too, ignoring case:
 ///
-/// - a script after `_#`, as Java and Android print it: `zh-Hant-TW` for `zh_TW_#Hant`;
+/// - a script and extensions after `_#`, as Java and Android print them: `zh-Hant-TW` for `zh_TW_#Hant`, and
+///   `de-DE-u-co-phonebk` for `de_DE_#u-co-phonebk`;
+/// - an empty language or region, as in Java and ICU: `und-US` for `_US`, and `en-u-va-posix` for `en__POSIX`;
 /// - a region after `r`, or subtags after `b+`, as in Android's resource folders: `zh-TW` for `zh-rTW`, and `sr-Latn` for
 ///   `b+sr+Latn`;
 /// - a script after the region, as in .NET Framework: `az-Latn-AZ` for `az-AZ-Latn`, and `sr-Latn-RS` for `sr-SP-Latn`,
@@ -47,7 +52,9 @@ const MOST_WITH_SCRIPT: usize = MOST_WITH_KEYWORD + 5;
 /// # Errors
 ///
 /// Returns `NoTag` with the name if its language and territory are not a tag, as in `C`, `en_` and the empty string.
-/// `NoTag` is also returned for `POSIX`, ignoring case, and for a language and territory of more than 255 bytes.
+/// `NoTag` is also returned for `POSIX`, ignoring case, if extensions or keywords come after an extension or private
+/// use, and if other text than a script and extensions comes after `#`. A language and territory of more than 255 bytes
+/// have no tag, and no tag is made if they have more than 260 bytes with extensions and keywords.
 /// Returns `Memory` if allocation fails.
 ///
 /// ```
@@ -55,6 +62,7 @@ const MOST_WITH_SCRIPT: usize = MOST_WITH_KEYWORD + 5;
 ///
 /// from_posix(alloc, "sr_RS@latin")?.as_str(); // "sr-Latn-RS"
 /// from_posix(alloc, "zh-rTW")?.as_str(); // "zh-TW"
+/// from_posix(alloc, "de_DE@collation=phonebook")?.as_str(); // "de-DE-u-co-phonebk"
 /// from_posix(alloc, "C").is_err(); // true
 /// ```
 pub fn from_posix(alloc: Global, name: &str) -> Result<LangTagBuf, PosixError<'_>>
@@ -99,8 +107,8 @@ pub fn write_from_posix(name: &[u8], buffer: &mut [u8]) -> Option<usize>
         (λ len. NamesTag name.now × Writes (IsTagOfName name.now) buffer.old buffer.new len) }
     ensures nothing { result ≡ None → buffer.new ≡ buffer.old }
 {
-    let (mut room, mut short) = ([0; MOST], [0; MOST_READ]);
-    let tag = tag_of_place(locale_place(name), &mut room, &mut short)?;
+    let mut room = [0; MOST_NAMED];
+    let tag = tag_of_name(name, &mut room)?;
     let (front, modifier) = front_and_modifier(name);
     let script = script_behind(front);
     let mut longer = [0; MOST_WITH_KEYWORD];
@@ -108,16 +116,6 @@ pub fn write_from_posix(name: &[u8], buffer: &mut [u8]) -> Option<usize>
     let mut longest = [0; MOST_WITH_SCRIPT];
     let tag = tag_with_script(tag, modifier_script(modifier).or(script), &mut longest);
     Some(write_with_variant(tag, modifier_variant(modifier), buffer))
-}
-
-/// Returns the string before the codeset and the modifier, and the modifier.
-fn front_and_modifier(name: &[u8]) -> (&[u8], &[u8])
-    ensures front { result.0.now ≡ front_of name.now }
-    ensures modifier { result.1.now ≡ modifier_of name.now }
-{
-    let (front, _codeset) = split_at_either(name, b'.', b'@');
-    let (_, modifier) = split_at_byte(name, b'@');
-    (front, modifier)
 }
 
 /// Returns the script after `#`.
@@ -129,33 +127,13 @@ fn script_behind(front: &[u8]) -> Option<Script<'_>>
     script_of(script)
 }
 
-/// Returns the tag that a language and a territory are read as, written into `room` or `short`.
-fn tag_of_place<'a>(
-    place: &[u8],
-    room: &'a mut [u8; MOST],
-    short: &'a mut [u8; MOST_READ],
-) -> Option<LangTag<'a>>
-    ensures tag { MatchOption result (IsLocalePlace place.now → ⊥)
-        (λ tag. IsLocalePlace place.now × (lang_tag_text tag ≡ read_place place.now)) }
-    ensures few { IfSome result (λ tag. length (lang_tag_text tag) ≤ 255) }
-{
-    if place.len() > MOST {
-        return None;
-    }
-    let tag = LangTag::from_bytes(read_place(place, room, short)).ok()?;
-    if tag.eq_str("POSIX") {
-        return None;
-    }
-    Some(tag)
-}
-
 /// Writes a tag with a script into `room`, and returns it as a tag.
 fn tag_with_script<'a>(
     tag: LangTag<'a>,
     script: Option<Script<'_>>,
     room: &'a mut [u8; MOST_WITH_SCRIPT],
 ) -> LangTag<'a>
-    requires { length (lang_tag_text tag) ≤ 260 }
+    requires { length (lang_tag_text tag) ≤ 265 }
     ensures { IsForm (with_said_script (option_map script_text script.entry)) (lang_tag_text tag.entry) (lang_tag_text result) }
 {
     let Some(script) = script else { return tag };
@@ -170,7 +148,7 @@ fn tag_with_script<'a>(
 }
 
 /// Writes a tag with its variants replaced by the given variant.
-#[tactic(auto, using(langtag_output::proofs::FormLaws::kept_written, crate::proofs::PosixLaws::is_variants))]
+#[tactic(auto, using(langtag::proofs::FormLaws::kept_written, crate::proofs::PosixLaws::is_variants))]
 fn write_with_variant(tag: LangTag<'_>, variant: Option<&'static str>, buffer: &mut [u8]) -> usize
     requires { IfSome variant (λ variant. IsTrue (is_variant variant.now)) }
     ensures { Writes (IsForm (with_said_variant (option_map (λ variant. variant.now) variant.entry)) (lang_tag_text tag.entry)) buffer.old buffer.new result }

@@ -6,7 +6,7 @@ ghost use Rattle.langtag_posix.specs.Modifiers.{is_empty};
 
 use crate::posix_parts::{modifier_of_tag, named_language, region_text, variant_of_tag};
 use langtag::NormalLangTag;
-use langtag_output::write_pieces;
+use langtag_text::write_pieces;
 
 /// The parts of a POSIX locale name, `language[_territory][_variant][@modifier]`. Each is empty if it is absent.
 #[derive(Clone, Copy)]

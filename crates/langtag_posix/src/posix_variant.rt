@@ -5,10 +5,11 @@ ghost use Rattle.langtag.specs.Definitions.{IsForm, lang_tag_text, normal_lang_t
 ghost use Rattle.langtag_posix.specs.Posix.{IsAroundPosix, posix_replaced};
 
 use langtag::{LangTag, NormalLangTag};
-use langtag_output::write_pieces;
+use langtag_text::write_pieces;
 
-/// The greatest length of a language and a territory with the keyword, in bytes: `-u-va-posix` has five more than `-POSIX`.
-pub(crate) const MOST_WITH_KEYWORD: usize = 260;
+/// The greatest length of the string that a name is read as, with the keyword, in bytes: `-u-va-posix` has five more
+/// than `-POSIX`.
+pub(crate) const MOST_WITH_KEYWORD: usize = 265;
 
 /// Writes a tag whose only variant is `POSIX` into `room`, with the keyword `va-posix` instead, and returns it. Any other
 /// tag, and a tag with extensions, stays.
@@ -16,9 +17,9 @@ pub(crate) fn tag_with_keyword<'a>(
     tag: LangTag<'a>,
     room: &'a mut [u8; MOST_WITH_KEYWORD],
 ) -> LangTag<'a>
-    requires { length (lang_tag_text tag) ≤ 255 }
+    requires { length (lang_tag_text tag) ≤ 260 }
     ensures form { IsForm posix_replaced (lang_tag_text tag.entry) (lang_tag_text result) }
-    ensures few { length (lang_tag_text result) ≤ 260 }
+    ensures few { length (lang_tag_text result) ≤ 265 }
 {
     let Some(normal) = tag.as_normal() else {
         return tag;

@@ -1,7 +1,7 @@
 -- The rule and its test say the same: one private list spells a text, and it is what stands between the hyphens.
 use Rattle.langtag_scan.proofs.Prelude.{◌≡◌, ◌↔◌, ℕ, true, Bool, IsTrue, List, [], ◌∷◌, drop, map, ◌&&◌, refl, sym, ap, ◌∙◌, arith, and_parts, common_steps}
 use Rattle.langtag_scan.specs.Grammar.{fold_text, are_alike, is_mark, is_private_subtag, PrivateUse, IsWellFormedPrivateUse, private_use_flat, join, subtags, IsPrivate}
-use Rattle.langtag_scan.proofs.TextLaws.{each_test-fold, alike_subtags_test, classes-fold, is_mark-fold, of_one, of_private_subtag, mark_alphanumeric, each_from_test, test_from_each, each_subtag, subtags-joined, join-subtags, length-after_first}
+use Rattle.langtag_scan.proofs.Laws.{each_test-fold, alike_subtags_test, classes-fold, is_mark-fold, of_one, of_private_subtag, mark_alphanumeric, each_from_test, test_from_each, each_subtag, subtags-joined, join-subtags, length-after_first}
 use Rattle.langtag_private.specs.PrivateUse.{EachPrivateUseSpelling}
 use Rattle.langtag_private.specs.Decided.{are_private, is_mark_alone, are_private_use, is_private_use_text}
 

@@ -2,7 +2,7 @@
 use Rattle.langtag_scan.proofs.Prelude.{◌≡◌, Bool, true, ℕ, List, [], ◌∷◌, refl, arith, ◌∙◌, ◌<◌, false, eqb, ◌||◌, ◌≤◌, not, ◌++◌, length, inl, inr, list_all, before_first, list_any, AllByRecursion, and_parts, or_cases, or_right, bytes_eq-Decides, common_steps, nat_tests, IsUtf8-from_ascii, All-from_recursion, filter, IsAscii, IsUtf8}
 use Rattle.langtag_scan.specs.Grammar.{subtags, segments, IsHyphenFree, join, is_letter, is_digit, is_alphanumeric, is_private_subtag, has_length, are_alphanumeric, Alike, fold_text}
 use Rattle.langtag_range.specs.Definitions.{is_star, is_language_range, are_basic_range, is_basic_range, is_range_subtag, are_extended_range, is_first_subtag, are_basic_subtags, are_range_subtags, ends_locale, is_hash, locale_place, hyphened, hyphened_byte, basic_text, basic_form, begins_with_wildcard}
-use Rattle.langtag_scan.proofs.TextLaws.{IsAscii-each, hyphenated, join-hyphenated, length-join, no_hyphen_each, of_private_subtag, join-subtags, segments-join, subtags-segments}
+use Rattle.langtag_scan.proofs.Laws.{IsAscii-each, hyphenated, join-hyphenated, length-join, no_hyphen_each, of_private_subtag, join-subtags, segments-join, subtags-segments}
 use Rattle.langtag_range.proofs.WantedTexts.{extended_parts, first_in_range}
 use Rattle.langtag_range.proofs.AlikeTexts.{hyphened-fold, mark-fold}
 use Rattle.langtag_range.proofs.Among.{basic_form-byte}
@@ -16,7 +16,7 @@ pub ruleset basic_ranges = (is_language_range-from_basic)
 -- ---- the bytes of a language range are letters, digits, "*" and "-". So it is ASCII, bytes that are not UTF-8 are not a range, and
 -- no "_" is in it.
 
-abbrev is_range_byte : ℕ → Bool
+abbrev pub is_range_byte : ℕ → Bool
 is_range_byte b = is_alphanumeric b || (eqb b 42 || eqb b 45)
 
 range_byte : (b : ℕ) → is_alphanumeric b ≡ true → is_range_byte b ≡ true
@@ -30,7 +30,7 @@ segment_bytes : (text : List ℕ) → list_all (list_all is_range_byte) (segment
 segment_bytes [] all = refl
 segment_bytes (b ∷ text) all = grind (arith, common_steps, and_parts, segment_bytes text)
 
-range_bytes : (text : List ℕ) → is_language_range text ≡ true → list_all is_range_byte text ≡ true
+pub range_bytes : (text : List ℕ) → is_language_range text ≡ true → list_all is_range_byte text ≡ true
 range_bytes text is =
     grind (arith, nat_tests, segment_bytes, extended_parts, and_parts, list_all-weaker is_range_subtag (list_all is_range_byte) subtag_bytes, subtag_bytes)
 
@@ -75,12 +75,12 @@ no_hash : (b : ℕ) → is_range_byte (hyphened_byte b) ≡ true → is_hash b �
 unfolding is_letter is_digit
 no_hash b is = grind (arith, nat_tests)
 
-none_in :
+pub none_in :
     (p : ℕ → Bool) → ((b : ℕ) → is_range_byte (hyphened_byte b) ≡ true → p b ≡ false) → (text : List ℕ) → list_all is_range_byte (hyphened text) ≡ true → list_any p text ≡ false
 none_in p none [] all = refl
 none_in p none (b ∷ text) all = grind (arith, common_steps, and_parts, none_in p none text)
 
-whole_before : (p : ℕ → Bool) (text : List ℕ) → list_any p text ≡ false → before_first p text ≡ text
+pub whole_before : (p : ℕ → Bool) (text : List ℕ) → list_any p text ≡ false → before_first p text ≡ text
 whole_before p [] none = refl
 whole_before p (b ∷ text) none = grind (arith, common_steps, whole_before p text)
 

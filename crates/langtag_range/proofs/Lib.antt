@@ -1,4 +1,5 @@
 pub mod Places
+pub mod PlainElements
 pub mod BasicForms
 pub mod AlikeTexts
 pub mod WantedTexts

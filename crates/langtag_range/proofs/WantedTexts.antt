@@ -1,7 +1,7 @@
 -- Ranges in which "_" is read as "-", white space around them, their weights, and the parts of a list that is cut one after the other.
 use Rattle.langtag_scan.proofs.Prelude.{◌≡◌, ℕ, ◌+◌, ◌-◌, ◌<◌, ◌≤◌, true, false, IsTrue, List, [], ◌∷◌, length, take, drop, reverse, get_or, refl, ap, sym, ◌∙◌, arith, ◌*◌, ◌⊎◌, not, cond, Bool, ◌&&◌, ◌||◌, Some, None, rules, take_more, drop_more, drop_all, reverse-append, length-take-le, take_all, list_all-append, common_steps, and_parts, or_cases, leb-true, cases_lt, or_right, list_any, slice_split, before_first, after_first, position, position_or_len, cons_option, nat_tests, eqb_tells, length-slice_split, slice_split_first, slice_split_none, count_by-le-length, prefix_len-le-length, fails_before_first, length-drop}
 use Rattle.std.proofs.lemmas.List.{reverse-reverse}
-use Rattle.langtag_range.specs.Definitions.{from_first, is_ows, is_space, items, is_comma, is_semicolon, trimmed, is_hash, is_star, is_first_subtag, is_range_subtag, are_basic_range, are_basic_subtags, are_extended_range, are_range_subtags, is_basic_range, is_language_range, hyphened, is_separator, is_q_name, is_q_parameter, is_equals, is_point, number_weight, value_weight, wanted_weight, wanted, digits_behind, wanted_items, wanted_elements}
+use Rattle.langtag_range.specs.Definitions.{from_first, is_ows, is_space, items, is_comma, is_semicolon, trimmed, is_hash, is_star, is_first_subtag, is_range_subtag, are_basic_range, are_extended_range, are_range_subtags, is_basic_range, is_language_range, hyphened, is_separator, is_q_name, is_q_parameter, is_equals, is_point, number_weight, value_weight, wanted_weight, wanted, digits_behind, wanted_items, wanted_elements}
 use Rattle.langtag_range.specs.Weight.{is_qvalue, thousandths}
 use Rattle.langtag_scan.specs.Grammar.{has_length, are_digits, are_letters, is_private_subtag, segments, subtags}
 use Rattle.langtag_scan.proofs.SubtagFacts.{letters_alphanumeric}
@@ -76,9 +76,6 @@ first_private text is = grind (arith, common_steps, and_parts (has_length 1 8 te
 pub first_in_range : (text : List ℕ) → (is_star text || is_first_subtag text) ≡ true → is_range_subtag text ≡ true
 first_in_range text is = grind (arith, common_steps, or_cases, or_right, first_private)
 
-basic_parts : (first : List ℕ) (others : List (List ℕ)) → are_basic_range (first ∷ others) ≡ (is_first_subtag first && are_basic_subtags (first ∷ others))
-basic_parts first others = grind (arith, common_steps, first_private first)
-
 pub extended_parts :
     (first : List ℕ) (others : List (List ℕ)) →
     are_extended_range (first ∷ others) ≡ ((is_star first || is_first_subtag first) && are_range_subtags (first ∷ others))
@@ -90,10 +87,8 @@ seen_parts :
     (text : List ℕ) → f (subtags (hyphened text)) ≡ g (before_first is_separator text) (slice_split is_separator text)
 seen_parts f g none each text = grind (arith, common_steps, segments-read text, cut_or_whole is_separator text)
 
-pub basic_read :
-    (text : List ℕ) →
-    is_basic_range (hyphened text) ≡ (is_star text || (is_first_subtag (before_first is_separator text) && are_basic_subtags (slice_split is_separator text)))
-basic_read text = rw (is_star-read text, seen_parts are_basic_range (λ first parts. is_first_subtag first && are_basic_subtags parts) refl basic_parts text) refl
+pub basic_read : (text : List ℕ) → is_basic_range (hyphened text) ≡ (is_star text || are_basic_range (slice_split is_separator text))
+basic_read text = rw (is_star-read text, seen_parts are_basic_range (λ first parts. are_basic_range parts) refl (λ first others. refl) text) refl
 
 pub extended_read :
     (text : List ℕ) →

@@ -34,8 +34,16 @@ pub fn len_before(text: &[u8], mark: u8) -> usize
     first_place(text, mark).unwrap_or(text.len())
 }
 
+/// Returns the number of bytes before the first `mark` or `other`, or of all bytes if there is none.
+#[tactic(auto, using(crate::proofs::Places::first_or_length))]
+pub(crate) fn len_before_either(text: &[u8], mark: u8, other: u8) -> usize
+    ensures { result ≤ length text.now }
+{
+    first_of_either(text, mark, other).unwrap_or(text.len())
+}
+
 /// Returns the index of the first `mark`, or `None` if there is none: `first_place(b"q=1", b'=')` is `Some(1)`.
-pub fn first_place(text: &[u8], mark: u8) -> Option<usize>
+pub(crate) fn first_place(text: &[u8], mark: u8) -> Option<usize>
     ensures { result ≡ position (λ b. b == mark) text.now }
 {
     text.iter().position(|byte| *byte == mark)

@@ -4,6 +4,7 @@ ghost use Rattle.langtag_scan.specs.Prelude.{YieldsFirstBy, item_count, option_m
 ghost use Rattle.langtag_range.specs.Range.{is_basic_range};
 ghost use Rattle.langtag_range.specs.Wanted as spec;
 
+use crate::plain_element::plain_element;
 use crate::split::split_at_byte;
 use crate::wanted_element::wanted_at;
 
@@ -99,6 +100,9 @@ pub fn split_wanted(header: &[u8]) -> Option<(WantedRange<'_>, &[u8])>
 {
     let mut left = header;
     while !left.is_empty() {
+        if let Some(found) = plain_element(left) {
+            return Some(found);
+        }
         let (item, rest) = split_at_byte(left, b',');
         if let Some(found) = wanted_at(item, rest) {
             return Some((found, rest));

@@ -1,17 +1,16 @@
 //! An element of a header, read leniently.
-ghost use Rattle.std.specs.Prelude.{◌≡◌, false, IfSome, IsTrue, MatchOption, option_map};
+ghost use Rattle.std.specs.Prelude.{◌≡◌, false, IfSome, IsTrue, MatchOption, if◌then◌else◌, option_map};
 ghost use Rattle.langtag_scan.specs.Prelude.{after_first, slice_split, list_all};
-ghost use Rattle.langtag_range.specs.Definitions.{is_semicolon, items, trimmed, are_basic_subtags, is_basic_range, is_star};
+ghost use Rattle.langtag_scan.specs.Grammar.{is_alphanumeric, is_letter};
+ghost use Rattle.langtag_range.specs.Definitions.{is_semicolon, items, trimmed, are_basic_range, is_basic_range, is_star};
 ghost use Rattle.langtag_range.specs.Locale as place;
 ghost use Rattle.langtag_range.specs.Wanted as spec;
 
 use crate::locale::locale_place;
-use crate::range_text::is_first_subtag;
-use crate::split::{first_place, split_at_byte, split_at_either};
+use crate::split::{first_place, split_at_byte};
 use crate::wanted::WantedRange;
 use crate::weight::{are_digits, digit_at};
 use crate::white_space::trimmed_place;
-use langtag_scan::is_private_subtag;
 
 /// Returns the range of an item of a header, with its weight. `behind` is what follows the comma after the item.
 #[tactic(auto, unfolding(crate::specs::Wanted::wanted))]
@@ -44,11 +43,10 @@ fn wanted_bytes(text: &[u8]) -> Option<&[u8]>
 
 /// Returns whether a string is a basic language range if `_` is read as `-`.
 #[tactic(auto, using(crate::proofs::WantedTexts::basic_read))]
-fn is_wanted_range(text: &[u8]) -> bool
+pub(crate) fn is_wanted_range(text: &[u8]) -> bool
     ensures { result ≡ is_basic_range (spec.hyphened text.now) }
 {
-    let (first, _) = split_at_either(text, b'-', b'_');
-    is_star(text) || (is_first_subtag(first) && are_wanted_subtags(text))
+    is_star(text) || are_wanted_subtags(text)
 }
 
 pub(crate) fn is_star(text: &[u8]) -> bool
@@ -57,12 +55,36 @@ pub(crate) fn is_star(text: &[u8]) -> bool
     matches!(text, [b'*'])
 }
 
-/// Returns whether each subtag is 1 to 8 letters or digits.
+/// Returns whether the first subtag is 1 to 8 letters, and each other subtag 1 to 8 letters or digits.
+#[tactic(auto, using(crate::proofs::PlainElements::reads_subtags))]
 fn are_wanted_subtags(text: &[u8]) -> bool
-    ensures { result ≡ are_basic_subtags (slice_split spec.is_separator text.now) }
+    ensures { result ≡ are_basic_range (slice_split spec.is_separator text.now) }
 {
-    text.split(|byte| is_separator(*byte))
-        .all(|subtag| is_private_subtag(subtag))
+    let mut is_first = true;
+    let mut len = 0usize;
+    for byte in text {
+        if len < 8 && is_in_subtag(*byte, is_first) {
+            len += 1;
+        } else if len > 0 && is_separator(*byte) {
+            is_first = false;
+            len = 0;
+        } else {
+            return false;
+        }
+    }
+    len > 0
+}
+
+/// Returns whether a byte may be in the first subtag, or in another subtag.
+#[tactic(auto, unfolding(langtag_scan::specs::Class::is_letter, langtag_scan::specs::Class::is_digit))]
+fn is_in_subtag(byte: u8, is_first: bool) -> bool
+    ensures { result ≡ (if is_first then is_letter byte else is_alphanumeric byte) }
+{
+    if is_first {
+        byte.is_ascii_alphabetic()
+    } else {
+        byte.is_ascii_alphanumeric()
+    }
 }
 
 /// Returns whether a byte separates subtags, if `_` is read as `-`.

@@ -6,6 +6,7 @@ pub use Rattle.langtag_fields.specs.Fields
 pub use Rattle.langtag_fields.specs.Registered
 pub use Rattle.langtag_fields.specs.Subtags
 pub use Rattle.langtag_fields.specs.Valid
+pub use Rattle.langtag_fields.specs.declared.tables
 pub use Rattle.langtag_validity.specs.Compared
 pub use Rattle.langtag_validity.specs.Fault
 pub use Rattle.langtag_validity.specs.Prefix

@@ -4,16 +4,21 @@ pub mod Disjoint
 mod Decoding
 pub mod CaseOrder
 pub mod SubtagFacts
+mod Running
 pub mod NormalTexts
-pub mod StageLaws
+mod StageLaws
 pub mod TagLaws
+mod StateTables
+mod PositionLaws
+mod ReadingLaws
 pub mod CaseLaw
 pub mod Ascii
 pub mod SubtagLists
 pub mod Joins
 pub mod PartOffsets
 pub mod SpelledTexts
+pub mod FoundLaws
 pub mod IrregularTexts
 pub mod Digits
 pub mod FoldedNumbers
-pub mod TextLaws
+pub mod Laws

@@ -6,7 +6,8 @@ use Rattle.langtag_scan.specs.Parts.{parts}
 use Rattle.langtag_scan.specs.declared.ends.Ends.{Ends}
 use Rattle.langtag_scan.proofs.Joins.{join-hyphenated, hyphenated-append, hyphenated-present, join-append, take-join, length-join, length-hyphenated, joined, joined-one, joined-private, text_between-join, text_between-lists, hyphenated}
 use Rattle.langtag_scan.proofs.Decoding.{decode_complete, Read, put, whole, decode, decode-cons, over_run, add, blocks, by_part, by_part-put}
-use Rattle.langtag_scan.proofs.StageLaws.{runs, ends_after, ends_after-cons, is_outside, next_inside, place, places, next_step}
+use Rattle.langtag_scan.proofs.Running.{ends_after-cons}
+use Rattle.langtag_scan.proofs.StageLaws.{runs, ends_after, is_outside, next_inside, place, places, next_step}
 
 -- the subtags from a part on
 abbrev from_extensions : Record → List (List ℕ)

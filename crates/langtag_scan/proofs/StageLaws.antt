@@ -1,5 +1,5 @@
 -- The stages of a normal tag: how they run over its subtags, which may come after another one, and which subtag leads there.
-use Rattle.langtag_scan.proofs.Prelude.{refl, option_map_or, ◌≡◌, ℕ, ◌+◌, ◌≤◌, Bool, true, false, cond, eqb, ltb, leb, ◌&&◌, List, Option, Some, None, sym, ap, ◌∙◌, arith, [], length, and_parts, nat_tests, common_steps, ◌∷◌}
+use Rattle.langtag_scan.proofs.Prelude.{option_map_or, ◌≡◌, ℕ, ◌+◌, ◌≤◌, Bool, true, false, cond, eqb, ltb, leb, ◌&&◌, List, Option, Some, None, sym, ap, ◌∙◌, arith, [], length, and_parts, nat_tests, common_steps, ◌∷◌}
 use Rattle.langtag_scan.specs.Grammar.{end_at, index_after, Stage, next_stage, may_end, Start, Language, Extended, AfterScript, AfterRegion, AfterVariant, AfterSingleton, InExtension, AfterMark, InPrivate, AfterFirstMark, InPrivateTag, Classes, classes_of, after_by, after_stage}
 use Rattle.langtag_scan.specs.Stage.{next_by}
 use Rattle.langtag_scan.specs.declared.ends.Ends.{Ends}
@@ -13,12 +13,6 @@ runs stage (s ∷ ss) = option_map_or (λ after. runs after ss) (next_stage stag
 unfoldable pub ends_after : Stage → Ends → List (List ℕ) → Ends
 ends_after stage e [] = e
 ends_after stage e (s ∷ ss) = option_map_or (λ after. ends_after after (end_at after (index_after stage e s) e) ss) (next_stage stage s) e
-
-pub ends_after-cons :
-    (stage : Stage) (e : Ends) (s : List ℕ) (ss : List (List ℕ)) →
-    ends_after stage e (s ∷ ss) ≡ option_map_or (λ after. ends_after after (end_at after (index_after stage e s) e) ss) (next_stage stage s) e
-unfolding ends_after
-ends_after-cons stage e s ss = refl
 
 -- ---- which stage may come after another one in a normal tag, and which subtag leads there
 

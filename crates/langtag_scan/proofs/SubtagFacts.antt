@@ -5,12 +5,7 @@ use Rattle.langtag_scan.specs.Grammar.{is_letter, is_digit, is_alphanumeric, has
 use Rattle.langtag_scan.proofs.BoolFacts.{between_true}
 use Rattle.langtag_scan.proofs.Disjoint.{extended_three, script_four, region_two_three, variant_long, letter_no_digit}
 use Rattle.langtag_scan.specs.Kind.{has_digits, begins_with_digit}
-
--- one to eight letters and digits
-pub record IsSubtag (s : List ℕ) : Type 0 where
-  pub some : 1 ≤ length s
-  pub short : length s ≤ 8
-  pub alphanumeric : are_alphanumeric s ≡ true
+pub use Rattle.langtag_scan.specs.Class.{IsSubtag}
 
 pub letters_alphanumeric : (s : List ℕ) → are_letters s ≡ true → are_alphanumeric s ≡ true
 letters_alphanumeric [] h = refl

@@ -1,6 +1,6 @@
 -- The classes of subtags (RFC 5646 section 2.1). Letters and digits are ASCII letters and ASCII digits. The comments
 -- give the rule of the grammar for each class.
-use Rattle.std.specs.Prelude.{ℕ, Bool, false, not, ◌&&◌, ◌||◌, ◌==◌, List, [], ◌∷◌, length}
+use Rattle.std.specs.Prelude.{◌≡◌, ◌≤◌, ℕ, Bool, true, false, not, ◌&&◌, ◌||◌, ◌==◌, List, [], ◌∷◌, length}
 use Rattle.langtag_scan.specs.Prelude.{is_ascii_alphabetic, is_ascii_digit, is_in_range, list_all}
 
 -- ALPHA: an ASCII letter
@@ -26,6 +26,12 @@ are_digits s = list_all is_digit s
 -- each byte is a letter or a digit
 abbrev pub are_alphanumeric : List ℕ → Bool
 are_alphanumeric s = list_all is_alphanumeric s
+
+-- a subtag of any class: one to eight letters and digits
+pub record IsSubtag (s : List ℕ) : Type 0 where
+  pub some : 1 ≤ length s
+  pub short : length s ≤ 8
+  pub alphanumeric : are_alphanumeric s ≡ true
 
 -- a text has at least `low` bytes, and at most `high` bytes
 abbrev pub has_length : ℕ → ℕ → List ℕ → Bool

@@ -5,7 +5,8 @@ use Rattle.std.specs.Prelude.{◌≡◌, ℕ, Bool, List, All, ◌<◌}
 use Rattle.langtag_scan.specs.Prelude.{HashWrites, Ordering, Greater}
 use Rattle.langtag_scan.specs.Case.{are_alike, case_cmp, case_writes, EndsFirst}
 
--- the equality, the order and the hash input of a type K follow from the texts of its values, which `text` returns
+-- the equality, the order and the hash input of a type K follow from the texts of its values, which `text` returns.
+-- `partial_cmp` is `Some` of `cmp`: std's `Ord` requires this law, `matches_partial_cmp`, of every type
 pub record ComparesByCase {K : Type 0} (text : K → List ℕ) (equality : K → K → Bool) (order : K → K → Ordering) (fed : K → HashWrites) : Type 0 where
   pub equal : (a b : K) → equality a b ≡ are_alike (text a) (text b)
   pub ordered : (a b : K) → order a b ≡ case_cmp (text a) (text b)

@@ -1,4 +1,6 @@
 //! Where the parts of a normal tag end.
+ghost use Rattle.std.specs.Prelude.{◌≡◌, replicate, set, ◌<◌};
+ghost use Rattle.langtag_scan.specs.Grammar.{ends_at};
 
 /// The end of each part of a normal tag (RFC 5646 section 2.1). Each is an offset in bytes from the start of the
 /// string, just after the part. An absent part ends where the previous part ends.
@@ -9,7 +11,7 @@
 /// It is proved that two `Ends` are equal if and only if each field is, and that a clone is the same value.
 ///
 /// ```
-/// use langtag_recogniser::{Metered, recognise};
+/// use langtag_scan::{Metered, recognise};
 ///
 /// let ends = recognise(&mut Metered::new("fr-abc-bz-x-a")).and_then(|found| found.ends());
 /// ends.map(|ends| (ends.language, ends.region, ends.whole)); // Some((6, 9, 13))
@@ -28,4 +30,50 @@ pub struct Ends {
     pub extensions: usize,
     /// The length of the string, which is also the end of the private use part: 6 in `de-x-a`.
     pub whole: usize,
+}
+
+/// Where each part of a tag has ended so far, in the order of [`Ends`], or 0 if it has not ended.
+#[derive(Drop)]
+pub(crate) struct Marks {
+    /// The end of each part, or 0. Every byte that is read sets one element, so the loop need not test whether the byte
+    /// ended a part. The last element, which is never read, is set by the bytes that end no part.
+    places: [usize; 6],
+}
+
+impl Marks {
+    /// Returns the marks before the first byte, when no part has ended.
+    #[inline(always)]
+    pub(crate) fn new() -> Self
+        ensures { result.places ≡ replicate 6 0 }
+    {
+        Marks { places: [0; 6] }
+    }
+
+    /// Sets the end of a part.
+    #[inline(always)]
+    pub(crate) fn set(&mut self, part: usize, index: usize)
+        requires { part < 6 }
+        ensures { self.new.places ≡ set self.old.places part index }
+    {
+        self.places[part] = index;
+    }
+
+    /// Returns the ends in a string of this length. An absent part ends where the previous part ends.
+    #[inline(always)]
+    pub(crate) fn ends(&self, len: usize) -> Ends
+        ensures { result ≡ ends_at self.now.places len }
+    {
+        let language = self.places[0];
+        let script = self.places[1].max(language);
+        let region = self.places[2].max(script);
+        let variants = self.places[3].max(region);
+        Ends {
+            language,
+            script,
+            region,
+            variants,
+            extensions: self.places[4].max(variants),
+            whole: len,
+        }
+    }
 }

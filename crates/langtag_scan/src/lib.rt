@@ -1,24 +1,38 @@
 //! Language tags as bytes (RFC 5646 section 2.1): comparison ignoring case, tests for the classes of subtags, and the
-//! subtags of a string. `langtag_recogniser` decides whether bytes are a tag.
+//! parser, which decides whether bytes are a tag.
 //!
 //! ```
-//! use langtag_scan::{Subtags, case_insensitive_eq, is_script};
+//! use langtag_scan::{ByteSource, Metered, recognise, viable_len};
 //!
-//! is_script(b"Hant");                     // true
-//! case_insensitive_eq(b"zh-TW", b"ZH-tw"); // true
-//! Subtags::new("zh-Hant-TW").next_back(); // Some("TW")
+//! let mut source = Metered::new("fr-abc-bz-x-a");
+//! let ends = recognise(&mut source).and_then(|found| found.ends()).ok_or("no normal tag")?;
+//! (ends.language, ends.script, ends.region, ends.whole); // (6, 6, 9, 13): no script, and the region is `bz`
+//!
+//! let mut source = Metered::new("i-notexist");
+//! recognise(&mut source).is_none();                      // true
+//! source.reads();                                        // 4: no tag begins with `i-no`
+//!
+//! viable_len(b"zh_Hant");                                // 2: no tag begins with `zh_`
 //! ```
 //!
-//! `Caseless` and `folded_number` serve the crates of this workspace that build the string types.
+//! `Caseless`, `folded_number` and `GRANDFATHERED_TEXTS` serve the crates of this workspace that build the string types.
 #![tactic(auto)]
 
 mod case;
 mod caseless;
 mod class;
 mod ends;
-mod laws;
+mod finding;
+mod found;
+mod grandfathered;
+mod metered;
+mod recogniser;
 mod segment;
+mod source;
+mod state;
+mod states;
 mod subtags;
+mod viable;
 
 pub use case::{
     case_insensitive_cmp, case_insensitive_eq, case_insensitive_hash, folded_number, into_smallcase,
@@ -29,5 +43,11 @@ pub use class::{
     is_region, is_script, is_singleton, is_variant,
 };
 pub use ends::Ends;
+pub use found::Found;
+pub use grandfathered::GRANDFATHERED_TEXTS;
+pub use metered::Metered;
+pub use recogniser::{recognise, recognise_normal};
 pub use segment::{segment_end, segment_start};
+pub use source::ByteSource;
 pub use subtags::Subtags;
+pub use viable::{viable_len, viable_len_with_hyphen};

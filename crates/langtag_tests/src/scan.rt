@@ -3,8 +3,9 @@
 ghost use Rattle.std.specs.Prelude.{◌≡◌, ◌+◌, ◌*◌, ◌%◌, ◌^◌, length, fold};
 
 use crate::support::expect_true;
-use langtag_recogniser::{ByteSource, Metered, recognise};
-use langtag_scan::{case_insensitive_hash, segment_end, segment_start};
+use langtag_scan::{
+    ByteSource, Metered, case_insensitive_hash, recognise, segment_end, segment_start,
+};
 use std::hash::Hasher;
 
 /// Records each call that feeds the hasher: first the length as one hexadecimal digit, and then each byte as two

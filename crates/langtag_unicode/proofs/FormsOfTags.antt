@@ -1,6 +1,6 @@
 -- The form of the extensions of a tag is its own form, and ignores case.
 use Rattle.langtag_scan.proofs.Prelude.{ℕ, List}
-use Rattle.langtag_output.proofs.FormLaws.{alike_forms, composed}
+use Rattle.langtag.proofs.FormLaws.{alike_forms, composed}
 use Rattle.langtag.specs.Definitions.{IsAlikeForm}
 use Rattle.langtag_keyword.proofs.ExtensionCase.{record-alike}
 use Rattle.langtag_keyword.proofs.FormRecords.{form_well_formed}

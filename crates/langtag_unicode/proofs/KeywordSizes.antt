@@ -1,9 +1,9 @@
 -- How long a tag may become when a keyword is set or removed, and what the order of keywords changes: nothing.
 use Rattle.langtag_keyword.proofs.Common.{◌≡◌, ℕ, ◌+◌, ◌≤◌, Bool, true, List, [], ◌∷◌, ◌++◌, length, refl, sym, ap, ◌∙◌, arith, rules, false, find, None, Some, unwrap_or, cond, append-nil, common_steps, flat_map, are_alike, Extension, Record, extension_flat, spell, subtags, length_with_hyphens, and_parts, false≢true, is_some, find_extension, at_place, changed_from, extension_of, is_this_key, put_keyword, with_keyword, without_keyword, without_within, is_key, before_key, value_of, in_alphabet, language_form, transform_form, transform_value, unicode_form, unicode_value, is_field_key}
 use Rattle.langtag_keyword.proofs.SubtagTexts.{length-all, length-with_hyphens}
-use Rattle.langtag_scan.proofs.TextLaws.{length-spell, normal_or_not}
-use Rattle.langtag_tables.proofs.Alike.{alike_length}
-use Rattle.langtag_output.specs.Form.{IsForm}
+use Rattle.langtag_scan.proofs.Laws.{length-spell, normal_or_not}
+use Rattle.langtag_text.proofs.Alike.{alike_length}
+use Rattle.langtag.specs.Form.{IsForm}
 use Rattle.langtag_scan.specs.Tag.{IsNormal}
 use Rattle.langtag_keyword.specs.Edit.{edited_record}
 use Rattle.langtag_keyword.proofs.ExtensionsPut.{flat-last}

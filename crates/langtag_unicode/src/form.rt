@@ -8,7 +8,7 @@ ghost use Rattle.langtag_unicode.specs.ExtensionsForm.{IsExtensionsForm};
 
 use langtag::{LangTag, LangTagBuf, NormalLangTag, push_private_use, tag_of};
 use langtag_keyword::push_extensions;
-use langtag_output::{Output, write_text};
+use langtag_text::{Output, write_text};
 use std::alloc::{AllocError, Global};
 
 /// How many bytes longer than its tag a form is expected to be at most. A longer form is right, too, but takes longer.

@@ -9,7 +9,7 @@ ghost use Rattle.langtag_keyword.specs.EditText.{edited_record_by};
 use crate::form::push_head;
 use langtag::{LangTag, NormalLangTag, push_private_use};
 use langtag_keyword::{KeywordEdit, KeywordError, invalid_type, is_unicode_key, push_edited};
-use langtag_output::Output;
+use langtag_text::Output;
 
 /// Writes a tag with a value of a key of the extension `u` (RFC 6067 section 2.1) to a buffer, and returns its length
 /// in bytes. With `buddhist` for `ca`, `th-u-ca-gregory-nu-thai` becomes `th-u-ca-buddhist-nu-thai`, and `de` becomes

@@ -1,7 +1,7 @@
 -- The walk over the variants of a tag and what stands before each, and the walk over the prefixes of a variant.
 use Rattle.langtag_scan.proofs.Prelude.{◌≡◌, ℕ, ◌+◌, ◌≤◌, true, false, cond, List, [], ◌∷◌, ◌++◌, length, take, None, Some, ap, sym, ◌∙◌, append_assoc, arith, ◌<◌, ◌==◌, Bool, get_or, map, drop, refl, flat_map, slice_range, list_any, length-map, get_or-map, replicate, zero, suc, at_drop_more, and_parts, common_steps, append-nil}
 use Rattle.langtag_scan.specs.Grammar.{ends_of, Record, Spells, spell, one_flat, extension_flat, private_part_flat, join, segments, subtags, IsNormal, are_alike, folded_number, are_alphanumeric}
-use Rattle.langtag_scan.proofs.TextLaws.{join-append, take-join, length-join-append, slice_split-append, folded_number-tells}
+use Rattle.langtag_scan.proofs.Laws.{join-append, take-join, length-join-append, slice_split-append, folded_number-tells}
 use Rattle.langtag_validity.specs.Prefix.{fits_after, up_to, misplaced, misplaced_after, some_matches}
 use Rattle.langtag_range.specs.Extended.{match_subtags, stand_among, test_extended}
 use Rattle.langtag_fields.specs.Entry.{Entry, values_for}

@@ -1,6 +1,6 @@
 use Rattle.std.proofs.Common.{◌∷◌, [], ap, sym, ◌∙◌, option_map}
 use Rattle.langtag_private.specs.Text.{private_use_text}
-use Rattle.langtag_output.proofs.Pushed.{private_pushed, pushes_same}
+use Rattle.langtag_text.proofs.Pushed.{private_pushed, pushes_same}
 use Rattle.langtag.proofs.push.push_private_use.Goals as goal
 
 pub returns-in-Some : goal.returns-in-Some

@@ -1,6 +1,6 @@
 use Rattle.langtag_scan.proofs.Prelude.{arith, common_steps, IsUtf8-from_ascii}
 use Rattle.std.proofs.lemmas.List.{with_items_is}
-use Rattle.langtag_case.proofs.RecommendedLaws.{recommended-ascii}
+use Rattle.langtag_text.proofs.RecommendedLaws.{recommended-ascii}
 use Rattle.langtag.proofs.recommended_case.put_recommended_case.Goals as goal
 
 pub from_utf8_unchecked-requires : goal.from_utf8_unchecked-requires

@@ -1,7 +1,7 @@
 use Rattle.langtag_scan.proofs.Prelude.{◌≡◌, ◌∙◌, ◌∷◌, ◌++◌, [], codes, ap, sym, encode_utf8, encode_ascii}
 use Rattle.langtag_extension.specs.Text.{singleton_byte}
-use Rattle.langtag_scan.proofs.TextLaws.{alphanumeric_below, singleton_alphanumeric}
-use Rattle.langtag_validity.specs.Fault.{told}
+use Rattle.langtag_scan.proofs.Laws.{alphanumeric_below, singleton_alphanumeric}
+use Rattle.langtag_registry.specs.Fault.{told}
 use Rattle.langtag_answers.specs.CheckAnswer.{fault_text}
 use Rattle.langtag_answers.proofs.check.fault_words.Goals as goal
 

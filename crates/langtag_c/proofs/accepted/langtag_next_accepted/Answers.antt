@@ -1,9 +1,9 @@
 use Rattle.langtag_scan.proofs.Prelude.{◌≡◌, ◌+◌, ◌-◌, ◌≤◌, Some, length, length-take, drop, ap, sym, ◌∙◌, arith, slice_range}
-use Rattle.langtag_range.specs.Element.{is_ows}
-use Rattle.langtag_header.specs.Text.{weighted_range_text}
-use Rattle.langtag_span.specs.Spans.{end_of, span_text}
-use Rattle.langtag_span.specs.declared.span.Span.{Span}
-use Rattle.langtag_span.proofs.PlaceLaws.{begin_text, inner_text}
+use Rattle.langtag_match.specs.Element.{is_ows}
+use Rattle.langtag_match.specs.Text.{weighted_range_text}
+use Rattle.langtag_c.specs.Spans.{end_of, span_text}
+use Rattle.langtag_c.specs.declared.span.Span.{Span}
+use Rattle.langtag_c.proofs.PlaceLaws.{begin_text, inner_text}
 use Rattle.langtag_c.proofs.accepted.langtag_next_accepted.Goals as goal
 
 pub returns-in-Ok-clause-element : goal.returns-in-Ok-clause-element

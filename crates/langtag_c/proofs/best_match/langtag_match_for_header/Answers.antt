@@ -1,5 +1,5 @@
 use Rattle.langtag_scan.proofs.Prelude.{None, Some, refl, arith, nat_tests}
-use Rattle.langtag_range.specs.Wanted.{wanted_elements}
+use Rattle.langtag_match.specs.Wanted.{wanted_elements}
 use Rattle.langtag_c.proofs.ChoiceLaws.{is_match_at, no_match_at, is_best, within_spans}
 use Rattle.langtag_c.proofs.best_match.langtag_match_for_header.Goals as goal
 

@@ -1,5 +1,5 @@
 use Rattle.std.proofs.Common.{rules}
-use Rattle.langtag_range.specs.Wanted.{wanted_elements}
+use Rattle.langtag_match.specs.Wanted.{wanted_elements}
 use Rattle.langtag_c.proofs.ChoiceLaws.{is_best, within_spans}
 use Rattle.langtag_c.proofs.choice.langtag_best_for_header.Goals as goal
 

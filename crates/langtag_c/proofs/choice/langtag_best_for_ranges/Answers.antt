@@ -1,5 +1,5 @@
 use Rattle.std.proofs.Common.{rules}
-use Rattle.langtag_span.specs.Spanned.{ranges_at}
+use Rattle.langtag_c.specs.Spanned.{ranges_at}
 use Rattle.langtag_c.proofs.ChoiceLaws.{is_best, within_spans}
 use Rattle.langtag_c.proofs.choice.langtag_best_for_ranges.Goals as goal
 

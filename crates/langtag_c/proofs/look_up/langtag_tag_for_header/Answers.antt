@@ -1,5 +1,5 @@
 use Rattle.langtag_scan.proofs.Prelude.{arith, nat_tests}
-use Rattle.langtag_span.proofs.LookUps.{not_good}
+use Rattle.langtag_c.proofs.LookUps.{not_good}
 use Rattle.langtag_c.proofs.look_up.langtag_tag_for_header.Goals as goal
 
 pub returns-in-Some-clause-strict : goal.returns-in-Some-clause-strict

@@ -1,4 +1,4 @@
-use Rattle.langtag_recogniser.proofs.FoundLaws.{found_ends}
+use Rattle.langtag_scan.proofs.FoundLaws.{found_ends}
 use Rattle.langtag_c.proofs.KindLaws.{spans_parts}
 use Rattle.langtag_c.proofs.parse.langtag_parse.Goals as goal
 

@@ -1,6 +1,6 @@
 use Rattle.langtag_scan.proofs.CaseLaw.{alike_parts}
 use Rattle.langtag.proofs.KeptFound.{alike_kinds}
-use Rattle.langtag_case.proofs.RecommendedLaws.{alike_of_recommended}
+use Rattle.langtag_text.proofs.RecommendedLaws.{alike_of_recommended}
 use Rattle.langtag_c.proofs.recommend.langtag_recommend.Goals as goal
 
 pub returns-clause-same_kind : goal.returns-clause-same_kind

@@ -2,8 +2,8 @@ use Rattle.std.proofs.Common.{is_some, refl, sym, ap, ◌∙◌}
 use Rattle.std.proofs.lemmas.List.{map-id}
 use Rattle.langtag_scan.specs.Record.{Spells}
 use Rattle.langtag.specs.Text.{normal_lang_tag_text}
-use Rattle.langtag_span.specs.Members.{singleton_place, variant_place}
-use Rattle.langtag_span.proofs.PlaceLaws.{is_some-span}
+use Rattle.langtag_c.specs.Members.{singleton_place, variant_place}
+use Rattle.langtag_c.proofs.PlaceLaws.{is_some-span}
 use Rattle.langtag_c.proofs.repeats.langtag_repeats.Goals as goal
 
 pub returns-clause-flags : goal.returns-clause-flags

@@ -1,9 +1,11 @@
 use Rattle.langtag_scan.proofs.Prelude.{None, Some, refl, sym, subst, arith, nat_tests}
-use Rattle.langtag_range.specs.Wanted.{wanted_elements}
+use Rattle.langtag_match.specs.Wanted.{wanted_elements}
 use Rattle.langtag_choice.specs.Best.{IsMatchOf, Pair}
 use Rattle.langtag_c.specs.Site.{spans_of}
 use Rattle.langtag_c.proofs.ChoiceLaws.{is_match_at, no_match_at, all_current, site_current, site_within, span_count}
 use Rattle.langtag_c.proofs.site.langtag_site_match_for_header.Goals as goal
+use Rattle.langtag_c.proofs.ChoiceLaws.{current_count, is_match_of}
+use Rattle.langtag_c.specs.Site.{current_tags_at}
 
 pub returns-in_default-clause-found : goal.returns-in_default-clause-found
 returns-in_default-clause-found c = λ prepared.
@@ -24,3 +26,11 @@ returns-clause-current c = site_current (wanted_elements c.args.header.now) c.ar
 
 pub returns-clause-within : goal.returns-clause-within
 returns-clause-within c = site_within (wanted_elements c.args.header.now) c.args.bytes.now c.args.tags.now (Some c.in-Some.chosen.index) c.in-Some.ensures.choice
+
+pub returns-in_default-clause-skipped : goal.returns-in_default-clause-skipped
+returns-in_default-clause-skipped c =
+    record { chosen = None; is = c.in_default.ensures.found; same = (sym (current_count c.args.bytes.now c.args.tags.now), refl) }
+
+pub returns-clause-skipped : goal.returns-clause-skipped
+returns-clause-skipped c =
+    grind (arith, nat_tests, is_match_of c.args.header.now (current_tags_at c.args.bytes.now c.args.tags.now) c.in-Some.chosen c.range_at.result)

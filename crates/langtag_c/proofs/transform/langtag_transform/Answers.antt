@@ -1,5 +1,5 @@
 use Rattle.langtag_scan.proofs.Prelude.{arith, nat_tests}
-use Rattle.langtag_span.proofs.FoundExtension.{found-none, found-some, nothing-in, some-in}
+use Rattle.langtag_c.proofs.FoundExtension.{found-none, found-some, nothing-in, some-in}
 use Rattle.langtag_c.proofs.transform.langtag_transform.Goals as goal
 
 pub returns-then-subtags-eq0-clause-language : goal.returns-then-subtags-eq0-clause-language

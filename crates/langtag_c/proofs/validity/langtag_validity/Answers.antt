@@ -1,4 +1,4 @@
-use Rattle.langtag_fields.specs.Valid.{IsValid}
+use Rattle.langtag_registry.specs.Valid.{IsValid}
 use Rattle.langtag_c.proofs.validity.langtag_validity.Goals as goal
 
 -- what is valid is a tag

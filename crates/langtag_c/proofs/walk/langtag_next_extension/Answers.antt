@@ -1,4 +1,4 @@
-use Rattle.langtag_span.proofs.ExtensionSpans.{extension-taken}
+use Rattle.langtag_c.proofs.ExtensionSpans.{extension-taken}
 use Rattle.langtag_c.proofs.walk.langtag_next_extension.Goals as goal
 
 pub returns-clause-extension : goal.returns-clause-extension

@@ -1,6 +1,6 @@
 use Rattle.langtag_scan.proofs.Prelude.{arith, nat_tests}
 use Rattle.langtag_scan.proofs.TagLaws.{tag_normal}
-use Rattle.langtag_span.proofs.TagLengths.{part_sets, some_tag}
+use Rattle.langtag_c.proofs.TagLengths.{part_sets, some_tag}
 use Rattle.langtag_c.proofs.with_part.langtag_with_part.Goals as goal
 
 pub returns-clause-set : goal.returns-clause-set

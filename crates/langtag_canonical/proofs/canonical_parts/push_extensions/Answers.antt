@@ -1,7 +1,7 @@
 use Rattle.langtag_scan.proofs.Prelude.{◌≡◌, ◌≤◌, ◌∷◌, [], false, length, get_or, sym, ap, ◌∙◌, arith, eqb-true, nat_tests, nil_from_length}
 use Rattle.langtag.specs.Definitions.{extensions_text, of_singleton}
 use Rattle.langtag_canonical.proofs.ExtensionOrder.{spellings, left_from, left_from-first, left_from-last, pushes_one_more, spelled_in_order, none_in_order, all_in_order}
-use Rattle.langtag_output.proofs.Pushed.{pushes_same, pushes_ended}
+use Rattle.langtag_text.proofs.Pushed.{pushes_same, pushes_ended}
 use Rattle.langtag_canonical.proofs.canonical_parts.push_extensions.Goals as goal
 
 pub returns-then-is_empty : goal.returns-then-is_empty

@@ -1,7 +1,7 @@
 use Rattle.langtag_scan.proofs.Prelude.{◌≡◌, ◌==◌, true, false, sym, ap, ◌∙◌, arith, eq-eqb, ne_eqb, common_steps}
 use Rattle.langtag.specs.Definitions.{extension_text, extensions_left, of_singleton, small_singleton}
 use Rattle.langtag_canonical.proofs.ExtensionOrder.{of_singleton-next}
-use Rattle.langtag_output.proofs.Pushed.{pushes_same, pushes_next, pushes_ended}
+use Rattle.langtag_text.proofs.Pushed.{pushes_same, pushes_next, pushes_ended}
 use Rattle.langtag_canonical.proofs.canonical_parts.push_extensions_of.Goals as goal
 
 pub loop-extension-init : goal.loop-extension-init

@@ -1,8 +1,8 @@
 use Rattle.std.proofs.Common.{List}
 use Rattle.langtag_scan.specs.Record as model
 use Rattle.langtag.specs.Definitions.{SpellsExtensions, extensions_text, extensions_left, of_singleton}
-use Rattle.langtag_output.specs.declared.output.Output.{Output}
-use Rattle.langtag_output.specs.Output.{Pushes}
+use Rattle.langtag_text.specs.declared.output.Output.{Output}
+use Rattle.langtag_text.specs.Output.{Pushes}
 use Rattle.langtag_canonical.proofs.ExtensionOrder.{spellings}
 use Rattle.langtag_canonical.proofs.canonical_parts.push_extensions_of.Given as goal
 

@@ -1,7 +1,7 @@
 use Rattle.langtag_scan.proofs.Prelude.{arith, common_steps}
 use Rattle.langtag_scan.proofs.CaseLaw.{fold_text-twice}
-use Rattle.langtag_tables.proofs.Letters.{extended_primary}
-use Rattle.langtag_output.proofs.Pushed.{pushes_same}
+use Rattle.langtag_text.proofs.Letters.{extended_primary}
+use Rattle.langtag_text.proofs.Pushed.{pushes_same}
 use Rattle.langtag_canonical.proofs.ReplacedSubtags.{language-alike}
 use Rattle.langtag_canonical.proofs.canonical_parts.push_extlang.Goals as goal
 

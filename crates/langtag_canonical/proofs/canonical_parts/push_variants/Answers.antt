@@ -3,7 +3,7 @@ use Rattle.langtag_place.specs.Text.{variant_text, variants_left}
 use Rattle.langtag_canonical.specs.Canonical.{canonical_variants}
 use Rattle.langtag_fields.specs.Fields.{preferred_variant}
 use Rattle.langtag_canonical.proofs.ReplacedSubtags.{view_of}
-use Rattle.langtag_output.proofs.Pushed.{pushes_same, pushes_next, pushes_ended}
+use Rattle.langtag_text.proofs.Pushed.{pushes_same, pushes_next, pushes_ended}
 use Rattle.langtag_canonical.proofs.canonical_parts.push_variants.Goals as goal
 
 pub loop-variant-init : goal.loop-variant-init

@@ -1,8 +1,8 @@
 use Rattle.langtag_scan.specs.Subtags.{subtags}
 use Rattle.langtag_place.specs.Text.{variants_text, variants_left}
 use Rattle.langtag_canonical.specs.Canonical.{canonical_variants}
-use Rattle.langtag_output.specs.declared.output.Output.{Output}
-use Rattle.langtag_output.specs.Output.{Pushes}
+use Rattle.langtag_text.specs.declared.output.Output.{Output}
+use Rattle.langtag_text.specs.Output.{Pushes}
 use Rattle.langtag_canonical.proofs.canonical_parts.push_variants.Given as goal
 
 -- what is put of the rest is put after what those before it became

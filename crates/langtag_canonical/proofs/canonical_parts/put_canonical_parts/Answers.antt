@@ -1,6 +1,6 @@
 use Rattle.std.proofs.Common.{[], ◌∙◌, subst, rules}
-use Rattle.langtag_output.specs.Output.{HasText}
-use Rattle.langtag_output.proofs.Pushed.{record_joined}
+use Rattle.langtag_text.specs.Output.{HasText}
+use Rattle.langtag_text.proofs.Pushed.{record_joined}
 use Rattle.langtag_canonical.specs.Canonical.{canonical_record}
 use Rattle.langtag_canonical.proofs.TwiceLaws.{canonical_record_well_formed}
 use Rattle.langtag_canonical.proofs.canonical_parts.put_canonical_parts.Goals as goal

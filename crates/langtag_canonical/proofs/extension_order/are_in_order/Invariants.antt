@@ -2,7 +2,7 @@ use Rattle.std.proofs.Common.{◌≡◌, List}
 use Rattle.langtag_scan.specs.Record as model
 use Rattle.langtag.specs.Definitions.{SpellsExtensions, extensions_text, extensions_left}
 use Rattle.langtag_canonical.proofs.ExtensionOrder.{spellings, keys}
-use Rattle.langtag_tables.proofs.Rising.{rises_from}
+use Rattle.langtag_text.proofs.Rising.{rises_from}
 use Rattle.langtag_canonical.proofs.extension_order.are_in_order.Given as goal
 
 -- all are in order where the rest is, after the last singleton

@@ -6,9 +6,6 @@ pub returns-then-is_chosen : goal.returns-then-is_chosen
 returns-then-is_chosen g c =
     best_found _ _ (λ place index. true) (Some c.in-Some.found) (rw c.in-Some.is at c.first_by_ranges-has_zero.ensures.first) (λ place index free. refl) (λ found is tried. cc (c.is_chosen.ensures c.if-is_chosen.true))
 
-pub returns : goal.returns
-returns g c = best_found _ _ _ _ c.first_by_tags.ensures (λ place index free. free) (λ found is free. free)
-
 pub returns-in_default : goal.returns-in_default
 returns-in_default g c =
     best_found (g.R.RangeList.elements c.args.ranges) (g.T.TagList.texts c.args.tags.now) (λ place index. true) None (rw c.in_default.is at c.first_by_ranges-has_zero.ensures.first) (λ place index free. refl) (λ found is. absurd cc)

@@ -8,9 +8,9 @@ loop-wanted-preserved g c = record {
   few = search rules;
   rest = rest_next (g.R.RangeList.elements c.args.ranges) (g.R.RangeList.elements c.loop-wanted.left) _ (listed_element c.in-Some.wanted) c.loop-wanted.place (search rules) c.loop-wanted.invariant.rest;
   zero = search rules;
-  tries = one_more_range _ _ (λ index. true) _ _ _ _ c.loop-wanted.invariant.tries (c.improve_for_range.ensures _ (rest_here _ _ _ _ _ c.in-Some.ensures.first c.loop-wanted.invariant.rest));
+  tries = one_more_range _ _ _ _ _ (λ index. true) _ _ _ _ c.loop-wanted.invariant.tries (c.improve_for_range.ensures _ (rest_here _ _ _ _ _ c.in-Some.ensures.first c.loop-wanted.invariant.rest));
 }
 
 pub returns-clause-first : goal.returns-clause-first
 returns-clause-first g c =
-    all_ranges _ _ (λ index. true) _ _ _ (rest_done _ _ _ c.in_default.ensures.first c.loop-wanted.invariant.rest) c.loop-wanted.invariant.tries
+    all_ranges _ _ _ _ _ (λ index. true) _ _ _ (rest_done _ _ _ c.in_default.ensures.first c.loop-wanted.invariant.rest) c.loop-wanted.invariant.tries

@@ -1,5 +1,5 @@
 use Rattle.langtag_scan.proofs.Prelude.{◌≡◌, ◌⊎◌, ◌||◌, ◌+◌, ◌<◌, ◌^◌, None, length, nat_lt, list_any}
-use Rattle.langtag_distance.specs.Serves.{is_excluded}
+use Rattle.langtag_choice.specs.Serves.{is_excluded}
 use Rattle.langtag_choice.specs.Found.{Tries}
 use Rattle.langtag_choice.proofs.FoundLaws.{IsRest}
 use Rattle.langtag_choice.proofs.by_ranges.first_by_ranges.Given as goal

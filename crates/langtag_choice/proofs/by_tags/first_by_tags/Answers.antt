@@ -1,12 +1,10 @@
-use Rattle.langtag_scan.proofs.Prelude.{arith, nat_tests}
-use Rattle.langtag_choice.proofs.FoundLaws.{block_flags, tries_both, tries_same}
+use Rattle.std.proofs.Common.{None, rules, subst, sym, ◌∙◌}
+use Rattle.std.proofs.lemmas.List.{get_or_read}
+use Rattle.langtag_choice.specs.Found.{IsBestFound}
+use Rattle.langtag_choice.proofs.TurnLaws.{none_listed, only_best}
 use Rattle.langtag_choice.proofs.by_tags.first_by_tags.Goals as goal
 
-pub loop-start-preserved : goal.loop-start-preserved
-loop-start-preserved g c = record {
-  within = omega (arith, c.min-start.ensures, c.count-in-loop-start.ensures, c.loop-start.invariant.within);
-  tries = tries_both _ _ _ _ _ _ _ _ c.loop-start.invariant.tries c.improve_at.ensures (λ place index among inside. block_flags _ _ c.loop-start.start c.min-start.result c.unrefused_from-unrefused.result index c.unrefused_from-unrefused.ensures (omega (arith, c.min-start.ensures, c.count-in-loop-start.ensures)) inside);
-}
-
 pub returns : goal.returns
-returns g c = tries_same _ _ _ _ _ _ c.loop-start.invariant.tries (λ place index among inside. grind (arith, nat_tests))
+returns g c =
+    subst (IsBestFound (g.R.RangeList.elements c.args.ranges) (g.T.TagList.texts c.args.tags.now)) (sym (sym c.index-best-0.is ∙ get_or_read c.best_by_tags.new.best 0 c.index-best-0.result (search rules) c.index-best-0.is None))
+    (only_best (g.R.RangeList.elements c.args.ranges) (g.T.TagList.texts c.args.tags.now) _ c.best_by_tags.new.best (none_listed 1) (search rules) c.best_by_tags.ensures)

@@ -1,5 +1,5 @@
 use Rattle.std.proofs.Common.{◌≡◌, true, rules}
-use Rattle.langtag_distance.proofs.RankLaws.{far_takes}
+use Rattle.langtag_choice.proofs.RankLaws.{far_takes}
 use Rattle.langtag_choice.proofs.FoundLaws.{takes_at}
 use Rattle.langtag_choice.proofs.known_at.improve_entry.Goals as goal
 

@@ -1,6 +1,6 @@
 use Rattle.std.proofs.Common.{◌<◌, Some, option_map, refl, sym, ap, ◌∙◌, arith, length}
 use Rattle.langtag_cldr.specs.declared.alias_tables.TheConstants.{ALIAS_LANGUAGES, ALIAS_SCRIPT_NAMES, ALIAS_SCRIPTS, ALIAS_REGION_NAMES, ALIAS_REGIONS}
-use Rattle.langtag_tables.specs.FieldClasses.{is_language_field, is_script_field, is_region_field}
+use Rattle.langtag_text.specs.FieldClasses.{is_language_field, is_script_field, is_region_field}
 use Rattle.langtag_cldr.specs.Definitions.{language_alone, language_aliases, field_texts}
 use Rattle.langtag_cldr.proofs.RowLaws.{alias_at, alias_found, aliases_listed}
 use Rattle.langtag_cldr.proofs.TableRows.{column_good, name_good, first_index-is, index_searched, long_nowhere}

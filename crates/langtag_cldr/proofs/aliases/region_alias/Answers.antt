@@ -1,6 +1,6 @@
 use Rattle.std.proofs.Common.{◌<◌, Some, option_map, refl, ap, ◌∙◌, arith, length}
 use Rattle.langtag_cldr.specs.declared.alias_tables.TheConstants.{REGION_ALIAS_NAMES}
-use Rattle.langtag_tables.specs.FieldClasses.{is_region_field}
+use Rattle.langtag_text.specs.FieldClasses.{is_region_field}
 use Rattle.langtag_cldr.specs.Definitions.{region_aliases, field_texts}
 use Rattle.langtag_cldr.proofs.RowLaws.{region_at, region_found, region_aliases_listed}
 use Rattle.langtag_cldr.proofs.TableRows.{name_good}

@@ -1,6 +1,6 @@
 use Rattle.std.proofs.Common.{[], get_or, refl, ap, ◌∙◌, arith}
 use Rattle.langtag_cldr.specs.declared.tables.TheConstants.{SCRIPT_NAMES, LANGUAGE_SCRIPTS, REGION_NAMES, LANGUAGE_REGIONS}
-use Rattle.langtag_tables.specs.FieldClasses.{is_script_field, is_region_field}
+use Rattle.langtag_text.specs.FieldClasses.{is_script_field, is_region_field}
 use Rattle.langtag_cldr.proofs.TableRows.{column_good, language_count, rows_listed, scripts_good, regions_good}
 use Rattle.langtag_cldr.proofs.RowLaws.{language_at}
 use Rattle.langtag_cldr.proofs.rows.language_places.Goals as goal

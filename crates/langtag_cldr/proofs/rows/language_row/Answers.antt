@@ -1,6 +1,6 @@
 use Rattle.langtag_scan.proofs.Prelude.{Some, map, sym, ap, ◌∙◌, option_map, arith, length-map}
-use Rattle.langtag_tables.proofs.Letters.{primary_letters}
-use Rattle.langtag_tables.specs.Numbers.{letter_number}
+use Rattle.langtag_text.proofs.Letters.{primary_letters}
+use Rattle.langtag_text.specs.Numbers.{letter_number}
 use Rattle.langtag_cldr.specs.Definitions.{language_rows, field_texts}
 use Rattle.langtag_cldr.specs.Rows.{places_of}
 use Rattle.langtag_cldr.proofs.TableRows.{first_index-is}

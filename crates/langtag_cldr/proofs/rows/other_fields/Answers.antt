@@ -1,6 +1,6 @@
 use Rattle.std.proofs.Common.{[], get_or, refl, ap, ◌∙◌, arith}
 use Rattle.langtag_cldr.specs.declared.tables.TheConstants.{LANGUAGE_NAMES, OTHER_LANGUAGES, SCRIPT_NAMES, OTHER_SCRIPTS, REGION_NAMES, OTHER_REGIONS}
-use Rattle.langtag_tables.specs.FieldClasses.{is_language_field, is_script_field, is_region_field}
+use Rattle.langtag_text.specs.FieldClasses.{is_language_field, is_script_field, is_region_field}
 use Rattle.langtag_cldr.proofs.TableRows.{column_good, other_count, rows_listed, languages_good, scripts_good, regions_good}
 use Rattle.langtag_cldr.proofs.RowLaws.{other_at}
 use Rattle.langtag_cldr.proofs.rows.other_fields.Goals as goal

@@ -1,7 +1,7 @@
 use Rattle.std.proofs.Common.{◌<◌, Some, option_map, ap, ◌∙◌, arith, length}
 use Rattle.langtag_cldr.specs.declared.alias_tables.TheConstants.{REPLACEMENT_NAMES}
 use Rattle.langtag_cldr.specs.Definitions.{region_replacements, field_texts}
-use Rattle.langtag_tables.specs.FieldClasses.{is_region_field}
+use Rattle.langtag_text.specs.FieldClasses.{is_region_field}
 use Rattle.langtag_cldr.proofs.RowLaws.{at_index, replacements_listed, replaced_region}
 use Rattle.langtag_cldr.proofs.TableRows.{name_good}
 use Rattle.langtag_cldr.proofs.FieldClasses.{region_alphanumeric}

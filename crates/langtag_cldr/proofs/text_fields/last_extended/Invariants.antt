@@ -1,5 +1,5 @@
 use Rattle.std.proofs.Common.{◌≡◌, IsTrue, length}
-use Rattle.langtag_tables.specs.FieldClasses.{is_language_field}
+use Rattle.langtag_text.specs.FieldClasses.{is_language_field}
 use Rattle.langtag_cldr.specs.TextFields.{after_language, last_language, counted_parts}
 use Rattle.langtag_cldr.proofs.text_fields.last_extended.Given as goal
 

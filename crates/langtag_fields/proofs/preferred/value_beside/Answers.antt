@@ -1,7 +1,7 @@
 use Rattle.langtag_scan.proofs.Prelude.{ℕ, List, Bor, Ok, Err, sym, subst, arith, common_steps, searched}
 use Rattle.langtag_fields.specs.Entry.{Entry}
 use Rattle.langtag_fields.specs.Tables.{AreEndsOf}
-use Rattle.langtag_tables.proofs.Rising.{climb_searched}
+use Rattle.langtag_text.proofs.Rising.{climb_searched}
 use Rattle.langtag_fields.proofs.Values.{end_searched, end_of, subtags-view, end_decided}
 use Rattle.langtag_fields.proofs.preferred.value_beside.Goals as goal
 

@@ -1,7 +1,7 @@
 use Rattle.langtag_scan.proofs.Prelude.{◌==◌, sym, ap, ◌∙◌, searched, list_any}
 use Rattle.langtag_scan.specs.Case.{folded_number}
 use Rattle.langtag_scan.proofs.FoldedNumbers.{among-folded}
-use Rattle.langtag_tables.proofs.Rising.{climb_searched, found_among}
+use Rattle.langtag_text.proofs.Rising.{climb_searched, found_among}
 use Rattle.langtag_fields.proofs.table.is_among.Goals as goal
 
 pub returns : goal.returns

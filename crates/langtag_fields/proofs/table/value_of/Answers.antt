@@ -1,5 +1,5 @@
 use Rattle.langtag_scan.proofs.Prelude.{◌<◌, [], Some, Ok, Err, get_or, length, sym, ap, ◌∙◌, arith, get_or-map, searched, eqb-true}
-use Rattle.langtag_tables.proofs.Rising.{climb_searched}
+use Rattle.langtag_text.proofs.Rising.{climb_searched}
 use Rattle.langtag_fields.proofs.Values.{value_searched}
 use Rattle.langtag_fields.proofs.table.value_of.Goals as goal
 

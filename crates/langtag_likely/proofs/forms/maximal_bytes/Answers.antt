@@ -1,6 +1,6 @@
 use Rattle.std.proofs.Common.{◌≤◌, sym, subst, arith}
 use Rattle.langtag.specs.Definitions.{lang_tag_text, IsForm}
-use Rattle.langtag_output.proofs.Taken.{written_taken}
+use Rattle.langtag_text.proofs.Taken.{written_taken}
 use Rattle.langtag_likely.specs.Maximal.{maximal_record}
 use Rattle.langtag_likely.proofs.GoodForms.{form_bounded, maximal_length}
 use Rattle.langtag_likely.proofs.forms.maximal_bytes.Goals as goal

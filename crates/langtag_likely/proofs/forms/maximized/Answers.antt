@@ -2,7 +2,7 @@ use Rattle.std.proofs.Common.{sym, subst}
 use Rattle.langtag.proofs.KeptFound.{found_kept}
 use Rattle.langtag.specs.Text.{lang_tag_text, lang_tag_buf_text}
 use Rattle.langtag_likely.specs.Maximal.{IsMaximalForm, maximal_record}
-use Rattle.langtag_output.proofs.FormLaws.{form_is_tag, one_form}
+use Rattle.langtag.proofs.FormLaws.{form_is_tag, one_form}
 use Rattle.langtag_likely.proofs.GoodForms.{maximal_well_formed, maximal_settled, alike_maximal, minimal_undone, maximal_keeps}
 use Rattle.langtag_likely.proofs.forms.maximized.Goals as goal
 

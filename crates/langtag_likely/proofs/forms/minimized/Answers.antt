@@ -2,7 +2,7 @@ use Rattle.std.proofs.Common.{sym, subst}
 use Rattle.langtag.proofs.KeptFound.{found_kept}
 use Rattle.langtag.specs.Text.{lang_tag_text, lang_tag_buf_text}
 use Rattle.langtag_likely.specs.Maximal.{IsMinimalForm, minimal_record}
-use Rattle.langtag_output.proofs.FormLaws.{form_is_tag, one_form}
+use Rattle.langtag.proofs.FormLaws.{form_is_tag, one_form}
 use Rattle.langtag_likely.proofs.GoodForms.{minimal_well_formed, minimal_settled, alike_minimal, maximal_undone, minimal_tells, minimal_keeps}
 use Rattle.langtag_likely.proofs.forms.minimized.Goals as goal
 

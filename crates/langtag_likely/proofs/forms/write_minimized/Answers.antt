@@ -2,7 +2,7 @@ use Rattle.langtag_scan.proofs.Prelude.{refl, sym, ap, ◌∙◌, option_map_or}
 use Rattle.langtag_scan.specs.Grammar.{spell, IsNormal}
 use Rattle.langtag_cldr.specs.LikelyFields.{remove_likely_subtags}
 use Rattle.langtag_likely.specs.Maximal.{minimal_record, put_fields}
-use Rattle.langtag_output.proofs.FormLaws.{kept_written, record_written}
+use Rattle.langtag.proofs.FormLaws.{kept_written, record_written}
 use Rattle.langtag_likely.proofs.forms.write_minimized.Goals as goal
 
 pub returns-in_default : goal.returns-in_default

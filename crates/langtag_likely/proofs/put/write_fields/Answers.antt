@@ -4,7 +4,7 @@ use Rattle.langtag.specs.Text.{normal_lang_tag_text}
 use Rattle.langtag_cldr.specs.Definitions.{field_texts}
 use Rattle.langtag_likely.proofs.Definitions.{put_fields}
 use Rattle.langtag_cldr.proofs.FieldClasses.{language_length, script_length, region_length}
-use Rattle.langtag_output.proofs.FormLaws.{rewritten}
+use Rattle.langtag.proofs.FormLaws.{rewritten}
 use Rattle.langtag_likely.proofs.PutLaws.{put_length, put_spelled}
 use Rattle.langtag_likely.proofs.put.write_fields.Goals as goal
 
@@ -13,7 +13,7 @@ returns c = λ r spells.
     let f = field_texts c.args.fields in
     let text = c.put_language.result.now ++ (c.hyphen_before.result.now ++ (f.script ++ (c.hyphen_before-2.result.now ++ (f.region ++ (c.after_region.result.now ++ []))))) in
     let same : text ≡ spell (put_fields r f) =
-    rw (c.put_language.ensures r.primary r.extended (record { first = spells.0.primary; others = spells.0.extended; few = spells.0.few; short = spells.0.short; joined = sym (c.language.ensures r spells) }), c.after_region.ensures r spells)
+    rw (c.put_language.ensures r.primary r.extended (record { first = spells.0.primary; others = spells.0.extended; few = spells.0.few; short = spells.0.short; joined = sym (c.language.ensures.part r spells) }), c.after_region.ensures r spells)
     (put_spelled r f c.hyphen_before.result.now c.hyphen_before-2.result.now c.hyphen_before.ensures c.hyphen_before-2.ensures) in
     let room : length (normal_lang_tag_text c.args.tag) < 2 ^ 63 = omega arith in
     let most = put_length r f in

@@ -1,8 +1,9 @@
-use Rattle.std.proofs.Common.{arith, ◌≡◌, ◌∙◌, ◌+◌, None, [], ◌++◌, take, drop, ap, sym, refl, append-nil, append_assoc, rules}
+use Rattle.std.proofs.Common.{arith, ◌≡◌, ◌∙◌, ◌+◌, None, [], ◌++◌, take, drop, ap, sym, refl, subst, inl, append-nil, append_assoc, take-append-drop, rules}
 use Rattle.std.proofs.lemmas.Result.{err_from_is_err_and, on_ok_weaker}
 use Rattle.std.specs.List.{position}
 use Rattle.std.proofs.lemmas.Grind.{common_steps}
-use Rattle.langtag_lines.proofs.Written.{OnOk-by, complete_lines-free, rest_of-free_text, first_line, no_line, free_rest, rest_more, written_more, written_before, Answers-nil, Answers-same, Answers-held, Answers-empty, Answers-written, ends_line, leaves_line}
+use Rattle.langtag_lines.proofs.Written.{OnOk-by, complete_lines-free, rest_of-free_text, first_line, no_line, free_rest, rest_more, written_more, Answers-nil, Answers-same, Answers-held, Answers-empty, Answers-written, ends_line, leaves_line}
+use Rattle.langtag_lines.specs.Report.{IsWanting}
 use Rattle.langtag_lines.specs.Lines.{is_line_feed, complete_lines, rest_of, ended}
 use Rattle.langtag_lines.proofs.run.take_bytes.Goals as goal
 
@@ -19,7 +20,18 @@ pub returns-in_err-end_line-clause-memory : goal.returns-in_err-end_line-clause-
 returns-in_err-end_line-clause-memory g c = λ memory.
     let (taken, are, rest, written) = c.loop-len.invariant in
     let p = err_from_is_err_and c.from_residual.result c.from_residual.ensures.1 in
-    written_before _ _ _ _ _ taken _ _ are written (c.in_err-end_line.ensures.memory cc)
+    let left = c.loop-len.left.now in
+    let end = take c.in-Some.len left in
+    let after = drop c.in-Some.len left in
+    record {
+      taken = taken;
+      more = end;
+      after = after;
+      read = append_assoc taken end after ∙ ap (λ l. taken ++ l) (take-append-drop c.in-Some.len left) ∙ are;
+      free = (first_line left c.in-Some.len (sym c.in-Some.ensures)).free;
+      wanting = subst (λ held. IsWanting g.L.GatheredLine.refuses g.A.Answerer.takes_memory held end) rest (c.in_err-end_line.ensures.wanting cc);
+      written = Answers-written _ _ _ _ _ written (c.in_err-end_line.ensures.memory cc);
+    }
 
 pub loop-len-preserved : goal.loop-len-preserved
 loop-len-preserved g c =
@@ -42,7 +54,17 @@ pub returns-in_err-gather-clause-memory : goal.returns-in_err-gather-clause-memo
 returns-in_err-gather-clause-memory g c = λ memory.
     let (taken, are, rest, written) = c.loop-len.invariant in
     let p = err_from_is_err_and c.from_residual-in_err-gather.result c.from_residual-in_err-gather.ensures.1 in
-    written_before _ _ _ _ _ taken _ _ are written (c.in_err-gather.ensures.memory cc)
+    let left = c.loop-len.left.now in
+    let none : position is_line_feed left ≡ None = search rules in
+    record {
+      taken = taken;
+      more = left;
+      after = [];
+      read = append-nil (taken ++ left) ∙ are;
+      free = no_line left none;
+      wanting = subst (λ held. IsWanting g.L.GatheredLine.refuses g.A.Answerer.takes_memory held left) rest (inl (c.in_err-gather.ensures.refused cc));
+      written = Answers-written _ _ _ _ _ written (c.in_err-gather.ensures.memory cc);
+    }
 
 pub returns-clause-ok : goal.returns-clause-ok
 returns-clause-ok g c =

@@ -1,6 +1,6 @@
 use Rattle.langtag_keyword.proofs.Common.{◌≡◌, ◌++◌, [], append-nil, drop, length, ap, ◌∙◌, arith, drop_all, spell}
 use Rattle.std.proofs.lemmas.List.{take_at}
-use Rattle.langtag_case.specs.RecommendedCase.{recommended_text}
+use Rattle.langtag_text.specs.RecommendedCase.{recommended_text}
 use Rattle.langtag_locale.specs.LocaleForm.{locale_record, locale_text}
 use Rattle.langtag_locale.proofs.IdentifierForms.{same_length}
 use Rattle.langtag_locale.proofs.canonical_locale.counted_form_bytes.Goals as goal

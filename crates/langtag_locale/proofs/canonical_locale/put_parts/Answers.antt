@@ -15,7 +15,7 @@ push_identifier-requires c = grind (arith, common_steps, c.nonempty.ensures.segm
 
 pub returns : goal.returns
 returns c = λ r spells.
-    let variants = c.nonempty.ensures.segments ∙ variants_listed r c.as_str.result.now spells.0 (c.as_str.ensures.same_text ∙ c.variants.ensures r spells) in
+    let variants = c.nonempty.ensures.segments ∙ variants_listed r c.as_str.result.now spells.0 (c.as_str.ensures.same_text ∙ c.variants.ensures.part r spells) in
     let fields = field_texts c.fields_of.result in
     let name = identifier_flat (identifier_form r.variants (record_fields r)) (new_variants r.variants (record_fields r)) in
     let extensions = flat_map extension_flat (extensions_in_order r.extensions) in
@@ -26,8 +26,8 @@ returns c = λ r spells.
     (ap (λ vs. identifier_flat (identifier_form vs fields) (new_variants vs fields)) variants ∙ ap (λ f. identifier_flat (identifier_form r.variants f) (new_variants r.variants f)) (c.fields_of.ensures r spells))
     c.push_identifier.ensures)
     (pushes_both extensions private_use _ _ _
-    (c.push_locale_extensions.ensures r.extensions (record { members = spells.0.extensions; joined = sym (c.extensions.ensures r spells) }))
-    (c.push_private_use.ensures r.private_use (c.private_use.ensures r spells))) in
+    (c.push_locale_extensions.ensures r.extensions (record { members = spells.0.extensions; joined = sym (c.extensions.ensures.part r spells) }))
+    (c.push_private_use.ensures r.private_use (c.private_use.ensures.part r spells))) in
     let has =
     subst (HasText _ c.push_private_use.new.out) (locale_joined r spells.0 (spelled_locale (normal_lang_tag_text c.args.tag) r c.requires spells)) (pushed _ [] c.new-out.ensures) in
     record { counted = c.len.ensures ∙ has.counted; written = λ fits. search (rules, has.same_buffer, has.written fits) }

@@ -2,7 +2,7 @@ use Rattle.std.proofs.lemmas.Bool.Decides.{nat_tests}
 use Rattle.langtag_keyword.proofs.Common.{◌≡◌, ◌≤◌, ◌++◌, drop, length, take, refl, ap, ◌∙◌, arith, spell}
 use Rattle.std.proofs.Math.Seq.{take-append_seam}
 use Rattle.std.proofs.lemmas.Slice.{drop-append-drop}
-use Rattle.langtag_case.specs.RecommendedCase.{recommended_text}
+use Rattle.langtag_text.specs.RecommendedCase.{recommended_text}
 use Rattle.langtag_locale.specs.LocaleForm.{locale_record, locale_text}
 use Rattle.langtag_locale.proofs.IdentifierForms.{same_length}
 use Rattle.langtag_locale.proofs.canonical_locale.write_parts.Goals as goal

@@ -1,5 +1,5 @@
 use Rattle.langtag_keyword.proofs.Common.{◌∷◌, ◌++◌, [], ap, ◌∙◌, pushes_both, pushes_same, one_flat, segments_left}
-use Rattle.langtag_tables.specs.Fields.{Fields, subtag_of}
+use Rattle.langtag_text.specs.Fields.{Fields, subtag_of}
 use Rattle.langtag_cldr.specs.Texts.{field_texts}
 use Rattle.langtag_locale.specs.LocaleForm.{identifier_form, variants_form}
 use Rattle.langtag_keyword.specs.Identifier.{identifier_flat}

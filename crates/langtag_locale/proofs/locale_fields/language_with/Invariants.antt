@@ -1,5 +1,5 @@
 use Rattle.langtag_keyword.proofs.Common.{◌≡◌, true, length, map, list_all, segments_left, TypeAlias, fold}
-use Rattle.langtag_tables.specs.FieldClasses.{is_language_field}
+use Rattle.langtag_text.specs.FieldClasses.{is_language_field}
 use Rattle.langtag_locale.specs.LocaleAliases.{variant_languages}
 use Rattle.langtag_locale.specs.LocaleForm.{language_after}
 use Rattle.langtag_locale.proofs.locale_fields.language_with.Given as goal

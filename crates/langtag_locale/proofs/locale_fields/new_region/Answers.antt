@@ -1,5 +1,5 @@
 use Rattle.langtag_keyword.proofs.Common.{ap, refl, sym, ◌∙◌, list_all, are_alike, segments, alias_for, option_map}
-use Rattle.langtag_tables.specs.FieldClasses.{is_region_field}
+use Rattle.langtag_text.specs.FieldClasses.{is_region_field}
 use Rattle.langtag_locale.specs.LocaleAliases.{region_heirs}
 use Rattle.langtag_locale.proofs.LocaleTables.{found_good, heir_good, region_heirs_good}
 use Rattle.langtag_locale.proofs.locale_fields.new_region.Goals as goal

@@ -1,6 +1,6 @@
 use Rattle.std.proofs.lemmas.Bool.Decides.{nat_tests}
 use Rattle.std.proofs.Common.{arith}
-use Rattle.langtag_tables.specs.FieldClasses.{is_script_field}
+use Rattle.langtag_text.specs.FieldClasses.{is_script_field}
 use Rattle.langtag_locale.proofs.LocaleTables.{found_good, scripts_good}
 use Rattle.langtag_locale.proofs.locale_fields.new_script.Goals as goal
 

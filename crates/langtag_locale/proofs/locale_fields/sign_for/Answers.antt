@@ -1,6 +1,6 @@
 use Rattle.std.proofs.lemmas.Bool.Decides.{nat_tests}
 use Rattle.std.proofs.Common.{arith}
-use Rattle.langtag_tables.specs.FieldClasses.{is_language_field}
+use Rattle.langtag_text.specs.FieldClasses.{is_language_field}
 use Rattle.langtag_locale.proofs.LocaleTables.{found_good, sign_languages_good}
 use Rattle.langtag_locale.proofs.locale_fields.sign_for.Goals as goal
 

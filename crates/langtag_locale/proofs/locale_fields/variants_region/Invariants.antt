@@ -1,5 +1,5 @@
 use Rattle.langtag_keyword.proofs.Common.{◌≡◌, true, length, map, list_all, segments_left, Alias}
-use Rattle.langtag_tables.specs.FieldClasses.{is_region_field}
+use Rattle.langtag_text.specs.FieldClasses.{is_region_field}
 use Rattle.langtag_locale.specs.LocaleAliases.{variant_regions}
 use Rattle.langtag_locale.specs.LocaleForm.{variants_region}
 use Rattle.langtag_locale.proofs.locale_fields.variants_region.Given as goal

@@ -11,7 +11,7 @@ unfolding IsNormal
 range_from-requires c _ =
     let (r, spells) = c.as_str-3.ensures.in_class in
     let here = spells.1 ∙ c.as_str-3.ensures.same_text in
-    let language = language_spelled r _ spells.0 (c.language-language.ensures r (spells.0, here)) in
+    let language = language_spelled r _ spells.0 (c.language-language.ensures.part r (spells.0, here)) in
     let extension = c.in_ok-extension.ensures.members r.primary r.extended language in
     let primary = c.as_str-2.ensures.same_text ∙ c.primary.ensures.member r.primary r.extended language in
     let class = sym c.new.ensures.accepts ∙ sym c.in_ok-extlang.ensures.variant in
@@ -22,7 +22,7 @@ unfolding IsNormal IsTag
 from_checked-requires c =
     let (r, spells) = c.as_str-3.ensures.in_class in
     let here = spells.1 ∙ c.as_str-3.ensures.same_text in
-    let language = language_spelled r _ spells.0 (c.language-language.ensures r (spells.0, here)) in
+    let language = language_spelled r _ spells.0 (c.language-language.ensures.part r (spells.0, here)) in
     let extension = c.in_ok-extension.ensures.members r.primary r.extended language in
     let primary = c.as_str-2.ensures.same_text ∙ c.primary.ensures.member r.primary r.extended language in
     let class = sym c.new.ensures.accepts ∙ sym c.in_ok-extlang.ensures.variant in
@@ -34,7 +34,7 @@ from_checked-requires c =
 pub returns-clause-some : goal.returns-clause-some
 returns-clause-some c = λ r spells.
     let here = spells.1 ∙ sym c.as_str-3.ensures.same_text in
-    let language = language_spelled r _ spells.0 (c.language-language.ensures r spells) in
+    let language = language_spelled r _ spells.0 (c.language-language.ensures.part r spells) in
     let extension = c.in_ok-extension.ensures.members r.primary r.extended language in
     let primary = c.as_str-2.ensures.same_text ∙ c.primary.ensures.member r.primary r.extended language in
     let class = sym c.new.ensures.accepts ∙ sym c.in_ok-extlang.ensures.variant in

@@ -1,7 +1,7 @@
 use Rattle.std.proofs.lemmas.Bool.Decides.{nat_tests}
 use Rattle.std.proofs.Common.{arith}
 use Rattle.langtag_keyword.proofs.Common.{◌≡◌, ◌∷◌, map, sym, ap, subst, ◌∙◌, map-append, one_flat, segments_left, IsOffered, order_number}
-use Rattle.langtag_tables.specs.Fields.{subtag_of}
+use Rattle.langtag_text.specs.Fields.{subtag_of}
 use Rattle.langtag_keyword.proofs.LeastTexts.{offered-both, offered-none}
 use Rattle.langtag_keyword.proofs.IdentifierParts.{AreVariants}
 use Rattle.langtag_locale.specs.LocaleForm.{forms, variant_form}

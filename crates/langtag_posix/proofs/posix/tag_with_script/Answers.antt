@@ -1,7 +1,7 @@
 use Rattle.std.proofs.Common.{◌≤◌, length, take, drop, refl, sym, ap, subst, ◌∙◌, arith, take_at, Some}
 use Rattle.langtag.specs.Definitions.{lang_tag_text, script_text, SetsScript}
 use Rattle.langtag_scan.specs.Tag.{IsTag}
-use Rattle.langtag_output.proofs.FormLaws.{kept_form}
+use Rattle.langtag.proofs.FormLaws.{kept_form}
 use Rattle.langtag_posix.proofs.PosixLaws.{set_script}
 use Rattle.langtag_posix.proofs.posix.tag_with_script.Goals as goal
 

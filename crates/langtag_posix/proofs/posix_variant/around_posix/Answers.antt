@@ -9,7 +9,7 @@ pub returns-then-ends : goal.returns-then-ends
 returns-then-ends c = grind (arith, nat_tests, c.ends-ends.ensures, extensions_stay, c.if-ends.true)
 
 pub returns-then-not-eq_str : goal.returns-then-not-eq_str
-returns-then-not-eq_str c = grind (arith, nat_tests, others_stay, alone, c.variants.ensures, c.eq_str.ensures.test, c.if-not-eq_str.true)
+returns-then-not-eq_str c = grind (arith, nat_tests, others_stay, alone, c.variants.ensures.part, c.eq_str.ensures.test, c.if-not-eq_str.true)
 
 pub slice_bounds-result-count : goal.slice_bounds-result-count
 unfolding IsNormal
@@ -19,7 +19,7 @@ slice_bounds-result-count c =
     let ends = c.ends-ends.ensures r spells in
     let same : (ends_of r).variants ≡ (ends_of r).extensions = sym (ap (λ e. e.variants) ends) ∙ c.if-ends.false ∙ ap (λ e. e.extensions) ends in
     let posix : is_posix_alone r.variants ≡ true =
-    sym (alone r.variants written.0.variants) ∙ ap (λ t. are_alike t (codes "POSIX")) (sym (c.variants.ensures r spells)) ∙ sym c.eq_str.ensures.test ∙ c.if-not-eq_str.false in
+    sym (alone r.variants written.0.variants) ∙ ap (λ t. are_alike t (codes "POSIX")) (sym (c.variants.ensures.part r spells)) ∙ sym c.eq_str.ensures.test ∙ c.if-not-eq_str.false in
     omega (arith, posix_after r same posix, ap (λ e. e.variants) ends)
 
 pub returns : goal.returns
@@ -27,7 +27,7 @@ returns c = λ r spells.
     let ends = c.ends-ends.ensures r spells in
     let same : (ends_of r).variants ≡ (ends_of r).extensions = sym (ap (λ e. e.variants) ends) ∙ c.if-ends.false ∙ ap (λ e. e.extensions) ends in
     let posix : is_posix_alone r.variants ≡ true =
-    sym (alone r.variants spells.0.variants) ∙ ap (λ t. are_alike t (codes "POSIX")) (sym (c.variants.ensures r spells)) ∙ sym c.eq_str.ensures.test ∙ c.if-not-eq_str.false in
+    sym (alone r.variants spells.0.variants) ∙ ap (λ t. are_alike t (codes "POSIX")) (sym (c.variants.ensures.part r spells)) ∙ sym c.eq_str.ensures.test ∙ c.if-not-eq_str.false in
     let text = c.as_bytes-text.ensures.value ∙ c.as_str.ensures.same_text ∙ sym spells.1 in
     let around = posix_around r same posix in
     let rest = drop c.ends-ends.result.variants c.as_bytes-text.result.now in

@@ -1,5 +1,5 @@
 use Rattle.std.proofs.Common.{◌≤◌, ◌∙◌, drop, length, refl, sym, ap, subst, arith, take, take_at}
-use Rattle.langtag_output.proofs.FormLaws.{kept_form, record_form}
+use Rattle.langtag.proofs.FormLaws.{kept_form, record_form}
 use Rattle.langtag_scan.specs.Tag.{IsNormal, IsTag}
 use Rattle.langtag_posix.specs.Posix.{posix_replaced}
 use Rattle.langtag_posix.proofs.PosixLaws.{posix_tag, written_posix}

@@ -1,10 +1,9 @@
-use Rattle.langtag_scan.proofs.Prelude.{rules, tests, all_from_yields_List, YieldsList-from_slice_split}
-use Rattle.langtag_scan.specs.Class.{is_private_subtag}
-use Rattle.langtag_range.specs.Wanted.{is_separator}
+use Rattle.langtag_scan.proofs.Prelude.{arith, common_steps, drop_all, drop_more}
+use Rattle.langtag_range.proofs.PlainElements.{reads_subtags}
 use Rattle.langtag_range.proofs.wanted_element.are_wanted_subtags.Goals as goal
 
+pub returns-else-len-gt0 : goal.returns-else-len-gt0
+returns-else-len-gt0 c = grind (arith, common_steps, reads_subtags c.args.text.now, drop_more c.args.text.now c.loop-byte.byte-index 0)
+
 pub returns : goal.returns
-returns c =
-    all_from_yields_List is_private_subtag c.all.new.self _ c.all.result c.all.ensures.ran
-    (YieldsList-from_slice_split _ is_separator c.args.text.now c.split.ensures.rest c.split.ensures.done c.split.ensures.closure (λ x r q k. search (rules, tests)))
-    (λ x r q k. search rules)
+returns c = grind (arith, common_steps, reads_subtags c.args.text.now, drop_all c.loop-byte.byte-index c.args.text.now)

@@ -12,10 +12,10 @@ range_from-requires c _ = boundary-after_singleton _ c.as_str.utf8 c.as_str.ensu
 pub returns-in-Some-clause-subtags : goal.returns-in-Some-clause-subtags
 returns-in-Some-clause-subtags c = record {
   part = λ r spells.
-      subtags_found _ r.extensions spells.0.extensions _ _ (c.in-Some.ensures.first_match r.extensions (record { members = spells.0.extensions; joined = sym (c.extensions.ensures.part r spells) }))
+      subtags_found _ r.extensions spells.0.extensions _ _ (c.in-Some.ensures.first_match r.extensions (record { members = spells.0.extensions; joined = sym (c.extensions.ensures.part.part r spells) }))
       (λ e spelled. ap subtags (c.range_from.ensures.value ∙ ap (drop 2) c.as_str.ensures.same_text) ∙ subtags-after_singleton e _ spelled);
   absent = λ other.
-      let none = c.in-Some.ensures.first_match [] (record { members = tt; joined = sym (c.extensions.ensures.absent other) }) in
+      let none = c.in-Some.ensures.first_match [] (record { members = tt; joined = sym (c.extensions.ensures.part.absent other) }) in
       absurd cc;
 }
 

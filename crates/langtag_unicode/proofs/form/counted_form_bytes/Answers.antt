@@ -1,7 +1,7 @@
 use Rattle.langtag_keyword.proofs.Common.{◌≡◌, ◌++◌, [], append-nil, drop, length, sym, ap, subst, ◌∙◌, arith, drop_all, extensions_record}
 use Rattle.std.proofs.lemmas.List.{take_at}
 use Rattle.langtag.specs.Definitions.{lang_tag_text, IsForm}
-use Rattle.langtag_output.proofs.FormLaws.{one_form}
+use Rattle.langtag.proofs.FormLaws.{one_form}
 use Rattle.langtag_unicode.proofs.form.counted_form_bytes.Goals as goal
 
 -- both calls write the one form, and the second one has just the room for it

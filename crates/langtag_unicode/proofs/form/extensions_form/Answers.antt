@@ -1,7 +1,7 @@
 use Rattle.langtag_keyword.proofs.Common.{sym, subst, extensions_record}
 use Rattle.langtag.proofs.KeptFound.{found_kept}
 use Rattle.langtag.specs.Definitions.{lang_tag_text, IsForm}
-use Rattle.langtag_output.proofs.FormLaws.{form_is_tag, one_form}
+use Rattle.langtag.proofs.FormLaws.{form_is_tag, one_form}
 use Rattle.langtag_unicode.proofs.FormsOfTags.{extensions_form-alike, extensions_settled}
 use Rattle.langtag_keyword.proofs.FormRecords.{form_well_formed}
 use Rattle.langtag_unicode.proofs.form.extensions_form.Goals as goal

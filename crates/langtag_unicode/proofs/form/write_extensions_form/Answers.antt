@@ -1,6 +1,6 @@
 use Rattle.std.proofs.lemmas.Bool.Decides.{nat_tests}
 use Rattle.langtag_keyword.proofs.Common.{refl, sym, ◌∙◌, arith, spell, extensions_record}
-use Rattle.langtag_output.proofs.FormLaws.{kept_form, record_form}
+use Rattle.langtag.proofs.FormLaws.{kept_form, record_form}
 use Rattle.langtag_scan.specs.Tag.{IsNormal}
 use Rattle.langtag_unicode.proofs.form.write_extensions_form.Goals as goal
 

@@ -1,6 +1,6 @@
 use Rattle.std.proofs.Common.{refl, sym, ◌∙◌}
 use Rattle.langtag.specs.Text.{lang_tag_text}
-use Rattle.langtag_output.proofs.FormLaws.{record_form, record_written}
+use Rattle.langtag.proofs.FormLaws.{record_form, record_written}
 use Rattle.langtag_scan.specs.Tag.{IsNormal}
 use Rattle.langtag_keyword.specs.EditText.{edited_record_by}
 use Rattle.langtag_unicode.proofs.keyword_setters.write_edited.Goals as goal

@@ -5,7 +5,7 @@ use Rattle.langtag_range.specs.Extended.{test_extended}
 use Rattle.langtag_scan.specs.Case.{folded_number}
 use Rattle.langtag_fields.specs.Subtags.{variant_prefixes}
 use Rattle.langtag_validity.proofs.MisplacedLaws.{length-same, same_at, number_tells, left_first, left_matched, left_unmatched, left_other, left_ended}
-use Rattle.langtag_tables.proofs.Elements.{list_all_get}
+use Rattle.langtag_text.proofs.Elements.{list_all_get}
 use Rattle.langtag_fields.proofs.FieldTables.{prefixed_alphanumeric}
 use Rattle.langtag_fields.proofs.Values.{no_entry}
 use Rattle.langtag_validity.proofs.misplaced.fits_after.Goals.{then-number-key+else-matches_at, else-number-key}

@@ -1,4 +1,4 @@
-use Rattle.langtag_case.proofs.RecommendedLaws.{alike_of_recommended, spelled_in_case}
+use Rattle.langtag_text.proofs.RecommendedLaws.{alike_of_recommended, spelled_in_case}
 use Rattle.langtag.proofs.KeptFound.{alike_kinds}
 use Rattle.langtag.proofs.lang_tag_buf.LangTagBuf.make_recommended_case.Goals as goal
 

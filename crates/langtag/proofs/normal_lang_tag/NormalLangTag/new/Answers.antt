@@ -1,4 +1,4 @@
-use Rattle.langtag_scan.proofs.TextLaws.{spelled_once, join-parts}
+use Rattle.langtag_scan.proofs.Laws.{spelled_once, join-parts}
 use Rattle.langtag.proofs.PartRules.{parts_stand}
 use Rattle.langtag.proofs.normal_lang_tag.NormalLangTag.new.Goals as goal
 

@@ -9,7 +9,7 @@ pub returns-in_err-nth-clause-repeated : goal.returns-in_err-nth-clause-repeated
 returns-in_err-nth-clause-repeated c r spells =
     let at = nth_from_yields_List c.nth.result c.nth.new.self c.in_ok-index.index c.nth.ensures.ran
     (YieldsList-from_first extension_text extensions_left (map extension_spelling r.extensions)
-    (c.iter.ensures.list r.extensions (record { members = spells.0.extensions; joined = sym (c.extensions.ensures r spells) }))) in
+    (c.iter.ensures.list r.extensions (record { members = spells.0.extensions; joined = sym (c.extensions.ensures.part r spells) }))) in
     ap (option_map singleton_byte) c.from_residual-in_err-nth.ensures
     ∙ singleton_at r.extensions c.in_ok-index.index None (ap (option_map extension_text) (sym c.in_err-nth.was) ∙ at)
     ∙ ap (option_and_then (slice_get (singletons r.extensions))) (c.in_ok-index.ensures.repeated r spells)
@@ -18,7 +18,7 @@ pub returns-clause-repeated : goal.returns-clause-repeated
 returns-clause-repeated c r spells =
     let at = nth_from_yields_List c.nth.result c.nth.new.self c.in_ok-index.index c.nth.ensures.ran
     (YieldsList-from_first extension_text extensions_left (map extension_spelling r.extensions)
-    (c.iter.ensures.list r.extensions (record { members = spells.0.extensions; joined = sym (c.extensions.ensures r spells) }))) in
+    (c.iter.ensures.list r.extensions (record { members = spells.0.extensions; joined = sym (c.extensions.ensures.part r spells) }))) in
     ap Some c.singleton.ensures.first_byte
     ∙ singleton_at r.extensions c.in_ok-index.index (Some (extension_text c.in_ok-nth.field-0)) (ap (option_map extension_text) (sym c.in_ok-nth.was) ∙ at)
     ∙ ap (option_and_then (slice_get (singletons r.extensions))) (c.in_ok-index.ensures.repeated r spells)

@@ -1,6 +1,6 @@
 use Rattle.std.proofs.Common.{rules}
 use Rattle.langtag_scan.proofs.CaseLaw.{alike_parts}
-use Rattle.langtag_case.proofs.RecommendedLaws.{alike_of_recommended, spelled_in_case}
+use Rattle.langtag_text.proofs.RecommendedLaws.{alike_of_recommended, spelled_in_case}
 use Rattle.langtag.proofs.KeptFound.{ends_alike}
 use Rattle.langtag.proofs.normal_lang_tag_buf.NormalLangTagBuf.make_recommended_case.Goals as goal
 

@@ -2,8 +2,8 @@ use Rattle.langtag_scan.proofs.Prelude.{◌≡◌, false, true, refl, sym, subst
 use Rattle.langtag_scan.specs.Grammar.{IsTag}
 use Rattle.langtag.specs.Text.{lang_tag_text}
 use Rattle.langtag_lines.proofs.Written.{Answers-one}
-use Rattle.langtag_validity.specs.Fault.{told}
-use Rattle.langtag_fields.specs.Valid.{IsValid}
+use Rattle.langtag_registry.specs.Fault.{told}
+use Rattle.langtag_registry.specs.Valid.{IsValid}
 use Rattle.langtag_answers.specs.CheckAnswer.{refused}
 use Rattle.langtag_answers.proofs.Verdicts.{answer_valid, answer_invalid}
 use Rattle.langtag_answers.proofs.check.CheckAnswerer.put_answer.Goals as goal

@@ -1,7 +1,7 @@
 use Rattle.std.proofs.Common.{None, Some, sym, ap, ◌∙◌}
 use Rattle.langtag.specs.Text.{lang_tag_text}
-use Rattle.langtag_distance.specs.Prepared.{is_prepared_for}
-use Rattle.langtag_span.proofs.TagsAt.{one_tag_at}
+use Rattle.langtag_choice.specs.Prepared.{is_prepared_for}
+use Rattle.langtag_c.proofs.TagsAt.{one_tag_at}
 use Rattle.langtag_c.proofs.ChoiceLaws.{current_no_tag, current_tag, stale_tag}
 use Rattle.langtag_c.proofs.prepare.PreparedTag.current_in.Goals as goal
 

@@ -7,4 +7,4 @@ returns c = λ tag there.
     let text = c.args.self.now.text.now in
     let tags = c.args.self.now.tags.now in
     let inside = subst (λ n. c.args.index < n) (current_count text tags) c.requires in
-    entry_bytes text (get_or tags c.args.index no_entry) c.bytes_in.result.now tag c.bytes_in.ensures (sym (current_entry text tags c.args.index no_entry inside) ∙ there)
+    entry_bytes text (get_or tags c.args.index no_entry) c.bytes_in.result.now tag c.bytes_in.ensures.bytes (sym (current_entry text tags c.args.index no_entry inside) ∙ there)

@@ -1,5 +1,5 @@
 use Rattle.std.proofs.Common.{IsTrue, get_or, sym, subst, ◌∙◌, ◌<◌}
-use Rattle.langtag_distance.specs.Prepared.{is_prepared_for}
+use Rattle.langtag_choice.specs.Prepared.{is_prepared_for}
 use Rattle.langtag_c.proofs.ChoiceLaws.{current_count, current_entry, entry_form, no_entry, some_borrowed}
 use Rattle.langtag_c.proofs.prepare.PreparedTagsTagList.form_at.Goals as goal
 

@@ -1,5 +1,5 @@
 use Rattle.std.proofs.Common.{◌≡◌, length}
-use Rattle.langtag_span.specs.Spanned.{ranges_at}
+use Rattle.langtag_c.specs.Spanned.{ranges_at}
 use Rattle.langtag_c.proofs.spanned_ranges.SpannedRangesRangeList.split_range.Given as goal
 
 abbrev pub invariant-loop-first : goal.invariant-loop-first

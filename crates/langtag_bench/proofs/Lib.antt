@@ -1,2 +1,0 @@
-mod KeptEnds
-mod TagBytes

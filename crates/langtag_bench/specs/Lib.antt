@@ -1,2 +1,0 @@
-pub mod PartEnds
-pub mod PartLengths

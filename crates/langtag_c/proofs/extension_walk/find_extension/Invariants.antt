@@ -1,0 +1,16 @@
+use Rattle.langtag_keyword.proofs.Common.{◌≡◌, find, extension_texts}
+use Rattle.langtag_extension.specs.Decided.{opens_alike}
+use Rattle.langtag_extension.specs.Spelling.{IsExtensions}
+use Rattle.langtag_c.specs.Spans.{IsWithin, span_text}
+use Rattle.langtag_c.proofs.extension_walk.find_extension.Given as goal
+
+-- what was passed over are other extensions
+abbrev pub invariant-loop-part : goal.invariant-loop-part
+invariant-loop-part l = record {
+  within : IsWithin l.bytes l.rest;
+  extensions : IsExtensions (span_text l.bytes l.rest);
+  same : find (opens_alike l.singleton) (extension_texts (span_text l.bytes l.rest)) ≡ find (opens_alike l.singleton) (extension_texts (span_text l.bytes l.initial.rest));
+}
+
+abbrev pub decreases-loop-part : goal.decreases-loop-part
+decreases-loop-part l = l.rest.len

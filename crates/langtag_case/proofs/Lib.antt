@@ -1,2 +1,0 @@
-mod PieceLaws
-pub mod RecommendedLaws

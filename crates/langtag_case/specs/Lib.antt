@@ -1,3 +1,0 @@
-pub mod RecommendedCase
-pub mod Walk
-pub mod Text

@@ -1,0 +1,243 @@
+-- Ranges as they are read, and tags that are far from a range, as their first letters and the numbers of languages show.
+use Rattle.langtag_scan.proofs.Prelude.{◌≡◌, ℕ, true, not, ◌==◌, List, [], ◌∷◌, length, length-drop, length-take, take, drop, filter, refl, sym, ap, ◌∙◌, arith, ◌&&◌, ◌||◌, codes, Bool, false, subst, ◌<◌, ◌≤◌, ◌+◌, ◌-◌, ◌*◌, cond, get_or, Option, Some, None, option_map, nat_tests, eqb_tells, common_steps, and_parts, both_ways, eq-eqb, false_from_ne_true, or_cases, or_parts, not-true, take_while-cons, ForSome, list_all, after_first, before_first}
+use Rattle.langtag_scan.specs.Grammar.{are_alike, fold_byte, are_alike-decides, subtags, are_letters, is_extended, is_letter, is_primary}
+use Rattle.std.proofs.Common.{lit≤}
+use Rattle.langtag_range.proofs.AlikeTexts.{is_star-fold}
+use Rattle.langtag_range.proofs.BasicForms.{basic_form-basic, basic_of, is_plain, IsBasicOf, is_language_range-from_basic, hyphened_range}
+use Rattle.langtag_range.proofs.Among.{length-alike}
+use Rattle.langtag_range.specs.Definitions.{ends_subtag, ends_in_single, basic_text, basic_form, are_extended_range, is_basic_range, is_language_range, is_star, hyphened, is_separator}
+use Rattle.langtag_cldr.proofs.CommonTexts.{nothing_read, read_byte, read_nothing, some_length, all_fields, next_part, no_fields}
+use Rattle.langtag_cldr.specs.Definitions.{matching_form, language_replaced, matching_fields, after_common, BeginsPlain, counted, fields_of_subtags, text_fields, last_language, counted_parts, language_aliases, Likely, known, language_alone, likely_for}
+use Rattle.langtag_choice.specs.Nearness.{is_fallback, kept}
+use Rattle.langtag_cldr.proofs.AddedTwice.{either_way}
+use Rattle.langtag_scan.proofs.Disjoint.{extended_three}
+use Rattle.langtag_text.specs.Numbers.{letter_number}
+use Rattle.langtag_text.proofs.Letters.{letter_number-tells, number_of_two, primary_length, primary_letters}
+use Rattle.langtag_text.specs.Fields.{Fields}
+use Rattle.langtag_cldr.proofs.AlikeFields.{completed_language}
+use Rattle.langtag_text.proofs.Alike.{alike_length}
+use Rattle.langtag_choice.specs.Distance.{distance_of_texts, language_distance}
+use Rattle.langtag_choice.specs.FirstLetters.{HasNoExtended, IsLanguageOf, IsShort, first_two}
+use Rattle.langtag_choice.specs.NearLanguages.{AreFar, HasNumber, HaveOneLanguage, form_number, is_among_numbers}
+use Rattle.langtag_choice.specs.declared.matching_tables.TheConstants.{SHORT_ALIAS_KEYS}
+use Rattle.langtag_choice.proofs.AlikeDistances.{matching_form-alike}
+
+-- ---- a range of a header, and "*"
+
+pub basic_read : (range : List ℕ) → is_basic_range (hyphened range) ≡ true → basic_text range ≡ hyphened range
+unfolding basic_text
+basic_read range is = basic_form-basic (hyphened range) is
+
+pub range_read : (range : List ℕ) → is_basic_range (hyphened range) ≡ true → is_language_range (hyphened range) ≡ true
+range_read range = is_language_range-from_basic (hyphened range)
+
+pub star_read : (range : List ℕ) → are_alike range (codes "*") ≡ is_star range
+unfolding fold_byte
+star_read range = is_star-fold range
+
+-- ---- its matching form
+
+pub counted_plain : (ss : List (List ℕ)) → counted (filter is_plain ss) ≡ counted ss
+counted_plain [] = refl
+counted_plain (s ∷ ss) = grind (arith, common_steps, counted_plain ss, is_plain)
+
+fields_read : (text : List ℕ) → is_language_range text ≡ true → text_fields (basic_form text) ≡ text_fields text
+unfolding text_fields
+fields_read text is = by_subtags (subtags text) refl is (basic_of text is)
+  where
+    by_subtags : (ss : List (List ℕ)) → subtags text ≡ ss → are_extended_range ss ≡ true → IsBasicOf text (basic_form text) → fields_of_subtags (subtags (basic_form text)) ≡ fields_of_subtags (subtags text)
+    by_subtags [] are range basic = absurd cc
+    by_subtags (first ∷ others) are range basic = rw (basic.subtags first others are, are, counted_plain others) refl
+
+pub form_read : (range : List ℕ) → is_language_range (hyphened range) ≡ true → matching_form (basic_text range) ≡ matching_form range
+unfolding matching_form basic_text
+form_read range is = grind (arith, nat_tests, basic_of (hyphened range) is, hyphened_range (basic_form (hyphened range)), fields_read (hyphened range) is)
+
+-- ---- what is left of it and of a tag
+
+tag_left : (range tag : List ℕ) → are_alike (take (length tag) range) tag ≡ (length (after_common range tag).1 == 0)
+tag_left [] [] = refl
+tag_left [] (b ∷ tag) = rw (some_length b tag) refl
+tag_left (a ∷ range) [] = refl
+tag_left (a ∷ range) (b ∷ tag) = grind (arith, nat_tests, some_length b tag, tag_left range tag)
+
+tag_dropped : (range tag : List ℕ) → (length (after_common range tag).1 == 0) ≡ true → drop (length tag) range ≡ (after_common range tag).0
+tag_dropped [] [] none = refl
+tag_dropped [] (b ∷ tag) none = refl
+tag_dropped (a ∷ range) [] none = refl
+tag_dropped (a ∷ range) (b ∷ tag) none = grind (arith, tag_dropped range tag, some_length b tag)
+
+range_left : (range tag : List ℕ) → are_alike range (take (length range) tag) ≡ (length (after_common range tag).0 == 0)
+range_left [] tag = refl
+range_left (a ∷ range) [] = rw (some_length a range) refl
+range_left (a ∷ range) (b ∷ tag) = grind (arith, nat_tests, some_length a range, range_left range tag)
+
+range_dropped : (range tag : List ℕ) → (length (after_common range tag).0 == 0) ≡ true → drop (length range) tag ≡ (after_common range tag).1
+range_dropped [] tag none = refl
+range_dropped (a ∷ range) [] none = refl
+range_dropped (a ∷ range) (b ∷ tag) none = grind (arith, range_dropped range tag, some_length a range)
+
+ends_read : (left : List ℕ) → BeginsPlain left → ends_subtag (basic_text left) ≡ ends_subtag (hyphened left)
+ends_read [] plain = ap ends_subtag read_nothing
+ends_read (a ∷ left) plain = ap ends_subtag (read_byte a left plain)
+
+pub range_starts : (range tag left rest : List ℕ) → (left, rest) ≡ after_common (basic_text range) tag → (length rest == 0) ≡ are_alike (take (length tag) (basic_text range)) tag
+range_starts range tag left rest is = ap (λ p. length p.1 == 0) is ∙ sym (tag_left (basic_text range) tag)
+
+module _ (range tag left rest : List ℕ) (plain : BeginsPlain left) (is : (basic_text left, rest) ≡ after_common (basic_text range) tag) where
+  -- a tag is what lookup falls back to if the range begins with it
+  pub tag_begins : is_fallback (basic_text range) tag ≡ ((length rest == 0) && (ends_subtag (hyphened left) && ((length left == 0) || not (ends_in_single tag))))
+  tag_begins =
+      let begin = take (length tag) (basic_text range) in
+      grind (arith, nat_tests, tag_left, tag_dropped, ends_read left plain, nothing_read left plain, length-alike begin tag, are_alike-decides begin tag, length-take, length-drop)
+
+  -- a tag begins with a range, and ends or goes on with a hyphen
+  pub range_begins : (are_alike (basic_text range) (take (length (basic_text range)) tag) && ends_subtag (drop (length (basic_text range)) tag)) ≡ ((length left == 0) && ends_subtag rest)
+  range_begins = grind (arith, nat_tests, range_left, nothing_read, range_dropped)
+
+-- ---- a language of two letters that is not replaced
+
+-- a row for a language of two letters has its number among the short keys
+abbrev is_listed : Likely → Bool
+is_listed row = are_letters row.from.language && (not (length row.from.language == 2) || is_among_numbers SHORT_ALIAS_KEYS (letter_number row.from.language))
+
+aliases_listed : list_all is_listed language_aliases ≡ true
+unfolding language_aliases letter_number is_letter fold_byte
+aliases_listed = refl
+
+module _ (key : Fields) (two : length key.language ≡ 2) (letters : are_letters key.language ≡ true) (absent : is_among_numbers SHORT_ALIAS_KEYS (letter_number key.language) ≡ false) where
+  same_number : (word : List ℕ) → are_letters word ≡ true → are_alike word key.language ≡ true → letter_number key.language ≡ letter_number word
+  same_number word plain alike = grind (arith, nat_tests, eqb_tells (letter_number key.language) (letter_number word), both_ways, letter_number-tells word key.language plain letters)
+
+  apart : (row : Likely) → is_listed row ≡ true → are_alike row.from.language key.language ≡ false
+  apart row listed = grind (arith, common_steps, false_from_ne_true, and_parts, same_number, or_cases)
+
+  no_alias : (rows : List Likely) → list_all is_listed rows ≡ true → likely_for rows (language_alone key) ≡ None
+  no_alias [] all = refl
+  no_alias (row ∷ rows) all = grind (arith, nat_tests, and_parts (is_listed row) (list_all is_listed rows) all, apart row, no_alias rows)
+
+  not_replaced : language_replaced key ≡ key
+  unfolding language_replaced
+  not_replaced = rw (no_alias language_aliases aliases_listed) refl
+
+-- ---- heads
+
+head-take : (n : ℕ) (text : List ℕ) → 2 ≤ length (take n text) → first_two (take n text) ≡ first_two text
+head-take n text long = grind (arith, common_steps)
+
+-- ---- what a text begins with
+
+unmarked : (x : ℕ) (text : List ℕ) → is_separator x ≡ false → before_first is_separator (x ∷ text) ≡ x ∷ before_first is_separator text
+unmarked x text is = take_while-cons (λ b. not (is_separator b)) x text ∙ ap (λ b. cond (not b) (x ∷ before_first is_separator text) []) is
+
+pub few_extended : (text : List ℕ) → length text ≤ 2 → is_extended (before_first is_separator text) ≡ false
+few_extended text few = grind (arith, common_steps, false_from_ne_true, extended_three, length-take)
+
+-- no mark stands at the third place from 0 on
+longer : (x y z n : ℕ) (text : List ℕ) → is_separator n ≡ false → is_extended (before_first is_separator (x ∷ y ∷ z ∷ n ∷ text)) ≡ false
+unfolding is_extended
+longer x y z n text other = grind (arith, common_steps, false_from_ne_true, extended_three, unmarked)
+
+not_primary : (text : List ℕ) → length text ≤ 1 → is_primary text ≡ true → ⊥
+not_primary text few primary = let long = primary_length text primary in omega (arith, few, long)
+
+-- a text of two bytes, and one with a mark after two
+two_short : (a b : ℕ) → IsShort (a ∷ b ∷ [])
+unfolding is_extended
+two_short a b = grind (arith, nat_tests, not_primary (before_first is_separator (a ∷ b ∷ [])))
+
+marked_short : (a b m : ℕ) (rest : List ℕ) → is_separator m ≡ true → HasNoExtended rest → IsShort (a ∷ b ∷ m ∷ rest)
+marked_short a b m rest mark alone = grind (arith, nat_tests, not_primary (before_first is_separator (a ∷ b ∷ m ∷ rest)))
+
+pub short_of_two : (text : List ℕ) → 2 ≤ length text → length text < 3 → IsShort text
+short_of_two [] least most = absurd (omega (arith, least))
+short_of_two (a ∷ []) least most = absurd (omega (arith, least))
+short_of_two (a ∷ b ∷ []) least most = two_short a b
+short_of_two (a ∷ b ∷ m ∷ rest) least most = absurd (omega (arith, most))
+
+pub short_of_more : (text : List ℕ) → 3 ≤ length text → is_separator (get_or text 2 0) ≡ true → HasNoExtended (drop 3 text) → IsShort text
+short_of_more [] least mark alone = absurd (omega (arith, least))
+short_of_more (a ∷ []) least mark alone = absurd (omega (arith, least))
+short_of_more (a ∷ b ∷ []) least mark alone = absurd (omega (arith, least))
+short_of_more (a ∷ b ∷ m ∷ rest) least mark alone = marked_short a b m rest mark alone
+
+pub extended_letter : (text : List ℕ) → 1 ≤ length text → is_letter (get_or text 0 0) ≡ false → is_extended (before_first is_separator text) ≡ false
+unfolding is_extended
+extended_letter text some other = grind (arith, common_steps, unmarked, false_from_ne_true, and_parts, both_ways)
+
+pub extended_mark : (text : List ℕ) → 4 ≤ length text → is_separator (get_or text 3 0) ≡ false → is_extended (before_first is_separator text) ≡ false
+extended_mark text long other = grind (arith, common_steps, longer)
+
+-- ---- the language of a text
+
+known_two : (text : List ℕ) → length text ≡ 2 → known (codes "und") text ≡ text
+known_two text two = rw (false_from_ne_true (are_alike (codes "und") text) (λ yes. let same = alike_length (codes "und") text yes in omega (arith, same, two))) refl
+
+module _ (text : List ℕ) (short : IsShort text) where
+  language_first : is_primary (before_first is_separator text) ≡ true → last_language (known (codes "und") (before_first is_separator text)) (counted_parts (after_first is_separator text)) ≡ before_first is_separator text
+  language_first primary = grind (arith, known_two, nat_tests, next_part, or_parts, not-true, unmarked, some_length)
+
+  -- the language is the text before the first separator
+  text_language : (f : Fields) → text_fields (hyphened text) ≡ Some f → (is_primary f.language ≡ true) × (length f.language ≡ 2) × (first_two f.language ≡ first_two text)
+  text_language f is = grind (arith, either_way, all_fields, language_first, head-take, primary_length, no_fields)
+
+-- the number of two letters
+number_of_letters : (language : List ℕ) (letters : ℕ × ℕ) → length language ≡ 2 → first_two language ≡ Some letters → letter_number language ≡ (letters.0 - 96) * 26 + (letters.1 - 96)
+number_of_letters language letters two is = grind (arith, nat_tests, number_of_two)
+
+pub language_of_letters :
+    (letters : ℕ × ℕ) (number : ℕ) → number ≡ (letters.0 - 96) * 26 + (letters.1 - 96) → is_among_numbers SHORT_ALIAS_KEYS number ≡ false → IsLanguageOf letters number
+unfolding matching_form
+language_of_letters letters number number_is absent text short begins = by_und (are_alike (basic_text text) (codes "und"))
+  where
+    by_fields : (o : Option Fields) → text_fields (hyphened text) ≡ o → ForSome (option_map matching_fields o) (HasNumber number)
+    by_fields None is form made = absurd cc
+    by_fields (Some f) is form made =
+        let there = text_language text short f is in
+        let plain = primary_letters f.language there.0 in
+        let is_number : letter_number f.language ≡ number = number_of_letters f.language letters there.1 (there.2 ∙ begins) ∙ sym number_is in
+        let same = not_replaced f there.1 plain (ap (is_among_numbers SHORT_ALIAS_KEYS) is_number ∙ absent) in
+        let some : 0 < length (language_replaced f).language = rw same (omega (arith, there.1)) in
+        let made_is : matching_fields f ≡ form = cc in
+        let language = ap (λ f. f.language) (sym made_is) ∙ completed_language (language_replaced f) some ∙ ap (λ f. f.language) same in
+        (ap are_letters language ∙ plain, ap letter_number language ∙ is_number)
+
+    by_und : (b : Bool) → ForSome (cond b None (option_map matching_fields (text_fields (hyphened text)))) (HasNumber number)
+    by_und true form made = absurd cc
+    by_und false form made = by_fields (text_fields (hyphened text)) refl form made
+
+-- ---- how far it is
+
+number_had : (own : ℕ) (f : Fields) → form_number (Some f) ≡ Some own → HasNumber own f
+number_had own f is = grind (arith, nat_tests)
+
+pub number_has : (f : Fields) (number : ℕ) → are_letters f.language ≡ true → number ≡ letter_number f.language → form_number (Some f) ≡ Some number
+number_has f number letters is = grind (arith, nat_tests)
+
+pub number_is : (o : Option Fields) (f : Fields) (number : ℕ) → o ≡ Some f → are_letters f.language ≡ true → number ≡ letter_number f.language → ForSome o (HasNumber number)
+number_is o f number is letters number_of g there = let same : f ≡ g = cc in (ap (λ f. are_letters f.language) (sym same) ∙ letters, ap (λ f. letter_number f.language) (sym same) ∙ sym number_of)
+
+-- a range and a tag whose languages are far
+pub far_by_numbers :
+    (own other : ℕ) (range tag : List ℕ) → AreFar own other → form_number (matching_form range) ≡ Some own → ForSome (matching_form tag) (HasNumber other) → 50 ≤ distance_of_texts range tag
+unfolding distance_of_texts
+far_by_numbers own other range tag far desired supported =
+    grind (arith, nat_tests, lit≤, number_had own, false_from_ne_true (are_alike range tag), matching_form-alike range tag, are_alike-decides range tag)
+
+-- languages with one number are equal
+pub one_language : (own other : ℕ) (r t : Option Fields) → form_number r ≡ Some own → ForSome t (HasNumber other) → own ≡ other → HaveOneLanguage r t
+one_language own other r t own_is other_is same d s d_is s_is =
+    let has = number_had own d (subst (λ o. form_number o ≡ Some own) d_is own_is) in
+    let its = other_is s s_is in
+    sym (letter_number-tells d.language s.language has.0 its.0) ∙ eq-eqb (letter_number s.language) (letter_number d.language) (its.1 ∙ sym same ∙ sym has.1)
+
+pub none_between_forms : (r t : Option Fields) (d s : Fields) → HaveOneLanguage r t → r ≡ Some d → t ≡ Some s → 0 ≡ language_distance d s
+unfolding language_distance
+none_between_forms r t d s one r_is t_is = grind arith
+
+-- ---- what lookup keeps
+
+pub nothing_kept :
+    (letters begin : ℕ × ℕ) (range tag : List ℕ) → first_two range ≡ Some letters → first_two tag ≡ Some begin → (first_two tag ≡ Some letters → ⊥) → kept range tag ≡ 0
+unfolding kept
+nothing_kept letters begin range tag starts is other = grind (arith, nat_tests, and_parts, length-alike, head-take)

@@ -1,0 +1,155 @@
+-- What a prepared form says of the tag for which it was prepared.
+use Rattle.langtag_scan.proofs.Prelude.{◌≡◌, ℕ, Bool, true, List, [], ◌∷◌, ◌==◌, Option, Some, refl, subst, sym, ap, ◌∙◌, ◌&&◌, ◌||◌, get_or, arith, bytes_eq, ◌≤◌, length, ◌<◌, false, nat_tests, and_parts, eqb-true, or_cases, false_from_ne_true, bytes_eq-Decides, ForSome, MatchOption}
+use Rattle.std.proofs.lemmas.Grind.{same_number_lists}
+use Rattle.langtag_choice.specs.Distance.{distance_of_texts, fields_distance}
+use Rattle.langtag_choice.specs.Near.{IsNearer}
+use Rattle.langtag_choice.specs.declared.nearness.Nearness.{Nearness}
+use Rattle.langtag_text.specs.Fields.{Fields}
+use Rattle.langtag_choice.specs.FirstLetters.{first_two}
+use Rattle.langtag_choice.specs.NearLanguages.{HasNumber}
+use Rattle.langtag_choice.specs.Prepared.{has_fields, has_head, is_prepared_for}
+use Rattle.langtag_choice.specs.declared.prepared_form.PreparedForm.{PreparedForm}
+use Rattle.std.specs.Bool.{nat_le}
+use Rattle.std.proofs.lemmas.Bool.{eq-eqb}
+use Rattle.std.specs.Cmp.Derive.{both_true}
+use Rattle.langtag_scan.specs.Grammar.{are_alphanumeric, are_letters, is_alphanumeric, is_digit, is_letter, is_primary}
+use Rattle.langtag_text.specs.Numbers.{letter_number}
+use Rattle.langtag_text.specs.FieldClasses.{is_language_field, is_script_field, is_region_field}
+use Rattle.langtag_scan.proofs.Laws.{script_four, region_two_three}
+use Rattle.langtag_cldr.specs.Matching.{matching_form}
+use Rattle.langtag_cldr.specs.Numbers.{name_text}
+use Rattle.langtag_text.proofs.Alike.{same_fields}
+
+-- ---- a field that zeros fill up to four bytes
+
+not_zero : (b : ℕ) → is_alphanumeric b ≡ true → (b == 0) ≡ false
+unfolding is_letter is_digit
+not_zero b is = false_from_ne_true (b == 0) (λ zero. let no : false ≡ true = subst (λ n. is_alphanumeric n ≡ true) (eqb-true b 0 zero) is in absurd cc)
+
+pub name_of_two :
+    (field : List ℕ) → 2 ≤ length field → length field < 3 → are_alphanumeric field ≡ true →
+    name_text (get_or field 0 0 ∷ get_or field 1 0 ∷ 0 ∷ 0 ∷ []) ≡ field
+name_of_two [] least most is = absurd (omega arith)
+name_of_two (a ∷ []) least most is = absurd (omega arith)
+name_of_two (a ∷ b ∷ []) least most is = rw (not_zero b (and_parts (is_alphanumeric b) true (and_parts (is_alphanumeric a) _ is).1).0) refl
+name_of_two (a ∷ b ∷ c ∷ s) least most is = absurd (omega arith)
+
+pub name_of_three :
+    (field : List ℕ) → 3 ≤ length field → length field < 4 → are_alphanumeric field ≡ true →
+    name_text (get_or field 0 0 ∷ get_or field 1 0 ∷ get_or field 2 0 ∷ 0 ∷ []) ≡ field
+name_of_three [] least most is = absurd (omega arith)
+name_of_three (a ∷ []) least most is = absurd (omega arith)
+name_of_three (a ∷ b ∷ []) least most is = absurd (omega arith)
+name_of_three (a ∷ b ∷ c ∷ []) least most is =
+    let rest = (and_parts (is_alphanumeric a) _ is).1 in
+    let last = (and_parts (is_alphanumeric b) _ rest).1 in
+    rw (not_zero b (and_parts (is_alphanumeric b) _ rest).0, not_zero c (and_parts (is_alphanumeric c) true last).0) refl
+name_of_three (a ∷ b ∷ c ∷ d ∷ s) least most is = absurd (omega arith)
+
+pub name_of_four :
+    (field : List ℕ) → 4 ≤ length field → length field < 5 → are_alphanumeric field ≡ true →
+    name_text (get_or field 0 0 ∷ get_or field 1 0 ∷ get_or field 2 0 ∷ get_or field 3 0 ∷ []) ≡ field
+name_of_four [] least most is = absurd (omega arith)
+name_of_four (a ∷ []) least most is = absurd (omega arith)
+name_of_four (a ∷ b ∷ []) least most is = absurd (omega arith)
+name_of_four (a ∷ b ∷ c ∷ []) least most is = absurd (omega arith)
+name_of_four (a ∷ b ∷ c ∷ d ∷ []) least most is =
+    let rest = (and_parts (is_alphanumeric a) _ is).1 in
+    let more = (and_parts (is_alphanumeric b) _ rest).1 in
+    let last = (and_parts (is_alphanumeric c) _ more).1 in
+    rw (not_zero b (and_parts (is_alphanumeric b) _ rest).0, not_zero c (and_parts (is_alphanumeric c) _ more).0, not_zero d (and_parts (is_alphanumeric d) true last).0) refl
+name_of_four (a ∷ b ∷ c ∷ d ∷ e ∷ s) least most is = absurd (omega arith)
+
+-- no field has one byte
+pub language_counted : (text : List ℕ) → is_language_field text ≡ true → length text ≡ 1 → ⊥
+unfolding is_primary
+language_counted [] good one = omega arith
+language_counted (b ∷ []) good one = let no : false ≡ true = good in cc
+language_counted (b ∷ c ∷ s) good one = omega arith
+
+pub script_counted : (text : List ℕ) → is_script_field text ≡ true → length text ≡ 1 → ⊥
+script_counted text good = grind (arith, script_four)
+
+pub region_counted : (text : List ℕ) → is_region_field text ≡ true → length text ≡ 1 → ⊥
+region_counted text good = grind (arith, region_two_three)
+
+-- a form is kept if each of its members is
+pub form_is_kept :
+    (f : Fields) (first second : ℕ) (p : PreparedForm) → length f.language ≤ 3 → are_letters f.language ≡ true → letter_number f.language ≡ p.number →
+    p.letters ≡ first ∷ second ∷ [] → name_text p.language ≡ f.language → name_text p.script ≡ f.script → name_text p.region ≡ f.region →
+    (has_head f (first, second) p && has_fields f p) ≡ true
+form_is_kept f first second p short are number letters language script region =
+    let counted : nat_le (length f.language) 3 ≡ true = grind (arith, nat_tests) in
+    let one : (first == get_or p.letters 0 0) ≡ true = eq-eqb first _ (rw letters refl) in
+    let two : (second == get_or p.letters 1 0) ≡ true = eq-eqb second _ (rw letters refl) in
+    both_true
+    (both_true (both_true (both_true counted are) (eq-eqb (letter_number f.language) p.number number)) (both_true one two))
+    (both_true ((bytes_eq-Decides (name_text p.language) f.language).1 language)
+    (both_true ((bytes_eq-Decides (name_text p.script) f.script).1 script) ((bytes_eq-Decides (name_text p.region) f.region).1 region)))
+
+pub or_second : (a b : Bool) → b ≡ true → (a || b) ≡ true
+or_second a b is = grind (arith, nat_tests)
+
+pub record Kept (tag : List ℕ) (p : PreparedForm) : Type 0 where
+  pub form : Fields
+  pub letters : ℕ × ℕ
+  pub form_is : matching_form tag ≡ Some form
+  pub letters_are : first_two tag ≡ Some letters
+  pub head : has_head form letters p ≡ true
+  pub fields : has_fields form p ≡ true
+
+letters_are : (f : Fields) (letters : ℕ × ℕ) (p : PreparedForm) → has_head f letters p ≡ true → Some letters ≡ Some (get_or p.letters 0 0, get_or p.letters 1 0)
+letters_are f letters p is = grind (arith, nat_tests, and_parts, eqb-true)
+
+kept_of : (tag : List ℕ) (p : PreparedForm) → is_prepared_for tag p ≡ true → (p.number ≡ 0 → ⊥) → Kept tag p
+unfolding is_prepared_for
+kept_of tag p is some = grind (arith, letters_are, eqb-true, or_cases, and_parts)
+
+abbrev fields_of : List ℕ → List ℕ → List ℕ → Fields
+fields_of l s r = record { language = l; script = s; region = r }
+
+-- the form that is kept is the form of the tag
+pub form_kept :
+    (tag : List ℕ) (p : PreparedForm) (fields : Fields) → is_prepared_for tag p ≡ true → (p.number ≡ 0 → ⊥) →
+    fields.language ≡ name_text p.language → fields.script ≡ name_text p.script → fields.region ≡ name_text p.region → matching_form tag ≡ Some fields
+form_kept tag p fields is some language script region =
+    let kept = kept_of tag p is some in
+    let parts = and_parts (bytes_eq (name_text p.language) kept.form.language) _ kept.fields in
+    let more = and_parts (bytes_eq (name_text p.script) kept.form.script) (bytes_eq (name_text p.region) kept.form.region) parts.1 in
+    kept.form_is ∙ ap Some (same_fields kept.form fields
+    (sym ((bytes_eq-Decides (name_text p.language) kept.form.language).0 parts.0) ∙ sym language)
+    (sym ((bytes_eq-Decides (name_text p.script) kept.form.script).0 more.0) ∙ sym script)
+    (sym ((bytes_eq-Decides (name_text p.region) kept.form.region).0 more.1) ∙ sym region))
+
+-- the number that is kept is the number of the tag's language
+pub number_kept : (tag : List ℕ) (p : PreparedForm) (number : ℕ) → is_prepared_for tag p ≡ true → (p.number ≡ 0 → ⊥) → number ≡ p.number → ForSome (matching_form tag) (HasNumber number)
+number_kept tag p number is some same =
+    let kept = kept_of tag p is some in
+    grind (arith, nat_tests, and_parts, eqb-true)
+
+-- the letters that are kept are the first letters of the tag
+pub letters_kept : (tag : List ℕ) (p : PreparedForm) → is_prepared_for tag p ≡ true → (p.number ≡ 0 → ⊥) → first_two tag ≡ Some (get_or p.letters 0 0, get_or p.letters 1 0)
+letters_kept tag p is some =
+    let kept = kept_of tag p is some in
+    kept.letters_are ∙ letters_are kept.form kept.letters p kept.head
+
+-- ---- how near it is
+
+-- the nearness of forms is the nearness of their texts
+pub near_forms :
+    (result : Option Nearness) (limit : ℕ) (range tag : List ℕ) (d s : Fields) → matching_form range ≡ Some d → matching_form tag ≡ Some s →
+    MatchOption result (limit ≤ fields_distance d s) (IsNearer limit (fields_distance d s) (Some s)) →
+    MatchOption result (limit ≤ distance_of_texts range tag) (IsNearer limit (distance_of_texts range tag) (matching_form tag))
+unfolding distance_of_texts
+near_forms result limit range tag d s range_is tag_is near = grind arith
+
+-- ---- equal strings
+
+pub unequal_lengths : (a b : List ℕ) → (length a ≡ length b → ⊥) → false ≡ bytes_eq a b
+unequal_lengths a b other = sym (false_from_ne_true (bytes_eq a b) (λ yes. other (ap length ((bytes_eq-Decides a b).0 yes))))
+
+pub unequal_at : (a b : List ℕ) (k : ℕ) → (get_or a k 0 ≡ get_or b k 0 → ⊥) → false ≡ bytes_eq a b
+unequal_at a b k other = sym (false_from_ne_true (bytes_eq a b) (λ yes. other (ap (λ t. get_or t k 0) ((bytes_eq-Decides a b).0 yes))))
+
+pub equal_lists : (a b : List ℕ) → length a ≡ length b → ((k : ℕ) → k < length a → get_or a k 0 ≡ get_or b k 0) → true ≡ bytes_eq a b
+equal_lists a b same each = sym ((bytes_eq-Decides a b).1 (same_number_lists a b same each))

@@ -1,0 +1,155 @@
+//! A tag that may serve a range.
+ghost use Rattle.std.specs.Prelude.{◌≡◌, IsTrue, option_map, ◌≤◌, ℕ, ◌==◌, ◌&&◌, ◌||◌, nat_lt, ◌-◌, drop, length};
+ghost use Rattle.langtag_scan.specs.Prelude.{slice_cmp, is_lt, nat_cmp};
+ghost use Rattle.langtag_range.specs.Definitions.{is_language_range, hyphened, basic_text};
+ghost use Rattle.langtag_choice.specs.Variants.{lacking, variants_of};
+
+use crate::likely_region::unlikely;
+use crate::nearness::kept;
+use crate::variants::{has_variants, lacking_variants};
+use langtag_cldr::{TagFields, basic_len};
+use std::cmp::Ordering;
+
+/// How well a tag serves a range, the best first: at a distance below 16, at a distance below 50, or because only
+/// lookup finds it.
+#[derive(Clone, Copy, PartialEq, Eq, PartialOrd, Ord)]
+pub(crate) enum Service {
+    Near,
+    Acceptable,
+    LookUp,
+}
+
+impl Service {
+    ghost use Rattle.langtag_choice.specs.Serves.{service};
+    ghost use Rattle.langtag_choice.specs.Candidates.{service_number};
+
+    /// Returns how well a tag serves a range at a distance, which is 50 if only lookup finds the tag.
+    pub(crate) fn at(distance: u8) -> Service
+        ensures { service_number result ≡ service distance }
+    {
+        if distance < 16 {
+            Service::Near
+        } else if distance < 50 {
+            Service::Acceptable
+        } else {
+            Service::LookUp
+        }
+    }
+
+    /// Returns the least distance at which a tag serves a range in this way.
+    pub(crate) fn least_distance(self) -> u8
+        ensures { (distance : ℕ) → result ≤ distance → service_number self ≤ service distance }
+    {
+        match self {
+            Service::Near => 0,
+            Service::Acceptable => 16,
+            Service::LookUp => 50,
+        }
+    }
+}
+
+/// The part of a candidate that is compared first. The lesser of two ranks is better, and the first field in which they
+/// differ decides.
+#[derive(Clone, Copy, PartialEq, Eq, PartialOrd, Ord)]
+pub(crate) struct Rank {
+    pub(crate) service: Service,
+    /// 1 minus the weight of the range, in thousandths.
+    pub(crate) lack: u32,
+    /// The number of ranges before the range.
+    pub(crate) place: usize,
+    /// The distance of the tag, which is 50 if only lookup finds the tag.
+    pub(crate) distance: u8,
+}
+
+impl Rank {
+    /// Returns whether the range has more weight than another range, or the same weight and fewer ranges before it. The
+    /// other range is given by its own `lack` and `place`.
+    pub(crate) fn is_wanted_more(self, lack: u32, place: usize) -> bool
+        ensures { result ≡ (nat_lt self.lack lack || ((self.lack == lack) && nat_lt self.place place)) }
+    {
+        self.lack < lack || (self.lack == lack && self.place < place)
+    }
+
+    /// Returns whether the range is the one with this `lack` and `place`.
+    pub(crate) fn is_for(self, lack: u32, place: usize) -> bool
+        ensures { result ≡ ((self.lack == lack) && (self.place == place)) }
+    {
+        self.lack == lack && self.place == place
+    }
+}
+
+/// A tag that may serve a range, with the tag's index and matching form.
+#[derive(Clone, Copy)]
+pub(crate) struct Candidate<'a, 't> {
+    pub(crate) rank: Rank,
+    pub(crate) range: &'a [u8],
+    /// The number of variants of the range.
+    pub(crate) variants: usize,
+    pub(crate) tag: &'t [u8],
+    pub(crate) form: Option<TagFields<'t>>,
+    pub(crate) index: usize,
+    pub ghost counted: { variants ≡ length (variants_of (basic_text range.now)) },
+    pub ghost in_class: { IsTrue (is_language_range (hyphened range.now)) },
+}
+
+impl Candidate<'_, '_> {
+    ghost use Rattle.langtag_choice.specs.Candidates.{rank_of};
+    ghost use Rattle.langtag_choice.specs.Nearness.{kept};
+
+    /// Returns whether this candidate is better than another.
+    pub(crate) fn goes_before(&self, other: &Candidate<'_, '_>) -> bool
+        ensures { result ≡ is_lt (slice_cmp nat_cmp (rank_of self.now) (rank_of other.now)) }
+    {
+        match self.rank.cmp(&other.rank) {
+            Ordering::Less => true,
+            Ordering::Greater => false,
+            Ordering::Equal => self.breaks_tie(other),
+        }
+    }
+
+    /// Returns whether this candidate is better than another of the same rank. It compares how many of the variants of the
+    /// range the tags lack, then how much lookup removes from the range, then how likely the region is, and then the index.
+    fn breaks_tie(&self, other: &Candidate<'_, '_>) -> bool
+        ensures { result ≡ is_lt (slice_cmp nat_cmp (drop 4 (rank_of self.now)) (drop 4 (rank_of other.now))) }
+    {
+        let (lacking, others_lacking) = (self.lacking(), other.lacking());
+        if lacking != others_lacking {
+            return lacking < others_lacking;
+        }
+        let (lost, others_lost) = (self.lost(), other.lost());
+        if lost != others_lost {
+            return lost < others_lost;
+        }
+        let (unlikely, others) = (unlikely(self.form), unlikely(other.form));
+        if unlikely != others {
+            return unlikely < others;
+        }
+        self.index < other.index
+    }
+
+    /// Returns how many of the variants of the range the tag lacks.
+    #[tactic(auto, using(crate::proofs::VariantTexts::lacking_nothing))]
+    fn lacking(&self) -> usize
+        ensures { result ≡ lacking (basic_text self.now.range.now) self.now.tag.now }
+    {
+        if self.variants == 0 || !has_variants(self.tag) {
+            return self.variants;
+        }
+        lacking_variants(self.range, self.tag)
+    }
+
+    /// Returns how many bytes lookup removes from the range to find the tag, or the length of the range if lookup
+    /// does not find the tag.
+    fn lost(&self) -> usize
+        ensures { result ≡ length (basic_text self.now.range.now) - kept (basic_text self.now.range.now) self.now.tag.now }
+    {
+        basic_len(self.range).saturating_sub(kept(self.range, self.tag))
+    }
+}
+
+/// Returns the index of the tag that was found.
+pub(crate) fn index_of(found: Option<Candidate<'_, '_>>) -> Option<usize>
+    ensures { result ≡ option_map (λ c. c.index) found.entry }
+{
+    Some(found?.index)
+}

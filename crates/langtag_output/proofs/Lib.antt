@@ -1,4 +1,0 @@
-pub mod Taken
-pub mod WithSubtag
-pub mod Pushed
-pub mod FormLaws

@@ -1,4 +1,0 @@
-pub mod Form
-pub mod Output
-pub mod Writes
-pub mod WritesWhole

@@ -1,0 +1,40 @@
+-- The lengths and the classes of a language with its extended subtags, and what CLDR has for it.
+use Rattle.langtag_scan.proofs.Prelude.{◌≡◌, ℕ, ◌<◌, ◌≤◌, true, IsTrue, List, [], ◌∷◌, length, None, arith, length-append, common_steps}
+use Rattle.langtag_scan.specs.Grammar.{is_extended}
+use Rattle.langtag_scan.proofs.Laws.{of_primary, extended_three}
+use Rattle.langtag.specs.Definitions.{IsLanguage, SpellsLanguage}
+use Rattle.langtag_language.specs.Decided.{is_language}
+use Rattle.langtag_language.proofs.Rules.{IsLanguage-from_test}
+use Rattle.langtag_text.proofs.FieldClasses.{from_primary}
+use Rattle.langtag_text.proofs.Letters.{primary_length}
+use Rattle.langtag_text.specs.FieldClasses.{is_language_field}
+use Rattle.langtag_cldr.proofs.RowLaws.{all_long}
+use Rattle.langtag_parent.specs.Parent.{likely_script}
+
+-- ---- a language
+
+pub record IsOfLanguage (text : List ℕ) : Type 0 where
+  pub class : length text ≤ 3 → is_language_field text ≡ true
+  pub some : 1 ≤ length text
+  pub most : length text ≤ 15
+
+extended_four : (e : List ℕ) → is_extended e ≡ true → length (45 ∷ e) ≡ 4
+extended_four e h = let k = extended_three e h in omega arith
+
+spelled : (p : List ℕ) (es : List (List ℕ)) (text : List ℕ) → SpellsLanguage p es text → IsOfLanguage text
+spelled p [] text spells = grind (arith, common_steps, of_primary, primary_length, from_primary, spells.joined, spells.first)
+spelled p (a ∷ []) text spells = grind (arith, common_steps, length-append, primary_length, of_primary, extended_four, spells)
+spelled p (a ∷ b ∷ []) text spells = grind (arith, common_steps, length-append, primary_length, of_primary, extended_four, spells)
+spelled p (a ∷ b ∷ c ∷ []) text spells = grind (arith, common_steps, length-append, primary_length, of_primary, extended_four, spells)
+spelled p (a ∷ b ∷ c ∷ d ∷ es) text spells = absurd (omega (arith, spells.few))
+
+pub of_language : (text : List ℕ) → IsLanguage text → IsOfLanguage text
+of_language text (p, es, spells) = spelled p es text spells
+
+pub of_language_test : (text : List ℕ) → IsTrue (is_language text) → IsOfLanguage text
+of_language_test text is = of_language text (IsLanguage-from_test text is)
+
+-- ---- a language that is longer than those of CLDR
+
+pub likely_none : (language region : List ℕ) → 3 < length language → likely_script language region ≡ None
+likely_none language region long = grind (arith, all_long)

@@ -1,0 +1,200 @@
+-- A line of parents ends: a parent has fewer of region and script than the fields, or it is one of a few that CLDR names, whose lines are known.
+use Rattle.langtag_scan.proofs.Prelude.{◌≡◌, ℕ, zero, suc, ◌+◌, ◌<◌, ◌≤◌, ◌⊎◌, inl, inr, true, false, Bool, cond, List, [], ◌∷◌, ◌++◌, codes, flat_map, Option, None, Some, refl, sym, ap, ◌∙◌, subst, arith, ◌&&◌, ◌||◌, option_map, list_all, list_any, option_map_or, AllByRecursion, append_assoc, append-nil, bytes_eq, bytes_decides, and_parts, nat_tests}
+use Rattle.langtag_scan.specs.Grammar.{Record, are_alike, fold_byte}
+use Rattle.langtag_text.specs.Fields.{Fields}
+use Rattle.langtag_cldr.specs.Definitions.{Likely, are_alike_fields, language_alone, language_rows, likely_for, likely_subtags, other_rows, without_region, without_script}
+use Rattle.langtag_parent.specs.Chain.{above, bases_left, chain_of, endings, forms, hyphenated, line, rest_of, shorter, text_of, with_each}
+use Rattle.langtag_parent.specs.Parent.{fields_of, has_likely_script, is_empty, likely_script, other_script, parent_in_script, parent_of, parent_of_region, parent_of_script, short, stated, stated_or, usual_parent, with_script}
+use Rattle.langtag_parent.specs.ParentLaws.{EndsWithin}
+use Rattle.langtag_parent.specs.Base.{base_fields}
+use Rattle.langtag_parent.specs.declared.base.Base.{Base}
+use Rattle.langtag_parent.specs.ParentLocales.{parent_locales}
+
+-- ---- the parents that CLDR names
+
+abbrev named : List ℕ → List ℕ → List ℕ → Fields
+named language script region = record { language = language; script = script; region = region }
+
+abbrev known : List Fields
+known =
+    named (codes "en") [] (codes "001") ∷ named (codes "en") [] (codes "150") ∷ named (codes "en") [] (codes "IN") ∷ named (codes "es") [] (codes "419")
+    ∷ named (codes "fr") [] (codes "HT") ∷ named (codes "no") [] [] ∷ named (codes "pt") [] (codes "PT") ∷ named (codes "zh") (codes "Hant") (codes "HK") ∷ []
+
+abbrev same : Fields → Fields → Bool
+same a b = bytes_eq a.language b.language && (bytes_eq a.script b.script && bytes_eq a.region b.region)
+
+same-is : (a b : Fields) → same a b ≡ true → a ≡ b
+same-is a b is = grind (arith, and_parts, bytes_decides)
+
+known_case : (P : Fields → Type 0) (ks : List Fields) (g : Fields) → list_any (same g) ks ≡ true → AllByRecursion P ks → P g
+known_case P [] g is all = absurd cc
+known_case P (k ∷ ks) g is all = by_test (λ rest. known_case P ks g rest all.1) (same g k) refl
+  where
+    by_test : (list_any (same g) ks ≡ true → P g) → (b : Bool) → same g k ≡ b → P g
+    by_test later true alike = subst P (sym (same-is g k alike)) all.0
+    by_test later false differs = later (sym (ap (λ b. b || list_any (same g) ks) differs) ∙ is)
+
+abbrev is_known : Fields → Bool
+is_known g = list_any (same g) known
+
+-- a row names a parent for which t holds, or none
+abbrev names : (Fields → Bool) → Likely → Bool
+names t row = is_empty row.to.language || t row.to
+
+all_known : list_all (names is_known) parent_locales ≡ true
+unfolding parent_locales fold_byte
+all_known = refl
+
+known_lines : (k : ℕ) → AllByRecursion (λ g. line (suc (suc (suc (suc k)))) g ≡ line (suc (suc (suc k))) g) known
+unfolding parent_locales parent_of likely_subtags language_rows other_rows fold_byte
+known_lines k = (refl, (refl, (refl, (refl, (refl, (refl, (refl, (refl, tt))))))))
+
+-- ---- a parent is one of these, or has fewer parts
+
+abbrev parts : Fields → ℕ
+parts f = cond (is_empty f.region) 0 2 + cond (is_empty f.script) 0 1
+
+few_parts : (f : Fields) → parts f < 4
+few_parts f = by_test (is_empty f.region) (is_empty f.script)
+  where
+    by_test : (a b : Bool) → cond a 0 2 + cond b 0 1 < 4
+    by_test true true = omega arith
+    by_test true false = omega arith
+    by_test false true = omega arith
+    by_test false false = omega arith
+
+short_parts : (f : Fields) → parts (short f) ≤ parts f
+short_parts f = by_test (has_likely_script f)
+  where
+    by_test : (b : Bool) → parts (cond b (without_script f) f) ≤ parts f
+    by_test true = omega arith
+    by_test false = omega arith
+
+module _ (t : Fields → Bool) where
+  stated_named : (to g : Fields) → (is_empty to.language || t to) ≡ true → stated to ≡ Some g → t g ≡ true
+  stated_named to g named is = grind arith
+
+  row_named : (rows : List Likely) (f to : Fields) → list_all (names t) rows ≡ true → likely_for rows f ≡ Some to → (is_empty to.language || t to) ≡ true
+  row_named [] f to all there = absurd cc
+  row_named (row ∷ rows) f to all there = by_test (row_named rows f to (and_parts (names t row) (list_all (names t) rows) all).1) (are_alike_fields row.from f) there
+    where
+      by_test : (likely_for rows f ≡ Some to → (is_empty to.language || t to) ≡ true) → (b : Bool) → cond b (Some row.to) (likely_for rows f) ≡ Some to → (is_empty to.language || t to) ≡ true
+      by_test later true is = let same : row.to ≡ to = cc in subst (λ to. (is_empty to.language || t to) ≡ true) same (and_parts (names t row) (list_all (names t) rows) all).0
+      by_test later false is = later is
+
+  abbrev IsNext : Fields → Fields → Type 0
+  IsNext f g = (t g ≡ true) ⊎ (parts g < parts f)
+
+  module _ (all : list_all (names t) parent_locales ≡ true) where
+    stated_way : (f g : Fields) (other : Option Fields) → stated_or f other ≡ Some g → (t g ≡ true) ⊎ (other ≡ Some g)
+    stated_way f g other is = by_row (likely_for parent_locales f) refl is
+      where
+        by_row : (o : Option Fields) → likely_for parent_locales f ≡ o → option_map_or stated o other ≡ Some g → (t g ≡ true) ⊎ (other ≡ Some g)
+        by_row None there is = inr is
+        by_row (Some to) there is = inl (stated_named to g (row_named parent_locales f to all there) is)
+
+    script_way : (f g : Fields) (b : Bool) → is_empty f.script ≡ false → cond b (Some (language_alone f)) None ≡ Some g → IsNext f g
+    script_way f g true some is = let same : language_alone f ≡ g = cc in inr (subst (λ g. parts g < parts f) same (omega (arith, ap {B = ℕ} (λ b. cond b 0 1) some)))
+    script_way f g false some is = absurd cc
+
+    region_way : (f g : Fields) (o : Option (List ℕ)) → is_empty f.region ≡ false → option_map_or (λ s. parent_in_script (with_script f s)) o (Some (without_region f)) ≡ Some g → IsNext f g
+    region_way f g None some is = let same : without_region f ≡ g = cc in inr (subst (λ g. parts g < parts f) same (omega (arith, ap {B = ℕ} (λ b. cond b 0 2) some)))
+    region_way f g (Some s) some is = elim (stated_way (with_script f s) g (Some (without_region (with_script f s))) is) [
+      | inl it ↦ inl it
+      | inr cut ↦ let same : without_region (with_script f s) ≡ g = cc in inr (subst (λ g. parts g < parts f) same (omega (arith, ap {B = ℕ} (λ b. cond b 0 2) some, one_script (is_empty s))))
+    ]
+      where
+        one_script : (b : Bool) → cond b 0 1 ≤ 1
+        one_script true = omega arith
+        one_script false = omega arith
+
+    usual_way : (f g : Fields) (a b : Bool) → is_empty f.region ≡ a → is_empty f.script ≡ b → cond a (cond b None (parent_of_script f)) (parent_of_region f) ≡ Some g → IsNext f g
+    usual_way f g true true no_region no_script is = absurd cc
+    usual_way f g true false no_region script is = script_way f g (option_map_or (are_alike f.script) (likely_script f.language []) true) script is
+    usual_way f g false b region script is = region_way f g (other_script f) region is
+
+    way : (f g : Fields) → parent_of f ≡ Some g → IsNext f g
+    unfolding parent_of
+    way f g is = elim (stated_way f g (usual_parent f) is) [
+      | inl it ↦ inl it
+      | inr usual ↦ usual_way f g (is_empty f.region) (is_empty f.script) refl refl usual
+    ]
+
+-- ---- so the line ends
+
+abbrev Stays : ℕ → Fields → Type 0
+Stays m f = line (suc (suc (suc (suc m)))) f ≡ line (suc (suc (suc m))) f
+
+settled : (n m : ℕ) (f : Fields) → parts f < n → n ≤ m → Stays m f
+settled zero m f small few = absurd (omega (arith, small))
+settled (suc n) zero f small few = absurd (omega (arith, few))
+settled (suc n) (suc m) f small few = ap (λ rest. f ∷ rest) (by_parent (λ g less. settled n m g less (omega (arith, few))) (parent_of (short f)) refl)
+  where
+    by_parent : ((g : Fields) → parts g < n → Stays m g) → (o : Option Fields) → parent_of (short f) ≡ o → option_map_or (line (suc (suc (suc (suc m))))) o [] ≡ option_map_or (line (suc (suc (suc m)))) o []
+    by_parent later None is = refl
+    by_parent later (Some g) is = elim (way is_known all_known (short f) g is) [
+      | inl it ↦ known_case (Stays m) known g it (known_lines m)
+      | inr less ↦ later g (omega (arith, less, short_parts f, small))
+    ]
+
+-- no line is longer than seven
+pub whole_line : (f : Fields) → line 8 f ≡ line 7 f
+whole_line f = settled 4 4 f (few_parts f) (omega arith)
+
+ends_at : (n : ℕ) (f : Fields) → line (suc n) f ≡ line n f → EndsWithin n f
+ends_at zero f same = absurd cc
+ends_at (suc n) f same = λ parent is.
+    let rest : option_map_or (line (suc n)) (parent_of (short f)) [] ≡ option_map_or (line n) (parent_of (short f)) [] = cc in
+    ends_at n parent (sym (ap (λ o. option_map_or (line (suc n)) o []) is) ∙ rest ∙ ap (λ o. option_map_or (line n) o []) is)
+
+pub line_ends : (f : Fields) → EndsWithin 7 f
+line_ends f = ends_at 7 f (whole_line f)
+
+-- ---- what an iterator has left
+
+same_endings : (v : List ℕ) → endings v v ≡ v ∷ shorter v
+same_endings v = grind (arith, nat_tests)
+
+pub above_step : (v : List ℕ) (p : Option Fields) → above v p ≡ option_map_or (λ g. with_each (endings v v) g ++ above v (parent_of (short g))) p []
+above_step v None = refl
+above_step v (Some g) =
+    ap (λ list. with_each (v ∷ shorter v) g ++ flat_map (with_each (v ∷ shorter v)) list) (by_parent (parent_of (short g)))
+    ∙ ap (λ es. with_each es g ++ above v (parent_of (short g))) (sym (same_endings v))
+  where
+    by_parent : (o : Option Fields) → option_map_or (line 7) o [] ≡ option_map_or (line 8) o []
+    by_parent None = refl
+    by_parent (Some h) = sym (whole_line h)
+
+pub step_some :
+    (base : Base) (v rest t : List ℕ) → endings v rest ≡ rest ∷ endings v t →
+    with_each (endings v rest) (base_fields base) ++ above v (parent_of (short (base_fields base))) ≡ forms (base_fields base) rest ++ bases_left (Some base) t v
+step_some base v rest t is =
+    let f = base_fields base in
+    ap (λ es. with_each es f ++ above v (parent_of (short f))) is ∙ append_assoc (forms f rest) (with_each (endings v t) f) (above v (parent_of (short f)))
+
+fields_left : (v : List ℕ) (o : Option Base) (p : Option Fields) → option_map base_fields o ≡ p → option_map_or (λ g. with_each (endings v v) g ++ above v (parent_of (short g))) p [] ≡ bases_left o v v
+fields_left v None p is = ap (λ p. option_map_or (λ g. with_each (endings v v) g ++ above v (parent_of (short g))) p []) (sym is)
+fields_left v (Some g) p is = ap (λ p. option_map_or (λ g. with_each (endings v v) g ++ above v (parent_of (short g))) p []) (sym is)
+
+pub step_none :
+    (base : Base) (v rest : List ℕ) (o : Option Base) → endings v rest ≡ rest ∷ [] → option_map base_fields o ≡ parent_of (short (base_fields base)) →
+    with_each (endings v rest) (base_fields base) ++ above v (parent_of (short (base_fields base))) ≡ forms (base_fields base) rest ++ bases_left o v v
+step_none base v rest o is parent =
+    let f = base_fields base in
+    ap (λ es. with_each es f ++ above v (parent_of (short f))) is ∙ ap (λ list. list ++ above v (parent_of (short f))) (append-nil (forms f rest))
+    ∙ ap (λ list. forms f rest ++ list) (above_step v (parent_of (short f)) ∙ fields_left v o (parent_of (short f)) parent)
+
+-- ---- the chain of a record
+
+abbrev given_of : Fields → List ℕ → List (List ℕ)
+given_of f rest = cond (has_likely_script f) (text_of f rest ∷ []) []
+
+pub chain_is :
+    (r : Record) (given : List (List ℕ)) (whole f : Fields) (v rest : List ℕ) → given ≡ given_of whole rest → whole ≡ fields_of r → v ≡ hyphenated r.variants → rest ≡ rest_of r →
+    f ≡ short (fields_of r) → given ++ (with_each (endings v rest) f ++ above v (parent_of (short f))) ≡ chain_of r
+chain_is r given whole f v rest given_is whole_is v_is rest_is f_is =
+    let first = given_is ∙ ap (λ w. given_of w rest) whole_is ∙ ap (given_of (fields_of r)) rest_is in
+    ap (λ x. x ++ (with_each (endings v rest) f ++ above v (parent_of (short f)))) first
+    ∙ ap (λ x. given_of (fields_of r) (rest_of r) ++ (with_each (endings x rest) f ++ above x (parent_of (short f)))) v_is
+    ∙ ap (λ x. given_of (fields_of r) (rest_of r) ++ (with_each (endings (hyphenated r.variants) x) f ++ above (hyphenated r.variants) (parent_of (short f)))) rest_is
+    ∙ ap (λ x. given_of (fields_of r) (rest_of r) ++ (with_each (endings (hyphenated r.variants) (rest_of r)) x ++ above (hyphenated r.variants) (parent_of (short x)))) f_is

@@ -1,0 +1,27 @@
+-- The tables have what the lists say, and what is appended keyword by keyword.
+use Rattle.langtag_keyword.proofs.Common.{◌≡◌, ℕ, ◌<◌, List, [], ◌∷◌, ◌++◌, length, take, get_or, flat_map, map, refl, sym, ap, ◌∙◌, append_assoc, append-nil, take_more, flat_map-append}
+use Rattle.langtag_scan.proofs.Prelude.{length-append}
+use Rattle.langtag_posix.specs.KeywordNames.{key_names, keyword_text, type_names}
+use Rattle.langtag_posix.specs.declared.keyword_names.TheConstants.{KEY_NAMES, TYPE_NAMES}
+
+pub key_rows : map (λ row. record { old = row.0.now; new = row.1.now }) KEY_NAMES ≡ key_names
+unfolding key_names
+key_rows = refl
+
+pub type_rows : map (λ row. record { key = row.0.now; old = row.1.now; new = row.2.now }) TYPE_NAMES ≡ type_names
+unfolding type_names
+type_rows = refl
+
+-- ---- keyword by keyword
+
+-- the items with the next one
+module _ {X : Type 0} (all : List (List ℕ)) (yielded : List X) (x : X) (item : List ℕ) (below : length yielded < length all) (at : item ≡ get_or all (length yielded) item) where
+  take_next : take (length (yielded ++ x ∷ [])) all ≡ take (length yielded) all ++ item ∷ []
+  take_next = ap (λ n. take n all) (length-append yielded (x ∷ [])) ∙ take_more all (length yielded) item below ∙ ap (λ i. take (length yielded) all ++ i ∷ []) (sym at)
+
+  pub appended_next :
+      (text : List ℕ) →
+      (text ++ flat_map keyword_text (take (length yielded) all)) ++ keyword_text item ≡ text ++ flat_map keyword_text (take (length (yielded ++ x ∷ [])) all)
+  appended_next text =
+      append_assoc text (flat_map keyword_text (take (length yielded) all)) (keyword_text item)
+      ∙ ap (λ t. text ++ t) (ap (λ k. flat_map keyword_text (take (length yielded) all) ++ k) (sym (append-nil (keyword_text item))) ∙ sym (flat_map-append keyword_text (take (length yielded) all) (item ∷ [])) ∙ ap (flat_map keyword_text) (sym take_next))

@@ -1,0 +1,53 @@
+-- The text of a name, by the parts that the code cuts out of it.
+use Rattle.langtag_scan.proofs.Prelude.{◌≡◌, ℕ, ◌≤◌, ◌-◌, ◌^◌, List, ◌++◌, length, drop, take, ap, sym, ◌∙◌, arith, take_at}
+use Rattle.std.specs.Prelude.{min}
+use Rattle.langtag_text.specs.Output.{IsCounted}
+use Rattle.langtag_range.specs.Definitions.{front_of}
+use Rattle.langtag_posix.proofs.Definitions.{are_keywords, extensions_behind, keywords_text, marked, may_follow, modifier_of, place_of, place_read, read_place, text_of_name, without_java_field}
+
+-- the parts of a name
+pub record IsCutName (name p e m : List ℕ) : Type 0 where
+  pub place : p ≡ place_read name
+  pub extensions : e ≡ extensions_behind (front_of name)
+  pub modifier : m ≡ modifier_of name
+
+pub cut_name :
+    (name place read front extensions modifier kept : List ℕ) → place ≡ place_of name → read ≡ read_place place → front ≡ front_of name → modifier ≡ modifier_of name →
+    extensions ≡ extensions_behind front → kept ≡ without_java_field read extensions → IsCutName name kept extensions modifier
+unfolding place_read
+cut_name name place read front extensions modifier kept is_place is_read is_front is_modifier is_extensions is_kept =
+    let behind = is_extensions ∙ ap extensions_behind is_front in
+    record {
+      place = is_kept ∙ ap (λ r. without_java_field r extensions) (is_read ∙ ap read_place is_place) ∙ ap (without_java_field (read_place (place_of name))) behind;
+      extensions = behind;
+      modifier = is_modifier;
+    }
+
+-- the text that the code writes
+abbrev pub written_text : List ℕ → List ℕ → List ℕ → List ℕ
+written_text place extensions modifier = (place ++ marked 45 extensions) ++ keywords_text modifier
+
+module _ (name place extensions modifier : List ℕ) (cut : IsCutName name place extensions modifier) where
+  pub cut_text : written_text place extensions modifier ≡ text_of_name name
+  unfolding text_of_name
+  cut_text =
+      ap (λ p. written_text p extensions modifier) cut.place ∙ ap (λ e. written_text (place_read name) e modifier) cut.extensions
+      ∙ ap (written_text (place_read name) (extensions_behind (front_of name))) cut.modifier
+
+  pub cut_follows : may_follow place extensions (are_keywords modifier) ≡ may_follow (place_read name) (extensions_behind (front_of name)) (are_keywords (modifier_of name))
+  cut_follows =
+      ap (λ p. may_follow p extensions (are_keywords modifier)) cut.place ∙ ap (λ e. may_follow (place_read name) e (are_keywords modifier)) cut.extensions
+      ∙ ap (λ m. may_follow (place_read name) (extensions_behind (front_of name)) (are_keywords m)) cut.modifier
+
+-- ---- what was counted
+
+pub few_counted : (n len : ℕ) → len ≡ min n (2 ^ 64 - 1) → len ≤ 260 → len ≡ n
+few_counted n len counted few = grind arith
+
+pub counted_few : (n len : ℕ) → len ≡ min n (2 ^ 64 - 1) → n ≤ 260 → len ≤ 260
+counted_few n len counted few = grind arith
+
+pub counted_cut : (text before after : List ℕ) (len : ℕ) → IsCounted text before after len → len ≤ 260 → 260 ≤ length before → take len after ≡ text
+counted_cut text before after len counted few room =
+    let size = few_counted (length text) len counted.counted few in
+    ap (take len) (counted.written (omega (arith, size, few, room))) ∙ take_at text (drop (length text) before) len (sym size)

@@ -1,5 +1,0 @@
-mod Running
-pub mod FoundLaws
-mod ReadingLaws
-mod PositionLaws
-mod StateTables

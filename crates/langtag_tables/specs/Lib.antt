@@ -1,4 +1,0 @@
-pub mod FieldClasses
-pub mod Fields
-pub mod Numbers
-pub mod Words

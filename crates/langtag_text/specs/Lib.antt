@@ -1,0 +1,11 @@
+pub mod Alias
+pub mod FieldClasses
+pub mod Fields
+pub mod Numbers
+pub mod Output
+pub mod RecommendedCase
+pub mod Text
+pub mod Walk
+pub mod Words
+pub mod Writes
+pub mod WritesWhole
