@@ -119,6 +119,9 @@ class Api:
             name = item["name"]
             if name == "erased":
                 continue  # it is public only for the examples of its own documentation
+            if kind == "use" and value["is_glob"]:
+                self.lines.add(f"{path}: pub use {value['source']}::*")
+                continue
             if kind == "use":
                 name, item = value["name"], self.item(value["id"])
                 if item is None:
@@ -139,6 +142,8 @@ class Api:
             self.lines.add(f"{path}: type = {type_of(value['type'])}")
         elif kind == "trait":
             self.trait(path, value)
+        elif kind == "macro":
+            self.lines.add(f"{path}!: macro")
         else:
             self.lines.add(f"{path}: {kind}{generics_of(value['generics'])}{marks}")
             self.members(path, kind, value)

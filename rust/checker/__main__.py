@@ -88,15 +88,18 @@ class Checker:
                 self.check(crate, source, path)
         return self
 
+    def all_faults(self, listed):
+        """Returns the faults of the files that were checked, with those of their counts. `listed` is the text of counts.txt."""
+        checked = [line for line in listed.splitlines() if line.partition(": ")[0] in self.counts]
+        return self.faults + list(stale_counts(self.told(), "\n".join(checked)))
+
     def told(self):
         return "".join(f"{file}: {line_of(counts)}\n" for file, counts in sorted(self.counts.items()))
 
 
 def faults_of_laws(path, ghosts):
-    """Yields a fault if a module of laws has more than imports and functions that do nothing."""
+    """Yields a fault if a module of laws has more than functions that do nothing."""
     words = without_ghosts(words_of(path.read_text(encoding="utf-8")), ghosts)
-    while words[:1] == ["use"]:
-        words = words[words.index(";") + 1 :]
     for at in range(0, len(words), 6):
         if words[at : at + 1] + words[at + 2 : at + 6] != ["fn", "(", ")", "{", "}"]:
             yield f"{path.parent.parent.name}/src/{path.name}: it has more than functions that do nothing"
@@ -126,7 +129,8 @@ def main(arguments):
     checker, listed = Checker().run(), HERE / "counts.txt"
     if arguments == ["--count"]:
         listed.write_text(checker.told(), encoding="utf-8")
-    faults = checker.faults + list(stale_counts(checker.told(), listed.read_text(encoding="utf-8")))
+    text = listed.read_text(encoding="utf-8")
+    faults = checker.all_faults(text) + [f"counts.txt: no file: {line}" for line in text.splitlines() if line.partition(": ")[0] not in checker.counts]
     used = {name for counts in checker.counts.values() for name in counts if counts[name]}
     faults += [f"kinds.txt: no file has a {name}" for name in checker.names if name not in used]
     for fault in faults:

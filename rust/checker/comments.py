@@ -4,10 +4,12 @@ import re
 
 from compare import Difference
 
-# What the eraser adds to the doc comments of functions that have a condition in Rattle.
+# What the eraser adds to the doc comments of functions that have a condition in Rattle, or whose users differ in Rust.
 ADDED = (
     "Panics if `index` is not less than `len()`.",
     "A source that counts wrongly or that changes its bytes gets a wrong answer or a panic, and nothing worse.",
+    "The error borrows the string. A function that drops the string and returns the error calls "
+    "`LangTag::new(text).map_err(InvalidLangTag::into_owned)?`.",
 )
 SECTION = r"RFC\s+(\d+)\s+section\s+([\d.]*\d)"
 TARGET = re.compile(rf"\[{SECTION}\]: (\S+)")
@@ -22,8 +24,8 @@ ASSERTION = re.compile(r"\bassert(?:_eq|_ne)?!|\bmatches!\(rt;")
 class Doc:
     """A doc comment: its words outside of code blocks, and the words after ``` and the number of assertions of each code block."""
 
-    def __init__(self, line):
-        self.line, self.text, self.fences, self.is_code = line, [], [], False
+    def __init__(self, line, counted):
+        self.line, self.counted, self.text, self.fences, self.is_code = line, counted, [], [], False
 
     def add(self, text):
         if text.strip().startswith("```"):
@@ -31,7 +33,7 @@ class Doc:
             if self.is_code:
                 self.fences.append([text.strip()[3:], 0])
         elif self.is_code:
-            self.fences[-1][1] += bool(ASSERTION.search(text) or VALUE.match(text))
+            self.fences[-1][1] += any(form.search(text) for form in ((ASSERTION, VALUE) if self.fences[-1][0] else self.counted))
         else:
             self.text.append(text.strip())
 
@@ -47,20 +49,26 @@ class Doc:
             self.text, self.fences = [text], [["", count]]
 
 
+def as_said(found):
+    """Returns what is said to be proved. The Rust crate itself is not proved, so its comments only say it."""
+    return found[1][0].upper() + re.sub(r"(,(?: and)?) that\b", r"\1", found[1][1:])
+
+
 def words_in(text):
+    text = re.sub(r"It is (?:also )?proved that (?!its bytes)(.*?\.)(?=\s|$)", as_said, " ".join(text.split()))
     text = re.sub(r"\btry_(from_parts|lenient)\b", r"\1", text)
     text = re.sub(rf"\[({SECTION}|`[\w:]+`)\]", r"\1", PATH.sub("", text))
     return re.sub(r"\balloc, |, alloc\b(?=\))|(?<=\()alloc(?=\))", "", text).split()
 
 
-def docs_of(text):
+def docs_of(text, counted):
     """Returns the doc comments of a file, and the words of its other comments with their lines."""
     docs, others, last = [], [], 0
     for number, line in enumerate(text.splitlines(), 1):
         mark = re.match(r"\s*(//[/!])(?!/)(.*)", line)
         if mark:
             if last != number - 1 or not docs or docs[-1].mark != mark[1]:
-                docs.append(Doc(number))
+                docs.append(Doc(number, counted))
                 docs[-1].mark = mark[1]
             docs[-1].add(mark[2])
             last = number
@@ -78,8 +86,8 @@ def comment_of(line):
 def compare_comments(source, module):
     if "/*" in re.sub(r"""//[^\n]*|"(?:\\.|[^"\\])*"|b?'(?:\\.|[^'\\])'""", "", module):
         raise Difference("a comment that begins with `/*`")
-    old, old_others = docs_of(source)
-    new, new_others = docs_of(module)
+    old, old_others = docs_of(source, (ASSERTION, VALUE))
+    new, new_others = docs_of(module, (ASSERTION,))
     for doc in old:
         doc.take_claims()
     for doc in new:

@@ -6,16 +6,11 @@ from words import group_end, skip_to, starts, words_of
 
 CRATES = {
     "langtag_scan": "scan",
-    "langtag_recogniser": "recogniser",
-    "langtag_case": "case",
-    "langtag_tables": "tables",
-    "langtag_output": "output",
+    "langtag_text": "text",
     "langtag_language": "language",
     "langtag_place": "place",
     "langtag_extension": "extension",
     "langtag_private": "private",
-    "langtag_refusal": "refusal",
-    "langtag_edit": "edit",
     "langtag": "tag",
     "langtag_range": "range",
     "langtag_header": "header",
@@ -28,17 +23,15 @@ CRATES = {
     "langtag_likely": "likely",
     "langtag_posix": "posix",
     "langtag_parent": "parent",
-    "langtag_distance": "distance",
     "langtag_choice": "choice",
     "langtag_keyword": "keyword",
     "langtag_unicode": "unicode",
     "langtag_locale": "locale",
-    "langtag_span": "spans",
     "langtag_c": "calls",
 }
 # Where the modules are that are made from crates, and the crates whose modules are elsewhere. The C library has these modules and those below src.
 MADE = "erased"
-ELSEWHERE = {"langtag_span": "../c/src", "langtag_c": "../c/src"}
+ELSEWHERE = {"langtag_c": "../c/src"}
 # The folders with other files: the program, and the list of the modules.
 BY_HAND = ["bin", "bin/langtag", "erased", "names"]
 # The modules that also export what other crates export.
@@ -49,8 +42,12 @@ SUGGESTING = "InvalidSubtag"
 # InvalidLangTag also says why.
 REFUSED = {"InvalidLangTag": "write_tag"}
 NO_TEXT = "InvalidSingleton"
-# The variant that contains the refused name, and the beginning of its message.
-NO_NAME, NAME_MESSAGE = "PosixError::NoTag", '"no language in the locale name {}"'
+# The arms of the variants whose message contains a part of a refused text.
+WITH_PART = {
+    "PosixError::NoTag": '(value) => write!(f, "no language in the locale name {}", crate::message::Quoted(value.as_bytes()))',
+    "AcceptLanguageError::BadElement":
+        "{ header, index, offset, part } => crate::message::write_element(f, header, *index, *offset, part)",
+}
 IMPLS = """impl{generics} fmt::Display for {type} {{ fn fmt(&self, f: &mut fmt::Formatter<'_>) -> fmt::Result {{ {body} }} }}
 impl{bound} core::error::Error for {type} {{}}"""
 
@@ -139,8 +136,8 @@ def without_messages(item):
 
 def arm(name, variant, opens, message):
     """Returns the `match` arm that writes the message of a variant: `{0}` is its field, which the pattern names."""
-    if f"{name}::{variant}" == NO_NAME:
-        return f"{NO_NAME}(value) => write!(f, {NAME_MESSAGE}, crate::message::Quoted(value.as_bytes()))"
+    if f"{name}::{variant}" in WITH_PART:
+        return f"{name}::{variant}" + WITH_PART[f"{name}::{variant}"]
     fields = re.findall(r"\{(\w+)\}", message)
     if opens == "(":
         pattern = "(value)" if fields else "(_)"

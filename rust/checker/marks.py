@@ -6,7 +6,7 @@ USED = words_of("#[must_use]")
 GROWING = words_of("#[non_exhaustive]")
 DERIVED = {"Clone", "Copy", "PartialEq", "Eq", "Hash"}
 FEATURE = words_of('#[cfg(feature = "alloc")]')
-BEFORE_ITEMS = ("pub", "fn", "struct", "enum", "impl", "use", "mod", "const", "type", "trait", "static", "by_text", "#", "unsafe")
+BEFORE_ITEMS = ("pub", "fn", "struct", "enum", "impl", "use", "mod", "const", "type", "trait", "static", "by_text", "shown", "#", "unsafe")
 
 
 def without_marks(words, counts):

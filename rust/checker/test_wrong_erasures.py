@@ -3,6 +3,7 @@
 
     python3 rust/checker/test_wrong_erasures.py
 """
+import collections
 import importlib.util
 import pathlib
 import shutil
@@ -14,12 +15,12 @@ sys.path.insert(0, str(HERE))
 
 WRONG = {
     "a literal is another": ("erased/scan/class.rs", "bytes.len() == 4", "bytes.len() == 5"),
-    "an operator is turned": ("erased/recogniser/metered.rs", "self.reach = index + 1", "self.reach = index - 1"),
+    "an operator is turned": ("erased/scan/metered.rs", "self.reach = index + 1", "self.reach = index - 1"),
     "a comparison is turned": ("erased/tag/normal_lang_tag.rs", "if before == end {", "if before != end {"),
     "a condition is lost": ("erased/place/script.rs", "if !is_script(text.as_bytes()) {\n            return Err(InvalidScript(text));\n        }\n", ""),
     "a clause swallows the body": ("erased/tag/kind.rs", "matches!(self, Kind::Normal)", ""),
     "two parts change places": ("erased/tag/normal_lang_tag.rs", "self.part(self.ends.language, self.ends.script)", "self.part(self.ends.script, self.ends.language)"),
-    "a field is lost": ("erased/edit/replacement.rs", "    pub hyphen: &'static str,\n", ""),
+    "a field is lost": ("erased/text/replacement.rs", "    pub hyphen: &'static str,\n", ""),
     "a `?` is lost": ("erased/tag/text_of_parts.rs", "whole.try_push_str(language)?;", "let _ = whole.try_push_str(language);"),
     "allocation ends the program": ("erased/place/region.rs", "try_string(self.as_str())?", "String::from(self.as_str())"),
     "a growth is not asked for": ("erased/tag/text_of_parts.rs", "whole.try_push_str(", "whole.push_str("),
@@ -28,6 +29,10 @@ WRONG = {
     "a message has another variant": ("erased/validity/invalid_subtag.rs", "InvalidSubtag::Script(value)", "InvalidSubtag::Region(value)"),
     "a type is compared by derives": ("erased/tag/lang_tag.rs", "by_text!(LangTag<'_>);", ""),
     "a derive is lost": ("erased/place/script.rs", "PartialOrd, Ord, Hash)]\npub struct Script<", "PartialOrd, Ord)]\npub struct Script<"),
+    "a derive is added": ("erased/place/script.rs", "PartialOrd, Ord, Hash)]\npub struct Script<", "PartialOrd, Ord, Hash, Default)]\npub struct Script<"),
+    "an import is public": ("erased/place/script.rs", "use crate::erased::scan::{is_script,", "pub use crate::erased::scan::{is_script,"),
+    "an import is added": ("erased/place/script.rs", "use core::fmt;\n", "use core::fmt;\nuse core::mem;\n"),
+    "an attribute is lost": ("erased/scan/class.rs", "#[must_use]\npub fn is_script", "pub fn is_script"),
     "a name is imported from elsewhere": ("erased/place/script.rs", "use crate::erased::scan::{is_script,", "use crate::erased::scan::{is_region as is_script,"),
     "a chain of conditions has an else": ("erased/extension/singleton.rs", "return Ok(singleton);\n            }\n", "return Ok(singleton);\n            } else { return Ok(Singleton { byte: 0 }); }\n"),
     "a feature turns an item off": ("erased/scan/class.rs", "#[inline]\n#[must_use]\npub fn is_script", '#[cfg(feature = "alloc")]\n#[inline]\n#[must_use]\npub fn is_script'),
@@ -38,17 +43,21 @@ WRONG = {
     "a call for C answers otherwise": ("../c/src/calls/compare.rs", "Ordering::Less => -1", "Ordering::Less => 1"),
     "bytes that are no tag are empty": ("erased/tag/lang_tag.rs", "return Err(InvalidLangTag(bytes));\n        };\n        Ok", "return Ok(LangTag::EMPTY);\n        };\n        Ok"),
     "an example is lost": ("erased/place/script.rs", 'assert!(Script::new("Latn").is_ok());\n', "\n"),
+    "an assertion stays a comment": ("erased/place/script.rs", 'assert!(Script::new("Latn").is_ok());', 'Script::new("Latn").is_ok(); // true'),
     "an example is not run": ("erased/place/script.rs", "/// ```\n", "/// ```ignore\n"),
     "an example is no example": ("erased/tag/kind.rs", "/// ```\n", "/// ~~~\n"),
     "a comment says otherwise": ("erased/place/script.rs", "/// Returns", "/// Never returns"),
     "a comment is lost": ("erased/tag/kind.rs", "    /// Returns", "    // Returns"),
     "a comment is added": ("erased/scan/class.rs", "#[inline]\n#[must_use]\npub fn is_script", "// Any four bytes.\n#[inline]\n#[must_use]\npub fn is_script"),
-    "a link leads elsewhere": ("erased/recogniser/recogniser.rs", "rfc5646#section-2.1", "rfc5646#section-2.2"),
+    "a link leads elsewhere": ("erased/scan/recogniser.rs", "rfc5646#section-2.1", "rfc5646#section-2.2"),
     "a comment in a comment hides code": ("erased/scan/class.rs", "#[inline]\n#[must_use]\npub fn is_script", "/* /* */\n#[inline]\n#[must_use]\npub fn is_script"),
     "a folder is added": ("extra/mod.rs", None, "pub fn script(text: &str) -> crate::Script<'_> {\n    crate::Script::from_checked(text)\n}\n"),
     "a folder is added to the C library": ("../c/src/extra/mod.rs", None, "pub fn extra() {}\n"),
     "a file is added": ("erased/place/extra.rs", None, "pub fn extra() {}\n"),
 }
+
+# These are refused whatever counts.txt says.
+OF_NO_KIND = ("a derive is added", "an import is added", "an import is public", "an assertion stays a comment")
 
 
 def checker_module():
@@ -58,7 +67,7 @@ def checker_module():
     return module
 
 
-def is_refused(checker, folder, file, old, new):
+def is_refused(checker, folder, wrong, file, old, new):
     path = folder / file
     if old is None:
         return is_addition_refused(checker, folder, path, new)
@@ -68,8 +77,8 @@ def is_refused(checker, folder, file, old, new):
     path.write_text(text.replace(old, new, 1), encoding="utf-8")
     run = checker.Checker(modules=folder).run(only=path)
     path.write_text(text, encoding="utf-8")
-    listed = (HERE / "counts.txt").read_text(encoding="utf-8").splitlines(keepends=True)
-    return bool(run.faults) or run.told() not in listed
+    faults = run.all_faults((HERE / "counts.txt").read_text(encoding="utf-8"))
+    return bool(run.faults if wrong in OF_NO_KIND else faults)
 
 
 def is_addition_refused(checker, folder, path, new):
@@ -84,6 +93,13 @@ def is_addition_refused(checker, folder, path, new):
     return bool(run.faults)
 
 
+def is_law_refused(checker, folder):
+    """Returns whether a module of laws is refused if it has code."""
+    path = folder / "laws.rt"
+    path.write_text("fn law() { other(1); }\n", encoding="utf-8")
+    return bool(list(checker.faults_of_laws(path, collections.Counter())))
+
+
 def main():
     checker, passed = checker_module(), []
     with tempfile.TemporaryDirectory() as name:
@@ -91,10 +107,13 @@ def main():
         for part in ("src", "c/src"):
             shutil.copytree(checker.RUST / part, pathlib.Path(name) / part)
         for wrong, (file, old, new) in WRONG.items():
-            if not is_refused(checker, folder, file, old, new):
+            if not is_refused(checker, folder, wrong, file, old, new):
                 passed.append(wrong)
                 print(f"wrong erasures: NOT REFUSED: {wrong} ({file})")
-    print(f"wrong erasures: {len(WRONG) - len(passed)} of {len(WRONG)} refused")
+        if not is_law_refused(checker, pathlib.Path(name)):
+            passed.append("a law has code")
+            print("wrong erasures: NOT REFUSED: a law has code")
+    print(f"wrong erasures: {len(WRONG) + 1 - len(passed)} of {len(WRONG) + 1} refused")
     return bool(passed)
 
 

@@ -11,11 +11,11 @@ import sys
 import tempfile
 
 from attributes import add_attributes, rename_calls
-from crates import MODULES, SHOWN_IN
+from crates import MODULES, OF_C, SHOWN_IN
 from docs import erase_docs
 from errors import erase_derives
 from exports import exports_of, keep_inside, lent_by, with_exports
-from features import mark_owning, owning_items
+from features import mark_modules, owning_items
 from ghosts import erase_ghosts
 from memory import erase_allocators
 from paths import add_imports, erase_imports, erase_paths
@@ -25,6 +25,7 @@ from tokens import Code
 RUST = pathlib.Path(__file__).resolve().parent.parent
 CRATES = RUST.parent / "crates"
 LIST = "c/src/erased.rs"  # the modules that the C library shares with the Rust crate
+USED_BY_HAND = ["state", "recognised"]  # modules that src/constants.rs also uses
 LAWS = "laws"  # the module of a crate that has only contracts: its functions do nothing, and nothing calls them
 
 
@@ -37,7 +38,7 @@ def erase(source, module):
     erase_forms(code)
     rename_calls(code)
     mark_inlined(code, module, source.stem)
-    if module.crate not in ("langtag_span", "langtag_c"):
+    if module.crate not in OF_C:
         add_attributes(code, source)
     erase_paths(code, module)
     erase_imports(code)
@@ -73,9 +74,15 @@ def write(out):
                 code.rewrite(f"mod {LAWS};", "")
             if module.crate == "langtag_c":
                 code.rewrite("mod $name;", "pub(crate) mod $name;")  # its exports are beside it
+            for used in USED_BY_HAND if source.stem == "lib" else ():
+                code.rewrite(f"mod {used};", f"pub(crate) mod {used};")
             files[source, out / module.folder / name] = code
             inside |= names
-    finish([code for (_, path), code in files.items() if path.is_relative_to(out / "src")], inside)
+    folders = {}
+    for (_, path), code in files.items():
+        if path.is_relative_to(out / "src"):
+            folders.setdefault(path.parent, {})[path.stem] = code
+    finish(folders.values(), inside)
     for (source, path), code in files.items():
         path.parent.mkdir(parents=True, exist_ok=True)
         path.write_text(head(source) + str(code), encoding="utf-8")
@@ -86,13 +93,14 @@ def write(out):
     subprocess.run(["rustfmt", "--edition", "2021", *roots], check=True)
 
 
-def finish(files, inside):
+def finish(folders, inside):
     """Makes the changes that need all files: which items are private to the crate, and which are left out without `alloc`."""
+    files = [code for folder in folders for code in folder.values()]
     for code in files:
         keep_inside(code, inside)
     owning = owning_items(files)
-    for code in files:
-        mark_owning(code, owning)
+    for folder in folders:
+        mark_modules(folder, owning)
 
 
 def differences(new, old):

@@ -1,9 +1,9 @@
-"""Adds what users of a Rust crate expect and a Rattle source has not: derives, `#[must_use]`, `#[non_exhaustive]`, `const`, and names
-that say that a call returns an AllocError."""
+"""Adds what users of a Rust crate expect and a Rattle source has not: derives, `#[must_use]`, `#[non_exhaustive]`, `const`, `self` for
+`&self`, and names that say that a call returns an AllocError."""
 
 # Types that may get more fields or variants.
 GROWING = {
-    "AcceptLanguageError", "BestMatch", "EditError", "ElementPart", "InvalidSubtag", "KeywordError", "PosixError",
+    "AcceptLanguageError", "BestMatch", "EditError", "ElementPart", "InvalidSubtag", "KeyValue", "KeywordError", "PosixError",
     "Refusal", "RefusalKind", "SetKeywordError",
 }
 
@@ -38,9 +38,14 @@ DERIVED = {
     "WeightedRange": "Hash",
 }
 
-# Functions that rustc can also call when it compiles, and on which the constant LangTag::UND rests.
-CONST = {"with_ends", "with_found", "as_str", "as_lang_tag"}
-CONST_IN = {"lang_tag", "normal_lang_tag"}
+# Functions that rustc can also call when it compiles, by file: LangTag::from_static rests on them.
+CONST = {"lang_tag": {"with_found", "as_str"}, "state": {"start", "after", "after_class", "part_before", "ending"}}
+
+# The types whose methods take `self`, since they are `Copy`: so `.map(Script::as_str)` is possible.
+VALUES = set("""
+    ExtendedLangTag Extension ExtensionSubtag Extensions Found GrandfatheredLangTag Kind LangTag Language LanguageExtension LanguageRange
+    NormalLangTag PrimaryLanguage PrivateUse PrivateUseSubtag Region Script Transformation TypedLangTag Variant Variants
+""".split())
 
 # Methods that return an error if allocation fails: as in `try_to_owned`, their names say so. And methods for which one of the same
 # name is written by hand, which takes more types.
@@ -50,12 +55,15 @@ WRAPPED = [
     ("self.get(singleton)", "self.get_singleton(singleton)"),
     ("extensions.get(singleton)", "extensions.get_singleton(singleton)"),
     ("extensions().get(singleton)", "extensions().get_singleton(singleton)"),
+    ("pub fn iter_extension(", "pub(crate) fn iter_singleton("),
     ("pub fn matches_basic(&self, tag: &LangTag", "pub(crate) fn is_basic_match(&self, tag: &LangTag"),
     ("pub fn matches_extended(&self, tag: &LangTag", "pub(crate) fn is_extended_match(&self, tag: &LangTag"),
     ("range.matches_basic(&tag)", "range.is_basic_match(&tag)"),
     ("range.matches_extended(&tag)", "range.is_extended_match(&tag)"),
     ("pub fn look_up<'t>(&self, tags", "pub(crate) fn look_up_tag<'t>(&self, tags"),
     ("accepted.look_up(tags, default)", "accepted.look_up_tag(tags, default)"),
+    ("pub fn new(bytes: &[u8]) -> Result<Self, &[u8]>", "pub fn new<T: AsRef<[u8]>>(bytes: T) -> Result<Self, T>"),
+    ("first_alike(&GRANDFATHERED, bytes)", "first_alike(&GRANDFATHERED, bytes.as_ref())"),
 ]
 
 
@@ -68,6 +76,7 @@ def rename_calls(code):
 
 
 def add_attributes(code, source):
+    take_values(code)
     place = 0
     while (place := code.find("pub fn", place)) >= 0:
         if should_be_used(code, place):
@@ -77,9 +86,24 @@ def add_attributes(code, source):
     while place < len(code):
         if code[place] == "pub" and code[keyword := after_visibility(code, place)] in ("struct", "enum"):
             place = add_to_type(code, place, code[keyword + 1])
-        elif code[place] == "fn" and source.stem in CONST_IN and code[place + 1] in CONST and can_be_const(code, place):
+        elif code[place] == "fn" and code[place + 1] in CONST.get(source.stem, ()):
             place = code.replace(place, place + 1, "const fn")
         place += 1
+
+
+def take_values(code):
+    """Changes `&self` to `self` in the methods of `Copy` types, except those of traits."""
+    for start in range(len(code)):
+        if code[start] != "impl" or code[start - 1] not in ("", "}", "]", ";"):
+            continue
+        body = code.next_of(("{",), start)
+        if not code.words(start, body) & VALUES or "for" in code.words(start, body):
+            continue
+        for at in range(code.after(body) - 1, body, -1):
+            if code.at(at, "*", "self") or (code.at(at, "&", "self") and code[at + 2] in (",", ")")):
+                code.replace(at, at + 1, "")
+            elif code.at(at, "Some", "(", "*", "tag", ")"):
+                code.replace(at + 2, at + 3, "")
 
 
 def after_visibility(code, place):
@@ -92,11 +116,6 @@ def add_to_type(code, place, name):
     new = f"#[derive({DERIVED[name]})]\n" if name in DERIVED else ""
     new += "#[non_exhaustive]\n" if name in GROWING else ""
     return code.replace(place, place, new) if new else place
-
-
-def can_be_const(code, place):
-    """Returns whether a function is a method of a borrowed type, and not of a trait."""
-    return code[place - 1] in ("pub", ")")
 
 
 def should_be_used(code, place):

@@ -11,16 +11,11 @@ class Module(NamedTuple):
 # Each crate comes after the crates on which it depends. Another Rust crate would get its own lines, with its own folders.
 MODULES = [
     Module("langtag_scan", "src/erased/scan", "crate::erased::scan"),
-    Module("langtag_recogniser", "src/erased/recogniser", "crate::erased::recogniser"),
-    Module("langtag_case", "src/erased/case", "crate::erased::case"),
-    Module("langtag_tables", "src/erased/tables", "crate::erased::tables"),
-    Module("langtag_output", "src/erased/output", "crate::erased::output"),
+    Module("langtag_text", "src/erased/text", "crate::erased::text"),
     Module("langtag_language", "src/erased/language", "crate::erased::language"),
     Module("langtag_place", "src/erased/place", "crate::erased::place"),
     Module("langtag_extension", "src/erased/extension", "crate::erased::extension"),
     Module("langtag_private", "src/erased/private", "crate::erased::private"),
-    Module("langtag_refusal", "src/erased/refusal", "crate::erased::refusal"),
-    Module("langtag_edit", "src/erased/edit", "crate::erased::edit"),
     Module("langtag", "src/erased/tag", "crate::erased::tag"),
     Module("langtag_range", "src/erased/range", "crate::erased::range"),
     Module("langtag_header", "src/erased/header", "crate::erased::header"),
@@ -33,13 +28,11 @@ MODULES = [
     Module("langtag_likely", "src/erased/likely", "crate::erased::likely"),
     Module("langtag_posix", "src/erased/posix", "crate::erased::posix"),
     Module("langtag_parent", "src/erased/parent", "crate::erased::parent"),
-    Module("langtag_distance", "src/erased/distance", "crate::erased::distance"),
     Module("langtag_choice", "src/erased/choice", "crate::erased::choice"),
     Module("langtag_keyword", "src/erased/keyword", "crate::erased::keyword"),
     Module("langtag_unicode", "src/erased/unicode", "crate::erased::unicode"),
     Module("langtag_locale", "src/erased/locale", "crate::erased::locale"),
     # The C library is a separate crate, rust/c, which also has the modules above.
-    Module("langtag_span", "c/src/spans", "crate::spans"),
     Module("langtag_c", "c/src/calls", "crate::calls"),
 ]
 
@@ -51,17 +44,16 @@ PUBLIC = {"scan", "matching", "registry", "likely", "choice", "unicode"}
 # EXPORTED_BY, the other Rattle crate has them.
 SHOWN_IN = {"langtag_locale": "langtag_unicode", "langtag_posix": "langtag_likely", "langtag_parent": "langtag_likely"}
 EXPORTED_BY = {
-    "langtag_keyword": "langtag_unicode", "langtag_case": "langtag_scan", "langtag_recogniser": "langtag_scan", "langtag_header": "langtag_match",
-    "langtag_fields": "langtag_registry", "langtag_validity": "langtag_registry", "langtag_canonical": "langtag_registry", "langtag_cldr": "langtag_likely",
-    "langtag_distance": "langtag_choice",
+    "langtag_keyword": "langtag_unicode", "langtag_text": "langtag_scan", "langtag_header": "langtag_match", "langtag_fields": "langtag_registry",
+    "langtag_validity": "langtag_registry", "langtag_canonical": "langtag_registry", "langtag_cldr": "langtag_likely",
 }
 
 # The crates whose modules need the feature `data`, and those of the C library. In a module of another crate every function is inlined.
 WITH_DATA = {
-    "langtag_fields", "langtag_validity", "langtag_canonical", "langtag_registry", "langtag_cldr", "langtag_likely", "langtag_posix", "langtag_parent", "langtag_distance", "langtag_choice",
+    "langtag_fields", "langtag_validity", "langtag_canonical", "langtag_registry", "langtag_cldr", "langtag_likely", "langtag_posix", "langtag_parent", "langtag_choice",
     "langtag_keyword", "langtag_unicode", "langtag_locale",
 }
-OF_C = {"langtag_span", "langtag_c"}
+OF_C = {"langtag_c"}
 
 
 # The functions that users call in another form: for example, `langtag::registry::canonical` takes more types than the proved
@@ -71,11 +63,11 @@ REPLACED = set("""
     look_up tag_for_header canonical extlang_form write_canonical maximized minimized write_maximized write_minimized
     write_from_posix to_posix write_to_posix extensions_form write_extensions_form locale_form write_locale_form write_with_keyword
     write_without_keyword Site suitable_for_header
-    suitable_for_ranges suitable_among write_suitable
+    suitable_for_ranges suitable_among write_suitable set_keyword remove_keyword SetKeywordError iter_extension parent nth_parent Parents
 """.split())
 HIDDEN = set("""
     put_part is_among_first Part Replacement Keys element_at is_empty_element listed_range locale_place split_wanted weight_of
-    fault_at suggested_language suggested_region PreparedTag OwnedSite
+    fault_at suggested_language suggested_region PreparedTag OwnedSite ParentTag
 """.split())
 
 

@@ -14,11 +14,34 @@ ASSERTED = re.compile(rf"(?P<code>(?!let ).*\S);\s+// (?P<value>{VALUE})(?:[:,.;
 def erase_docs(code, module):
     for place, token in enumerate(code.tokens):
         if "///" in token.before or "//!" in token.before:
-            before = with_names(token.before, module)
+            before = with_names(with_additions(without_proofs(token.before)), module)
             if "try_to_owned" not in [it.text for it in code.tokens[place : place + 12]]:
                 before = with_usual_calls(before)
             before = with_examples(with_claims(before, module))
             token.before = narrowed(with_links(before) if token.text in ("pub", "#") and "//!" not in before else before)
+
+
+SPACE = r"(?: |\n\s*//[/!] )"
+PROVED = re.compile(f"It{SPACE}is(?:{SPACE}also)?{SPACE}proved{SPACE}that{SPACE}(?!its{SPACE}bytes)(.*?\\.(?=\\s))", re.DOTALL)
+THAT = re.compile(f"(,(?:{SPACE}and)?){SPACE}that\\b")
+
+
+def without_proofs(text):
+    """Changes each sentence that says what is proved of the source to one that says it. The Rust crate itself is not proved."""
+    return PROVED.sub(lambda it: it[1][0].upper() + THAT.sub(r"\1", it[1][1:]), text)
+
+
+# The end of a doc comment's paragraph, and what only users of the Rust crate need to know.
+ADDITIONS = {
+    "such as `zh_Hant` or the empty string.": "The error borrows the string. A function that drops the string and returns the error calls "
+    "`LangTag::new(text).map_err(InvalidLangTag::into_owned)?`.",
+}
+
+
+def with_additions(text):
+    for end, more in ADDITIONS.items():
+        text = text.replace(end, f"{end} {more}")
+    return text
 
 
 PATH = re.compile(r"(\]\(|\]: |)\b(crate|langtag\w*)::(\w+|(?=\{))")

@@ -4,8 +4,8 @@ import re
 
 from tokens import words_of
 
-# The types whose `Debug` is in src/shim.rs.
-SHOWN = {"Caseless"}
+# The types whose `Debug` is in src/shim.rs. That of a string is written by a macro of that file.
+SHOWN = {"Caseless", "Singleton"}
 
 # The errors whose message ends with a suggestion, which src/suggestion.rs writes.
 SUGGESTING = {"InvalidSubtag"}
@@ -14,8 +14,12 @@ SUGGESTING = {"InvalidSubtag"}
 REFUSING, LOCATING = "Invalid", "InvalidLangTag"
 WITHOUT_TEXT = {"InvalidSingleton"}  # it may contain a byte or a character
 
-# The message of a variant that contains a refused text.
-NAMED = {("PosixError", "NoTag"): "no language in the locale name {}"}
+# The arms of variants whose message contains a part of a refused text.
+NAMED = {
+    ("PosixError", "NoTag"): '(value) => write!(f, "no language in the locale name {}", crate::message::Quoted(value.as_bytes())),',
+    ("AcceptLanguageError", "BadElement"):
+        "{ header, index, offset, part } => crate::message::write_element(f, header, *index, *offset, part),",
+}
 
 DISPLAY = """
 
@@ -53,7 +57,11 @@ def erase_derives(code):
     while (place := code.find("#[derive", place)) >= 0:
         traits = [token.text for token in code.tokens[place + 4 : code.after(place + 1) - 2] if token.text != ","]
         end = code.after(place + 1)
-        gone = {"Drop", "Error"} | ({"Debug"} if Item(code, end).name in SHOWN else set())
+        item = Item(code, end)
+        is_text = "Debug" in traits and code.at(item.body + 1, *words_of("text: Caseless"))
+        gone = {"Drop", "Error"} | ({"Debug"} if item.name in SHOWN or is_text else set())
+        if is_text:
+            code.add_behind(item.end, f"\n\nshown!({item.type});\n")
         kept = [trait for trait in traits if trait not in gone]
         if "Error" in traits:
             write_error_impls(code, end)
@@ -95,7 +103,7 @@ def messages_of_enum(code, item):
 
 def arm_of(name, variant, opening, message):
     if (name, variant) in NAMED:
-        return f'{name}::{variant}(value) => write!(f, "{NAMED[name, variant]}", crate::message::Quoted(value.as_bytes())),'
+        return f"{name}::{variant} {NAMED[name, variant]}"
     used = re.findall(r"\{(\w+)\}", message)
     fields = {"(": "(value)" if used else "(_)", "{": f" {{ {', '.join([*used, '..'])} }}"}.get(opening, "")
     message = message.replace("{0}", "{value}")

@@ -61,15 +61,34 @@ def owning_items(files):
     return owning
 
 
+def mark_modules(folder, owning):
+    """Marks the modules of a folder that are left out as a whole, and the items of the other ones. `folder` has the code of each."""
+    gone = {name for name, code in folder.items() if is_left_out(code, owning)}
+    for name, code in folder.items():
+        if name not in gone:
+            mark_owning(code, owning)
+    for name in gone:
+        folder["mod"].rewrite(f"mod {name};", f"{LEFT_OUT}mod {name};")
+
+
+def is_left_out(code, owning):
+    """Returns whether all items of a file are left out."""
+    found = [needs_memory(code, item, owning) for item, _ in parts(code, owning) if item.word not in ("use", "mod")]
+    return bool(found) and all(found)
+
+
+def needs_memory(code, item, owning):
+    calls = {code[at + 1] for at in range(item.keyword, item.end) if code[at] == "."}
+    return bool(names(code, item.keyword, item.end) & owning or calls & METHODS)
+
+
 def mark_owning(code, owning):
     for item, _ in reversed(list(parts(code, owning))):
         if item.word == "mod":
             continue
-        calls = {code[at + 1] for at in range(item.keyword, item.end) if code[at] == "."}
-        used = names(code, item.keyword, item.end)
-        if item.word == "use" and used & owning:
+        if item.word == "use" and names(code, item.keyword, item.end) & owning:
             split_import(code, item, owning)
-        elif used & owning or calls & METHODS:
+        elif item.word != "use" and needs_memory(code, item, owning):
             code.replace(item.start, item.start, LEFT_OUT)
         else:
             unlink(code.tokens[item.start], owning)

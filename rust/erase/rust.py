@@ -6,6 +6,9 @@ from crates import OF_C, WITH_DATA
 INLINED = 40  # In a module with data, a function with at most this many tokens is inlined across crates.
 # Longer functions that are inlined, too, by file: they are called for each tag of a site and each range of a header.
 OFTEN_CALLED = {"prepared_form": {"form", "has_language_of", "is_far_from"}}
+# Called for each tag of a site. In a program that is built as one unit, LLVM would not inline it, and a choice would take 1.3 times the
+# instructions.
+INLINED_ALWAYS = {"known_at": {"improve_entry"}}
 
 FORMS = [
     # The C library has its exports in a separate file, rust/c/src/exports.rs.
@@ -75,15 +78,16 @@ def nest(code, ands, body):
 def mark_inlined(code, module, file):
     """Adds `#[inline]` to functions, private ones too, so that rustc compiles them only for a program that calls them. In modules with
     data only short functions get it, and those that are often called, because a long one would be compiled again in each crate that calls it."""
-    often_called = OFTEN_CALLED.get(file, set())
+    often_called, always = OFTEN_CALLED.get(file, set()), INLINED_ALWAYS.get(file, set())
     longest = INLINED if module.crate in WITH_DATA | OF_C else len(code)
     place = 0
     while (place := code.find("fn", place)) >= 0:
         start = start_of_function(code, place)
         body = next((at for at in range(place, len(code)) if code[at] in ("{", ";")), place)
         is_short = code.after(body) - body <= longest + 1 if code[body] == "{" else False
-        if (is_short or code[place + 1] in often_called) and code.tokens[place + 1].kind == "word" and code[start - 1] != "]":
-            place = code.replace(start, start, "#[inline]\n") + (place - start)
+        name = code[place + 1]
+        if (is_short or name in often_called | always) and code.tokens[place + 1].kind == "word" and code[start - 1] != "]":
+            place = code.replace(start, start, "#[inline(always)]\n" if name in always else "#[inline]\n") + (place - start)
         place += 1
 
 

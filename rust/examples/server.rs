@@ -1,16 +1,19 @@
 //! Chooses the language of a page: the parameter `lang`, else the header `Accept-Language`, else
 //! the first language of the site. Sets `Content-Language` and `Vary`, and the direction of the
-//! text.
+//! text. The tags come from a configuration, which the server reads again while it runs.
 //!
 //! ```sh
 //! cargo run --example server
 //! ```
-use langtag::choice::best_for_header;
+use std::error::Error;
+use std::sync::{Arc, RwLock};
+
+use langtag::choice::Site;
 use langtag::LangTagBuf;
 
-struct Site {
-    tags: Vec<LangTagBuf>,
-    default: LangTagBuf,
+/// The state that all requests share. A request keeps the site with which it began.
+struct App {
+    site: RwLock<Arc<Site<LangTagBuf>>>,
 }
 
 /// What a web framework gives a handler.
@@ -20,47 +23,53 @@ struct Request<'a> {
     accept_language: Option<&'a [u8]>,
 }
 
-struct Response<'a> {
-    content_language: &'a LangTagBuf,
+struct Response {
+    content_language: String,
     vary: &'static str,
     body: String,
 }
 
-impl Site {
-    fn new(tags: &[&str]) -> Result<Site, Box<dyn std::error::Error>> {
-        let tags = tags
-            .iter()
-            .map(|tag| tag.parse())
-            .collect::<Result<Vec<LangTagBuf>, _>>()?;
-        let default = tags.first().cloned().ok_or("a site needs a language")?;
-        Ok(Site { tags, default })
+fn load(config: &str) -> Result<Arc<Site<LangTagBuf>>, Box<dyn Error>> {
+    let tags = config.split_whitespace().map(str::parse);
+    let site = Site::new(tags.collect::<Result<Vec<LangTagBuf>, _>>()?);
+    site.tags().first().ok_or("a site needs a language")?;
+    for tag in site.tags() {
+        tag.validate()?;
+    }
+    Ok(Arc::new(site))
+}
+
+impl App {
+    fn reload(&self, config: &str) -> Result<(), Box<dyn Error>> {
+        *self.site.write().unwrap() = load(config)?;
+        Ok(())
     }
 
-    fn choose(&self, request: &Request<'_>) -> &LangTagBuf {
-        // `==` ignores case, so `?lang=ZH-hans` finds `zh-Hans`.
-        let wanted = request.query.strip_prefix("lang=");
-        if let Some(tag) = wanted.and_then(|wanted| self.tags.iter().find(|tag| *tag == wanted)) {
-            return tag;
-        }
-        let best = request
-            .accept_language
-            .and_then(|header| best_for_header(header, &self.tags));
-        best.map_or(&self.default, |index| &self.tags[index])
-    }
-
-    fn handle(&self, request: &Request<'_>) -> Response<'_> {
-        let tag = self.choose(request);
+    fn handle(&self, request: &Request<'_>) -> Response {
+        let site = self.site.read().unwrap().clone();
+        let tag = choose(&site, request);
         let direction = if tag.is_right_to_left() { "rtl" } else { "ltr" };
         Response {
-            content_language: tag,
+            content_language: tag.to_string(),
             vary: "Accept-Language",
             body: format!("<html lang={tag} dir={direction}>"),
         }
     }
 }
 
-fn main() -> Result<(), Box<dyn std::error::Error>> {
-    let site = Site::new(&["en", "zh-Hans", "zh-Hant", "ar"])?;
+fn choose<'s>(site: &'s Site<LangTagBuf>, request: &Request<'_>) -> &'s LangTagBuf {
+    // `==` ignores case, so `?lang=ZH-hans` finds `zh-Hans`.
+    let wanted = request.query.strip_prefix("lang=");
+    let named = wanted.and_then(|wanted| site.tags().iter().find(|tag| *tag == wanted));
+    let best = || site.best_for_header(request.accept_language?);
+    named.or_else(best).unwrap_or(&site.tags()[0])
+}
+
+fn main() -> Result<(), Box<dyn Error>> {
+    let site = RwLock::new(load("en zh-Hans")?);
+    let app = App { site };
+    assert!(app.reload("en de_DE").is_err() && app.reload("en ger").is_err());
+    app.reload("en zh-Hans zh-Hant ar")?;
     for (query, header, wanted) in [
         (
             "",
@@ -73,7 +82,7 @@ fn main() -> Result<(), Box<dyn std::error::Error>> {
         ("lang=ZH-hans", Some("fr"), "<html lang=zh-Hans dir=ltr>"),
     ] {
         let accept_language = header.map(str::as_bytes);
-        let response = site.handle(&Request {
+        let response = app.handle(&Request {
             query,
             accept_language,
         });

@@ -26,9 +26,7 @@ use crate::LangTag;
 use alloc::vec::Vec;
 use core::fmt;
 
-pub use crate::erased::choice::{
-    BestMatch, PreparedForm, RangeList, TagList, FORMLESS_DISTANCE,
-};
+pub use crate::erased::choice::{BestMatch, PreparedForm, RangeList, TagList, FORMLESS_DISTANCE};
 use crate::lists::Ranges;
 pub use crate::lists::TagEntry;
 #[cfg(feature = "alloc")]
@@ -91,6 +89,7 @@ pub fn best_for_accept_language(
 /// assert_eq!(best_for_ranges(&["nn", "de"], &["en", "nb"]), Some(1));
 /// assert_eq!(best_for_ranges(&["fi", "zh_TW"], &["en", "zh-Hant"]), Some(1));
 /// ```
+#[doc(alias = "choose")]
 #[must_use]
 pub fn best_for_ranges(
     ranges: &[impl AsRef<str>],

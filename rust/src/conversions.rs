@@ -1,5 +1,5 @@
-//! Conversions between tags, ranges, singletons and strings, the tag `und`, and what follows from
-//! the renamed calls of the proved modules.
+//! Conversions between tags, ranges, singletons and strings, and what follows from the renamed calls
+//! of the proved modules.
 #[cfg(feature = "alloc")]
 use alloc::boxed::Box;
 
@@ -9,31 +9,6 @@ use crate::matching::LanguageRange;
 use crate::matching::{AcceptLanguage, LanguageRangeBuf};
 #[cfg(feature = "alloc")]
 use crate::memory::{or_abort, AllocError};
-
-impl LangTag<'static> {
-    /// The tag `und`, for an undetermined language.
-    ///
-    /// It is the default.
-    ///
-    /// ```
-    /// use langtag::LangTag;
-    ///
-    /// assert_eq!(LangTag::UND.as_str(), "und");
-    /// assert_eq!(LangTag::default(), LangTag::UND);
-    /// ```
-    pub const UND: LangTag<'static> = NormalLangTag::with_ends(
-        "und",
-        Ends {
-            language: 3,
-            script: 3,
-            region: 3,
-            variants: 3,
-            extensions: 3,
-            whole: 3,
-        },
-    )
-    .as_lang_tag();
-}
 
 impl Default for LangTag<'_> {
     #[inline]
@@ -159,8 +134,28 @@ impl<'a> Extensions<'a> {
     /// ```
     #[must_use]
     #[inline]
-    pub fn get(&self, singleton: impl TryInto<Singleton>) -> Option<Extension<'a>> {
+    pub fn get(self, singleton: impl TryInto<Singleton>) -> Option<Extension<'a>> {
         self.get_singleton(singleton.try_into().ok()?)
+    }
+
+    /// Returns an iterator over the subtags of the extension with a singleton, which may be a
+    /// [`Singleton`], a `char` or a `u8`. Its singleton is left out.
+    ///
+    /// ```
+    /// use langtag::LangTag;
+    ///
+    /// let extensions = LangTag::new("de-a-bb-u-co-phonebk")?.extensions();
+    /// assert!(extensions.iter_extension('u').map(|subtag| subtag.as_str()).eq(["co", "phonebk"]));
+    /// assert_eq!(extensions.iter_extension('t').count(), 0);
+    /// # Ok::<(), Box<dyn std::error::Error>>(())
+    /// ```
+    #[must_use]
+    #[inline]
+    pub fn iter_extension(self, singleton: impl TryInto<Singleton>) -> ExtensionIter<'a> {
+        match singleton.try_into() {
+            Ok(singleton) => self.iter_singleton(singleton),
+            Err(_) => ExtensionIter::empty(),
+        }
     }
 }
 
@@ -199,6 +194,7 @@ impl LangTagBuf {
     /// assert_eq!(tag, "zh-Hant");
     /// # Ok::<(), Box<dyn std::error::Error>>(())
     /// ```
+    #[doc(alias = "builder")]
     #[must_use]
     #[inline]
     pub fn from_parts(
@@ -259,7 +255,8 @@ macro_rules! recommended {
             /// ```
             #[must_use]
             #[inline]
-            pub fn to_recommended_case(&self) -> $owned {
+            #[doc(alias = "normalize")]
+            pub fn to_recommended_case(self) -> $owned {
                 or_abort(self.try_to_recommended_case())
             }
         }

@@ -83,6 +83,7 @@ impl<T: AsRef<str>> InvalidLangTag<T> {
     /// assert_eq!(refusal.kind, RefusalKind::Subtag);
     /// assert_eq!(&error.0[refusal.start..refusal.end], "DE");
     /// ```
+    #[doc(alias = "offset")]
     #[must_use]
     #[inline]
     pub fn refusal(&self) -> Option<Refusal> {

@@ -1,11 +1,106 @@
-//! Setting and removing keywords, as methods of the owned tag.
-use crate::unicode::{remove_keyword, set_keyword, SetKeywordError};
-use crate::LangTagBuf;
+//! Setting and removing keywords of an owned tag.
+use core::fmt;
+
+use alloc::string::String;
+
+use crate::erased::unicode;
+use crate::memory::try_string;
+use crate::message::Quoted;
+use crate::unicode::KeywordError;
+use crate::{AllocError, LangTagBuf};
+
+/// The error of [`LangTagBuf::set_keyword`] and [`LangTagBuf::remove_keyword`]. The tag is unchanged.
+///
+/// ```
+/// use langtag::unicode::SetKeywordError;
+/// use langtag::LangTagBuf;
+///
+/// let mut tag: LangTagBuf = "de".parse()?;
+/// let error = tag.set_keyword("calendar", "roc").unwrap_err();
+/// assert_eq!(error, SetKeywordError::Key("calendar".into()));
+/// assert_eq!(error.to_string(), "`calendar` is not a key of the extension u");
+/// # Ok::<(), Box<dyn std::error::Error>>(())
+/// ```
+#[derive(Clone, Debug, PartialEq, Eq, Hash)]
+#[non_exhaustive]
+pub enum SetKeywordError {
+    /// A string that is not a key, as in [`KeywordError::Key`].
+    Key(String),
+    /// A string that is not a value, and the offset in bytes of its first wrong subtag, as in
+    /// [`KeywordError::Value`].
+    Value(String, usize),
+    /// The tag is not normal, as in [`KeywordError::NotNormal`].
+    NotNormal,
+    /// Allocation failed.
+    Memory(AllocError),
+}
+
+impl SetKeywordError {
+    fn of(error: unicode::SetKeywordError, key: &str, value: &str) -> SetKeywordError {
+        let owned = match error {
+            unicode::SetKeywordError::Keyword(KeywordError::Key) => {
+                try_string(key).map(SetKeywordError::Key)
+            }
+            unicode::SetKeywordError::Keyword(KeywordError::Value(offset)) => {
+                try_string(value).map(|value| SetKeywordError::Value(value, offset))
+            }
+            unicode::SetKeywordError::Keyword(KeywordError::NotNormal) => {
+                Ok(SetKeywordError::NotNormal)
+            }
+            unicode::SetKeywordError::Memory(error) => Err(error),
+        };
+        owned.unwrap_or_else(SetKeywordError::Memory)
+    }
+}
+
+impl fmt::Display for SetKeywordError {
+    fn fmt(&self, f: &mut fmt::Formatter<'_>) -> fmt::Result {
+        match self {
+            SetKeywordError::Key(key) => {
+                let key = Quoted(key.as_bytes());
+                write!(f, "{key} is not a key of the extension u")
+            }
+            SetKeywordError::Value(value, _) => {
+                let value = Quoted(value.as_bytes());
+                write!(f, "{value} is {}", KeywordError::Value(0))
+            }
+            SetKeywordError::NotNormal => KeywordError::NotNormal.fmt(f),
+            SetKeywordError::Memory(error) => error.fmt(f),
+        }
+    }
+}
+
+impl core::error::Error for SetKeywordError {}
+
+impl From<AllocError> for SetKeywordError {
+    fn from(error: AllocError) -> Self {
+        SetKeywordError::Memory(error)
+    }
+}
+
+/// Sets the value of a key of the extension `u`, as [`LangTagBuf::set_keyword`] does.
+///
+/// # Errors
+///
+/// Returns the same errors.
+#[inline]
+pub fn set_keyword(tag: &mut LangTagBuf, key: &str, value: &str) -> Result<(), SetKeywordError> {
+    unicode::set_keyword(tag, key, value).map_err(|error| SetKeywordError::of(error, key, value))
+}
+
+/// Removes a key of the extension `u`, as [`LangTagBuf::remove_keyword`] does.
+///
+/// # Errors
+///
+/// Returns the same errors.
+#[inline]
+pub fn remove_keyword(tag: &mut LangTagBuf, key: &str) -> Result<(), SetKeywordError> {
+    unicode::remove_keyword(tag, key).map_err(|error| SetKeywordError::of(error, key, ""))
+}
 
 impl LangTagBuf {
-    /// Sets the value of a key of the extension `u`, as
-    /// [`unicode::set_keyword`](crate::unicode::set_keyword) does: with `buddhist` for `ca`,
-    /// `th-TH` becomes `th-TH-u-ca-buddhist`.
+    /// Sets the value of a key of the extension `u`: with `buddhist` for `ca`, `th-TH` becomes
+    /// `th-TH-u-ca-buddhist`.
     ///
     /// # Errors
     ///
@@ -25,9 +120,7 @@ impl LangTagBuf {
         set_keyword(self, key, value)
     }
 
-    /// Removes a key of the extension `u`, as
-    /// [`unicode::remove_keyword`](crate::unicode::remove_keyword) does: without `ca`,
-    /// `th-TH-u-ca-buddhist` becomes `th-TH`.
+    /// Removes a key of the extension `u`: without `ca`, `th-TH-u-ca-buddhist` becomes `th-TH`.
     ///
     /// # Errors
     ///

@@ -7,7 +7,7 @@ use crate::likely::Parents;
 #[allow(unused_imports)] // only links name LanguageRange
 use crate::matching::{Fallbacks, LanguageRange, LanguageRangeBuf};
 #[cfg(feature = "data")]
-use crate::registry::InvalidSubtag;
+use crate::registry::{InvalidSubtag, InvalidSubtagBuf};
 #[cfg(feature = "data")]
 use crate::unicode::{AttributesIter, KeywordsIter, Transformation};
 
@@ -45,7 +45,7 @@ lent! {
     ExtensionsBuf: Extensions by as_extensions {
         iter() -> ExtensionsIter<'_>;
         get(singleton: impl TryInto<Singleton>) -> Option<Extension<'_>>;
-        iter_extension(singleton: Singleton) -> ExtensionIter<'_>;
+        iter_extension(singleton: impl TryInto<Singleton>) -> ExtensionIter<'_>;
     }
     PrivateUseBuf: PrivateUse by as_private_use {
         iter() -> PrivateUseIter<'_>;
@@ -112,7 +112,7 @@ lent! {
         attributes() -> AttributesIter<'_>;
         transform() -> Option<Transformation<'_>>;
         is_right_to_left() -> bool;
-        parent() -> Option<LangTag<'_>>;
+        parent() -> Option<LangTagBuf>;
         parents() -> Parents<'_>;
     }
 }
@@ -125,8 +125,10 @@ impl LangTagBuf {
     ///
     /// Returns the first subtag that makes the tag invalid.
     #[inline]
-    pub fn validate(&self) -> Result<(), InvalidSubtag<'_>> {
-        self.as_lang_tag().validate()
+    pub fn validate(&self) -> Result<(), InvalidSubtagBuf> {
+        self.as_lang_tag()
+            .validate()
+            .map_err(InvalidSubtag::into_owned)
     }
 
     /// Returns what [`LangTag::keyword`] returns.
@@ -145,7 +147,7 @@ impl LangTagBuf {
 impl LangTagBuf {
     /// Returns what [`LangTag::matches`] returns.
     #[must_use]
-    pub fn matches<'r>(&self, range: impl Into<LanguageRange<'r>>) -> bool {
+    pub fn matches<'r>(&self, range: impl TryInto<LanguageRange<'r>>) -> bool {
         self.as_lang_tag().matches(range)
     }
 }

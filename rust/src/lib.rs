@@ -111,6 +111,9 @@ mod memory;
 mod shim;
 #[macro_use]
 mod text_types;
+#[cfg(feature = "data")]
+#[macro_use]
+mod forms;
 
 // The modules that rust/erase makes. Some items are only for the C library, or for crates of
 // Rattle.
@@ -138,6 +141,7 @@ pub mod unicode;
 
 // What Rust programs expect of the types.
 mod caseless_text;
+mod constants;
 mod conversions;
 mod invalid;
 #[cfg(all(feature = "alloc", feature = "data"))]
@@ -160,17 +164,23 @@ mod text;
 mod too_short;
 mod walks;
 
+/// The errors of parts of a tag, which are also at the root of the crate.
+pub mod errors {
+    pub use crate::erased::tag::{
+        InvalidExtendedLangTag, InvalidExtension, InvalidExtensionSubtag, InvalidExtensions,
+        InvalidGrandfatheredTag, InvalidLanguage, InvalidLanguageExtension, InvalidNormalLangTag,
+        InvalidPrimaryLanguage, InvalidPrivateUse, InvalidPrivateUseSubtag, InvalidRegion,
+        InvalidScript, InvalidSingleton, InvalidVariant, InvalidVariants,
+    };
+}
+
 // The items of langtag 0.4.0.
 pub use erased::tag::{
     ExtendedLangTag, Extension, ExtensionIter, ExtensionSubtag, Extensions, ExtensionsIter,
-    GrandfatheredLangTag, InvalidExtendedLangTag, InvalidExtension, InvalidExtensionSubtag,
-    InvalidExtensions, InvalidGrandfatheredTag, InvalidLangTag, InvalidLanguage,
-    InvalidLanguageExtension, InvalidNormalLangTag, InvalidPrimaryLanguage, InvalidPrivateUse,
-    InvalidPrivateUseSubtag, InvalidRegion, InvalidScript, InvalidSingleton, InvalidVariant,
-    InvalidVariants, Kind, LangTag, Language, LanguageExtension, LanguageExtensionIter,
-    NormalLangTag, PrimaryLanguage, PrivateUse, PrivateUseIter, PrivateUseLangTag,
-    PrivateUseSubtag, Region, Script, Singleton, TypedLangTag, Variant, Variants, VariantsIter,
-    GRANDFATHERED,
+    GrandfatheredLangTag, InvalidLangTag, Kind, LangTag, Language, LanguageExtension,
+    LanguageExtensionIter, NormalLangTag, PrimaryLanguage, PrivateUse, PrivateUseIter,
+    PrivateUseLangTag, PrivateUseSubtag, Region, Script, Singleton, TypedLangTag, Variant,
+    Variants, VariantsIter, GRANDFATHERED,
 };
 #[cfg(feature = "alloc")]
 pub use erased::tag::{
@@ -178,12 +188,17 @@ pub use erased::tag::{
     LanguageExtensionBuf, NormalLangTagBuf, PrimaryLanguageBuf, PrivateUseBuf,
     PrivateUseLangTagBuf, PrivateUseSubtagBuf, RegionBuf, ScriptBuf, VariantBuf, VariantsBuf,
 };
+#[doc(hidden)]
+pub use errors::*;
 
 // What else these items take and return.
 pub use caseless_text::CaselessText;
 #[cfg(feature = "alloc")]
 pub use erased::tag::EditError;
 pub use erased::tag::{Ends, InRecommendedCase, Refusal, RefusalKind, Subtags};
+pub use matching::LanguageRange;
+#[cfg(feature = "alloc")]
+pub use matching::{AcceptLanguage, LanguageRangeBuf};
 #[cfg(feature = "alloc")]
 pub use shim::AllocError;
 pub use too_short::TooShort;

@@ -13,123 +13,38 @@
 //! # }
 //! # Ok::<(), Box<dyn std::error::Error>>(())
 //! ```
-use crate::erased::{likely, posix};
+#[cfg(feature = "alloc")]
+use crate::erased::tag::tag_of;
+use crate::erased::{likely, parent as erased_parent, posix};
 use crate::too_short::written;
 #[cfg(feature = "alloc")]
 use crate::{memory::or_abort, AllocError, LangTagBuf};
 use crate::{LangTag, TooShort};
 #[cfg(feature = "alloc")]
-use alloc::string::String;
+use alloc::{string::String, vec};
 
+pub use crate::erased::likely::CLDR_VERSION;
+pub use crate::erased::posix::unknown_modifier;
 #[cfg(feature = "alloc")]
 pub use crate::erased::posix::{from_posix, PosixError};
-pub use crate::erased::likely::CLDR_VERSION;
-pub use crate::erased::parent::Parents;
-pub use crate::erased::posix::unknown_modifier;
 #[cfg(feature = "alloc")]
 pub use crate::owned_errors::PosixErrorBuf;
 
-/// Returns a tag with its likely script and region: `zh-Hant-TW` for `zh-TW`.
-///
-/// If there are none, or the tag has both, it returns the tag.
-///
-/// ```
-/// use langtag::likely::maximized;
-/// use langtag::LangTag;
-///
-/// assert_eq!(maximized(LangTag::new("zh-TW")?), "zh-Hant-TW");
-/// assert_eq!(maximized(LangTag::new("und-Grek")?), "el-Grek-GR");
-/// # Ok::<(), Box<dyn std::error::Error>>(())
-/// ```
-#[cfg(feature = "alloc")]
-#[must_use]
-pub fn maximized<'a>(tag: impl Into<LangTag<'a>>) -> LangTagBuf {
-    or_abort(try_maximized(tag))
+form! {
+    /// Returns a tag with its likely script and region: `el-Grek-GR` for `und-Grek`.
+    ///
+    /// If there are none, or the tag has both, it returns the tag.
+    #[doc(alias = "maximize")]
+    likely: maximized, try_maximized, write_maximized;
+    "a tag with its likely script and region", "zh-TW" is "zh-Hant-TW"
 }
 
-/// Returns a tag with its likely script and region, as [`maximized`] does.
-///
-/// # Errors
-///
-/// Returns an error if allocation fails.
-#[cfg(feature = "alloc")]
-pub fn try_maximized<'a>(tag: impl Into<LangTag<'a>>) -> Result<LangTagBuf, AllocError> {
-    likely::maximized(tag.into())
-}
-
-/// Returns a tag without the script and the region that [`maximized`] would add again: `zh-TW` for
-/// `zh-Hant-TW`.
-///
-/// ```
-/// use langtag::likely::minimized;
-/// use langtag::LangTag;
-///
-/// assert_eq!(minimized(LangTag::new("zh-Hant-TW")?), "zh-TW");
-/// assert_eq!(minimized(LangTag::new("de-Latn-DE-1996")?), "de-1996");
-/// # Ok::<(), Box<dyn std::error::Error>>(())
-/// ```
-#[cfg(feature = "alloc")]
-#[must_use]
-pub fn minimized<'a>(tag: impl Into<LangTag<'a>>) -> LangTagBuf {
-    or_abort(try_minimized(tag))
-}
-
-/// Returns a tag without the script and the region that are likely anyway, as [`minimized`] does.
-///
-/// # Errors
-///
-/// Returns an error if allocation fails.
-#[cfg(feature = "alloc")]
-pub fn try_minimized<'a>(tag: impl Into<LangTag<'a>>) -> Result<LangTagBuf, AllocError> {
-    likely::minimized(tag.into())
-}
-
-/// Writes a tag with its likely script and region to a buffer, as `maximized` returns it, and
-/// returns what was written.
-///
-/// It does not allocate.
-///
-/// # Errors
-///
-/// Returns the length of the result if the buffer is too short.
-///
-/// ```
-/// use langtag::likely::write_maximized;
-/// use langtag::LangTag;
-///
-/// assert_eq!(write_maximized(LangTag::new("zh-TW")?, &mut [0; 16])?, "zh-Hant-TW");
-/// # Ok::<(), Box<dyn std::error::Error>>(())
-/// ```
-pub fn write_maximized<'a, 'b>(
-    tag: impl Into<LangTag<'a>>,
-    buffer: &'b mut [u8],
-) -> Result<&'b str, TooShort> {
-    let len = likely::write_maximized(tag.into(), buffer);
-    written(buffer, len)
-}
-
-/// Writes a tag without the script and the region that are likely anyway to a buffer, as
-/// `minimized` returns it, and returns what was written.
-///
-/// It does not allocate.
-///
-/// # Errors
-///
-/// Returns the length of the result if the buffer is too short.
-///
-/// ```
-/// use langtag::likely::write_minimized;
-/// use langtag::LangTag;
-///
-/// assert_eq!(write_minimized(LangTag::new("zh-Hant-TW")?, &mut [0; 16])?, "zh-TW");
-/// # Ok::<(), Box<dyn std::error::Error>>(())
-/// ```
-pub fn write_minimized<'a, 'b>(
-    tag: impl Into<LangTag<'a>>,
-    buffer: &'b mut [u8],
-) -> Result<&'b str, TooShort> {
-    let len = likely::write_minimized(tag.into(), buffer);
-    written(buffer, len)
+form! {
+    /// Returns a tag without the script and the region that [`maximized`] would add again: `de-1996`
+    /// for `de-Latn-DE-1996`.
+    #[doc(alias = "minimize")]
+    likely: minimized, try_minimized, write_minimized;
+    "a tag without the script and the region that are likely anyway", "zh-Hant-TW" is "zh-TW"
 }
 
 /// Writes the tag for a POSIX locale name to a buffer, as `from_posix` returns it, and returns what
@@ -243,15 +158,7 @@ pub fn is_right_to_left<'a>(tag: impl Into<LangTag<'a>>) -> bool {
 
 /// Returns the parent of a tag in Unicode's CLDR, in which a catalogue of strings looks next: `pt-PT`
 /// for `pt-AO`, `es-419` for `es-MX`, `en-001` for `en-GB`. Returns `None` if the tag has no parent,
-/// such as `pt`.
-///
-/// A parent is written in the same script, so `zh-TW` has the parent `zh-Hant`, which has none.
-/// Extensions and private use are removed first, then each variant, and then the region. A script is
-/// removed only if it is the likely script of the language. The parent is a slice of the tag, or a
-/// static string if CLDR names another tag. Case is ignored.
-///
-/// CLDR does not list deprecated or extended languages, so replace them first with
-/// `canonical`. Private-use tags, irregular tags and `und` have no parent.
+/// such as `pt`. It is the second tag of [`Parents`].
 ///
 /// ```
 /// use langtag::likely::parent;
@@ -262,7 +169,92 @@ pub fn is_right_to_left<'a>(tag: impl Into<LangTag<'a>>) -> bool {
 /// assert_eq!(parent(LangTag::new("zh-Hant")?), None);
 /// # Ok::<(), Box<dyn std::error::Error>>(())
 /// ```
+#[cfg(feature = "alloc")]
 #[must_use]
-pub fn parent<'a>(tag: impl Into<LangTag<'a>>) -> Option<LangTag<'a>> {
-    crate::erased::parent::parent(tag.into())
+pub fn parent<'a>(tag: impl Into<LangTag<'a>>) -> Option<LangTagBuf> {
+    erased_parent::parent(tag.into()).map(to_tag)
+}
+
+/// Writes a tag or one of its parents to a buffer, and returns what was written. At index 0 is the tag
+/// itself, and at 1 its parent. Returns `None` if there are no more parents.
+///
+/// It does not allocate.
+///
+/// # Errors
+///
+/// Returns the length of the tag if the buffer is too short.
+///
+/// ```
+/// use langtag::likely::write_parent;
+/// use langtag::LangTag;
+///
+/// let mut buffer = [0; 16];
+/// let tag = LangTag::new("pt-Latn-AO")?;
+/// assert_eq!(write_parent(tag, 2, &mut buffer)?, Some("pt-PT"));
+/// assert_eq!(write_parent(tag, 4, &mut buffer)?, None);
+/// # Ok::<(), Box<dyn std::error::Error>>(())
+/// ```
+pub fn write_parent<'a, 'b>(
+    tag: impl Into<LangTag<'a>>,
+    index: usize,
+    buffer: &'b mut [u8],
+) -> Result<Option<&'b str>, TooShort> {
+    match erased_parent::nth_parent(tag.into(), index) {
+        Some(parent) => {
+            let len = parent.write(buffer);
+            written(buffer, len).map(Some)
+        }
+        None => Ok(None),
+    }
+}
+
+/// An iterator over a tag and its parents, in the order in which a catalogue looks for a string.
+///
+/// All of them are written in the same script, so `zh-TW` is followed by `zh-Hant`, and never by
+/// `zh`. A script that is likely anyway goes first. Extensions and private use go next, then each
+/// variant, the last one first, and then the region. The variants come back with each parent. A
+/// script is removed only if it is the likely script of the language. Case is ignored.
+///
+/// CLDR does not list deprecated or extended languages, so replace them first with `canonical`.
+/// Private-use tags, irregular tags and `und` have no parent.
+///
+/// ```
+/// use langtag::likely::Parents;
+/// use langtag::LangTag;
+///
+/// let chain = |text| LangTag::new(text).map(|tag| Parents::new(tag).collect::<Vec<_>>());
+/// assert_eq!(chain("pt-Latn-AO")?, ["pt-Latn-AO", "pt-AO", "pt-PT", "pt"]);
+/// assert_eq!(chain("ca-ES-valencia")?, ["ca-ES-valencia", "ca-ES", "ca-valencia", "ca"]);
+/// # Ok::<(), Box<dyn std::error::Error>>(())
+/// ```
+#[cfg(feature = "alloc")]
+#[derive(Clone, Debug)]
+pub struct Parents<'a>(erased_parent::Parents<'a>);
+
+#[cfg(feature = "alloc")]
+impl<'a> Parents<'a> {
+    /// Returns an iterator that starts at the tag itself.
+    #[must_use]
+    pub fn new(tag: impl Into<LangTag<'a>>) -> Self {
+        Parents(erased_parent::Parents::new(tag.into()))
+    }
+}
+
+#[cfg(feature = "alloc")]
+impl Iterator for Parents<'_> {
+    type Item = LangTagBuf;
+
+    fn next(&mut self) -> Option<LangTagBuf> {
+        self.0.next().map(to_tag)
+    }
+}
+
+#[cfg(feature = "alloc")]
+impl core::iter::FusedIterator for Parents<'_> {}
+
+#[cfg(feature = "alloc")]
+fn to_tag(parent: erased_parent::ParentTag<'_>) -> LangTagBuf {
+    let mut bytes = vec![0; parent.write(&mut [])];
+    parent.write(&mut bytes);
+    tag_of(bytes)
 }

@@ -55,7 +55,7 @@ impl LanguageRange<'_> {
     /// [RFC 4647 section 3.3.1]: https://www.rfc-editor.org/rfc/rfc4647#section-3.3.1
     #[inline]
     #[must_use]
-    pub fn matches_basic<'t>(&self, tag: impl Into<LangTag<'t>>) -> bool {
+    pub fn matches_basic<'t>(self, tag: impl Into<LangTag<'t>>) -> bool {
         self.is_basic_match(&tag.into())
     }
 
@@ -77,8 +77,23 @@ impl LanguageRange<'_> {
     /// [RFC 4647 section 3.3.2]: https://www.rfc-editor.org/rfc/rfc4647#section-3.3.2
     #[inline]
     #[must_use]
-    pub fn matches_extended<'t>(&self, tag: impl Into<LangTag<'t>>) -> bool {
+    pub fn matches_extended<'t>(self, tag: impl Into<LangTag<'t>>) -> bool {
         self.is_extended_match(&tag.into())
+    }
+
+    /// Returns what [`matches_extended`](Self::matches_extended) returns, as [`LangTag::matches`]
+    /// does. Without it, this would be the method of `str`, which searches a pattern.
+    ///
+    /// ```
+    /// use langtag::{LangTag, LanguageRange};
+    ///
+    /// assert!(LanguageRange::new("*-DE")?.matches(LangTag::new("de-Latn-DE")?));
+    /// # Ok::<(), Box<dyn std::error::Error>>(())
+    /// ```
+    #[inline]
+    #[must_use]
+    pub fn matches<'t>(self, tag: impl Into<LangTag<'t>>) -> bool {
+        self.matches_extended(tag)
     }
 }
 
@@ -96,6 +111,13 @@ impl LanguageRangeBuf {
     #[must_use]
     pub fn matches_extended<'t>(&self, tag: impl Into<LangTag<'t>>) -> bool {
         self.as_language_range().matches_extended(tag)
+    }
+
+    /// Returns what [`LanguageRange::matches`] returns.
+    #[inline]
+    #[must_use]
+    pub fn matches<'t>(&self, tag: impl Into<LangTag<'t>>) -> bool {
+        self.as_language_range().matches(tag)
     }
 }
 

@@ -2,6 +2,7 @@
 use core::fmt;
 use core::fmt::Write as _;
 
+use crate::erased::header::ElementPart;
 use crate::erased::tag::{Refusal, RefusalKind};
 
 /// The greatest number of characters of a refused text in a message.
@@ -17,6 +18,24 @@ pub(crate) fn write_text(f: &mut fmt::Formatter<'_>, text: &[u8]) -> fmt::Result
 #[inline]
 pub(crate) fn write_tag(f: &mut fmt::Formatter<'_>, text: &[u8]) -> fmt::Result {
     write!(f, " {}: {}", Quoted(text), Reason(text))
+}
+
+/// Writes which element of a header is malformed, counted from 1, and the element.
+pub(crate) fn write_element(
+    f: &mut fmt::Formatter<'_>,
+    header: &str,
+    index: usize,
+    offset: usize,
+    part: &ElementPart,
+) -> fmt::Result {
+    let number = index.saturating_add(1);
+    let rest = header.get(offset..).unwrap_or_default();
+    let element = rest.split(',').next().unwrap_or_default();
+    let element = Quoted(element.trim_matches([' ', '\t']).as_bytes());
+    write!(
+        f,
+        "element {number} at offset {offset} has a bad {part}: {element}"
+    )
 }
 
 /// A string between backticks.
@@ -57,8 +76,9 @@ impl fmt::Display for Escaped<'_> {
     }
 }
 
-/// Writes a character. Control characters are escaped, and so are the characters of Unicode that
-/// are invisible or change the direction of the string. All languages have this list.
+/// Writes a character, or its escape if it is a control character, is invisible, or changes the
+/// direction of the string: Unicode's categories Cc, Cf, Zl, Zp and Zs (except for the space), and
+/// the property Default_Ignorable_Code_Point. All languages have this list.
 #[inline]
 fn write_escaped(f: &mut fmt::Formatter<'_>, character: char) -> fmt::Result {
     match character {
@@ -67,11 +87,34 @@ fn write_escaped(f: &mut fmt::Formatter<'_>, character: char) -> fmt::Result {
         '\r' => f.write_str("\\r"),
         '\\' | '`' => write!(f, "\\{character}"),
         '\0'..='\u{1f}'
-        | '\u{7f}'..='\u{9f}'
-        | '\u{200b}'..='\u{200f}'
-        | '\u{2028}'..='\u{202e}'
-        | '\u{2060}'..='\u{206f}'
-        | '\u{feff}' => write!(f, "\\u{{{:x}}}", u32::from(character)),
+        | '\u{7f}'..='\u{a0}'
+        | '\u{ad}'
+        | '\u{34f}'
+        | '\u{600}'..='\u{605}'
+        | '\u{61c}'
+        | '\u{6dd}'
+        | '\u{70f}'
+        | '\u{890}'..='\u{891}'
+        | '\u{8e2}'
+        | '\u{115f}'..='\u{1160}'
+        | '\u{1680}'
+        | '\u{17b4}'..='\u{17b5}'
+        | '\u{180b}'..='\u{180f}'
+        | '\u{2000}'..='\u{200f}'
+        | '\u{2028}'..='\u{202f}'
+        | '\u{205f}'..='\u{206f}'
+        | '\u{3000}'
+        | '\u{3164}'
+        | '\u{fe00}'..='\u{fe0f}'
+        | '\u{feff}'
+        | '\u{ffa0}'
+        | '\u{fff0}'..='\u{fffb}'
+        | '\u{110bd}'
+        | '\u{110cd}'
+        | '\u{13430}'..='\u{1343f}'
+        | '\u{1bca0}'..='\u{1bca3}'
+        | '\u{1d173}'..='\u{1d17a}'
+        | '\u{e0000}'..='\u{e0fff}' => write!(f, "\\u{{{:x}}}", u32::from(character)),
         _ => f.write_char(character),
     }
 }

@@ -1,5 +1,5 @@
 //! Names of tags in English, and of languages in themselves, from Unicode's CLDR. The feature `names`
-//! adds this module and its tables, which take 60 kB.
+//! adds this module and its tables.
 //!
 //! ```
 //! use langtag::names::{autonym, describe};
@@ -19,9 +19,11 @@ use alloc::vec::Vec;
 
 use crate::likely::maximized;
 use crate::registry::canonical;
-use crate::{LangTag, NormalLangTag, Script};
+use crate::unicode::locale_form;
+use crate::{LangTag, LangTagBuf, NormalLangTag, Script};
 
-/// Returns an English name of a tag, made of CLDR's names for the subtags of its canonical form.
+/// Returns an English name of a tag, made of CLDR's names for the subtags of its
+/// [`locale_form`], or of its canonical form if it has none.
 ///
 /// A subtag for which CLDR has no name is shown as it is, and so are extensions and private use. The
 /// variants are in alphabetical order.
@@ -37,8 +39,7 @@ use crate::{LangTag, NormalLangTag, Script};
 /// ```
 #[must_use]
 pub fn describe<'a>(tag: impl Into<LangTag<'a>>) -> String {
-    let mut form = canonical(tag);
-    form.make_recommended_case();
+    let form = form_of(tag.into());
     let Some(tag) = form.as_lang_tag().as_normal() else {
         return form.as_str().into();
     };
@@ -50,6 +51,13 @@ pub fn describe<'a>(tag: impl Into<LangTag<'a>>) -> String {
         name.push(')');
     }
     name
+}
+
+/// Returns the form of a tag whose subtags have the names: `de` for `ger`, as in [`locale_form`].
+fn form_of(tag: LangTag<'_>) -> LangTagBuf {
+    let mut form = locale_form(tag).unwrap_or_else(|| canonical(tag));
+    form.make_recommended_case();
+    form
 }
 
 /// Returns the names of the subtags after the language. Extensions and private use stay strings.
@@ -112,8 +120,7 @@ fn name_in(rows: &[(&str, &'static str)], key: &str) -> Option<&'static str> {
 /// ```
 #[must_use]
 pub fn autonym<'a>(tag: impl Into<LangTag<'a>>) -> Option<&'static str> {
-    let mut form = canonical(tag);
-    form.make_recommended_case();
+    let form = form_of(tag.into());
     let tag = form.as_lang_tag().as_normal()?;
     let language = tag.language().as_str();
     let likely = likely_script(tag.base().as_str());

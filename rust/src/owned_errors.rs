@@ -8,6 +8,7 @@ use crate::erased::tag::*;
 use crate::likely::PosixError;
 use crate::matching::{AcceptLanguageError, ElementPart};
 use crate::memory::AllocError;
+use crate::message::write_element;
 #[cfg(feature = "data")]
 use crate::registry::InvalidSubtag;
 
@@ -83,6 +84,23 @@ impl InvalidSubtagBuf {
         }
     }
 
+    /// Returns the error itself, so that the same code converts the error of a tag and the error of an
+    /// owned tag:
+    ///
+    /// ```
+    /// use langtag::{LangTag, LangTagBuf};
+    ///
+    /// let owned: LangTagBuf = "qt-FR".parse()?;
+    /// let error = owned.validate().map_err(|error| error.into_owned());
+    /// assert_eq!(error, LangTag::new("qt-FR")?.validate().map_err(|error| error.into_owned()));
+    /// # Ok::<(), Box<dyn std::error::Error>>(())
+    /// ```
+    #[must_use]
+    #[inline]
+    pub fn into_owned(self) -> InvalidSubtagBuf {
+        self
+    }
+
     /// Returns the registered code that is probably meant, as [`InvalidSubtag::suggestion`] does.
     #[must_use]
     #[inline]
@@ -134,7 +152,7 @@ impl fmt::Display for InvalidSubtagBuf {
 /// }
 /// assert_eq!(count("de, fr;q=0.5".into()).ok(), Some(2));
 /// let error = count("de, fr_FR".into()).unwrap_err();
-/// assert_eq!(error.to_string(), "element 1 has a bad language range");
+/// assert_eq!(error.to_string(), "element 2 at offset 3 has a bad language range: `fr_FR`");
 /// ```
 #[derive(Clone, Debug, PartialEq, Eq, Hash)]
 #[non_exhaustive]
@@ -180,9 +198,12 @@ impl fmt::Display for AcceptLanguageErrorBuf {
     #[inline]
     fn fmt(&self, f: &mut fmt::Formatter<'_>) -> fmt::Result {
         match self {
-            AcceptLanguageErrorBuf::BadElement { index, part, .. } => {
-                write!(f, "element {index} has a bad {part}")
-            }
+            AcceptLanguageErrorBuf::BadElement {
+                header,
+                index,
+                offset,
+                part,
+            } => write_element(f, header, *index, *offset, part),
             AcceptLanguageErrorBuf::Memory(error) => error.fmt(f),
         }
     }

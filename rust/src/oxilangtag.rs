@@ -309,7 +309,7 @@ pub struct LanguageTagParseError {
 impl LanguageTagParseError {
     fn of(text: &str) -> Self {
         LanguageTagParseError {
-            viable_len: crate::erased::recogniser::viable_len(text.as_bytes()),
+            viable_len: crate::erased::scan::viable_len(text.as_bytes()),
         }
     }
 }

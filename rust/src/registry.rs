@@ -21,11 +21,11 @@ use crate::{memory::or_abort, AllocError, LangTagBuf};
 use crate::{LangTag, TooShort};
 
 pub use crate::erased::registry::{
-    extlang_prefix, is_deprecated_extlang, is_deprecated_language,
-    is_deprecated_region, is_deprecated_tag, is_deprecated_variant, is_registered_extlang,
-    is_registered_language, is_registered_region, is_registered_script, is_registered_variant,
-    macrolanguage, misplaced_extlang, misplaced_variant, preferred_language, preferred_region,
-    preferred_tag, preferred_variant, suppress_script, InvalidSubtag, FILE_DATE,
+    extlang_prefix, is_deprecated_extlang, is_deprecated_language, is_deprecated_region,
+    is_deprecated_tag, is_deprecated_variant, is_registered_extlang, is_registered_language,
+    is_registered_region, is_registered_script, is_registered_variant, macrolanguage,
+    misplaced_extlang, misplaced_variant, preferred_language, preferred_region, preferred_tag,
+    preferred_variant, suppress_script, InvalidSubtag, FILE_DATE,
 };
 #[cfg(feature = "alloc")]
 pub use crate::owned_errors::InvalidSubtagBuf;
@@ -52,61 +52,23 @@ pub fn validate<'a>(tag: impl Into<LangTag<'a>>) -> Result<(), InvalidSubtag<'a>
     registry::validate(tag.into())
 }
 
-/// Returns the canonical form of a tag ([RFC 5646 section 4.5]): deprecated subtags are replaced,
-/// and extensions are sorted by their singletons.
-///
-/// ```
-/// use langtag::registry::canonical;
-/// use langtag::LangTag;
-///
-/// assert_eq!(canonical(LangTag::new("iw-BU")?), "he-MM");
-/// assert_eq!(canonical(LangTag::new("zh-yue")?), "yue");
-/// # Ok::<(), Box<dyn std::error::Error>>(())
-/// ```
-///
-/// [RFC 5646 section 4.5]: https://www.rfc-editor.org/rfc/rfc5646#section-4.5
-#[cfg(feature = "alloc")]
-#[must_use]
-pub fn canonical<'a>(tag: impl Into<LangTag<'a>>) -> LangTagBuf {
-    or_abort(try_canonical(tag))
+form! {
+    /// Returns the canonical form of a tag ([RFC 5646 section 4.5]): deprecated subtags are replaced,
+    /// and extensions are sorted by their singletons.
+    ///
+    /// [RFC 5646 section 4.5]: https://www.rfc-editor.org/rfc/rfc5646#section-4.5
+    #[doc(alias = "canonicalize")]
+    registry: canonical, try_canonical, write_canonical;
+    "the canonical form of a tag", "iw-BU" is "he-MM"
 }
 
-/// Returns the canonical form of a tag, as [`canonical`] does.
-///
-/// # Errors
-///
-/// Returns an error if allocation fails.
-#[cfg(feature = "alloc")]
-pub fn try_canonical<'a>(tag: impl Into<LangTag<'a>>) -> Result<LangTagBuf, AllocError> {
-    registry::canonical(tag.into())
-}
-
-/// Returns the extlang form of a tag ([RFC 5646 section 4.5]): its canonical form, with an extended
-/// language subtag where the registry has one.
-///
-/// ```
-/// use langtag::registry::extlang_form;
-/// use langtag::LangTag;
-///
-/// assert_eq!(extlang_form(LangTag::new("yue-HK")?), "zh-yue-HK");
-/// # Ok::<(), Box<dyn std::error::Error>>(())
-/// ```
-///
-/// [RFC 5646 section 4.5]: https://www.rfc-editor.org/rfc/rfc5646#section-4.5
-#[cfg(feature = "alloc")]
-#[must_use]
-pub fn extlang_form<'a>(tag: impl Into<LangTag<'a>>) -> LangTagBuf {
-    or_abort(try_extlang_form(tag))
-}
-
-/// Returns the extlang form of a tag, as [`extlang_form`] does.
-///
-/// # Errors
-///
-/// Returns an error if allocation fails.
-#[cfg(feature = "alloc")]
-pub fn try_extlang_form<'a>(tag: impl Into<LangTag<'a>>) -> Result<LangTagBuf, AllocError> {
-    registry::extlang_form(tag.into())
+form! {
+    /// Returns the extlang form of a tag ([RFC 5646 section 4.5]): its canonical form, with an extended
+    /// language subtag where the registry has one.
+    ///
+    /// [RFC 5646 section 4.5]: https://www.rfc-editor.org/rfc/rfc5646#section-4.5
+    registry: extlang_form, try_extlang_form;
+    "the extlang form of a tag", "yue-HK" is "zh-yue-HK"
 }
 
 /// Returns whether a tag is its own canonical form, ignoring case.
@@ -122,28 +84,4 @@ pub fn try_extlang_form<'a>(tag: impl Into<LangTag<'a>>) -> Result<LangTagBuf, A
 #[must_use]
 pub fn is_canonical<'a>(tag: impl Into<LangTag<'a>>) -> bool {
     registry::is_canonical(tag.into())
-}
-
-/// Writes the canonical form of a tag to a buffer, as `canonical` returns it, and returns what was
-/// written.
-///
-/// It does not allocate.
-///
-/// # Errors
-///
-/// Returns the length of the form if the buffer is too short.
-///
-/// ```
-/// use langtag::registry::write_canonical;
-/// use langtag::LangTag;
-///
-/// assert_eq!(write_canonical(LangTag::new("en-BU")?, &mut [0; 16])?, "en-MM");
-/// # Ok::<(), Box<dyn std::error::Error>>(())
-/// ```
-pub fn write_canonical<'a, 'b>(
-    tag: impl Into<LangTag<'a>>,
-    buffer: &'b mut [u8],
-) -> Result<&'b str, TooShort> {
-    let len = registry::write_canonical(tag.into(), buffer);
-    written(buffer, len)
 }

@@ -9,12 +9,10 @@
 //! assert_eq!((ends.language, ends.script, ends.region), (2, 7, 10));
 //! assert_eq!(source.reads(), 10);
 //! ```
-pub use crate::erased::case::{is_in_recommended_case, make_recommended_case};
-pub use crate::erased::recogniser::{
-    recognise, recognise_normal, viable_len, ByteSource, Found, Metered,
-};
 pub use crate::erased::scan::{
     are_letters, case_insensitive_cmp, case_insensitive_eq, case_insensitive_hash, into_smallcase,
     is_extended, is_extension_subtag, is_mark, is_primary, is_private_subtag, is_region, is_script,
-    is_singleton, is_variant, Ends, Subtags,
+    is_singleton, is_variant, recognise, recognise_normal, viable_len, ByteSource, Ends, Found,
+    Metered, Subtags,
 };
+pub use crate::erased::text::{is_in_recommended_case, make_recommended_case};

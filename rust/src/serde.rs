@@ -7,7 +7,7 @@
 use alloc::string::String;
 use core::fmt;
 
-use ::serde::de::{Deserialize, Deserializer, Error, Unexpected, Visitor};
+use ::serde::de::{Deserialize, Deserializer, Error, Visitor};
 use ::serde::ser::{Serialize, Serializer};
 
 use crate::erased::tag::*;
@@ -38,7 +38,7 @@ macro_rules! strings {
                 }
 
                 fn visit_borrowed_str<E: Error>(self, text: &'de str) -> Result<Self::Value, E> {
-                    $name::new(text).map_err(|_| E::invalid_value(Unexpected::Str(text), &self))
+                    $name::new(text).map_err(E::custom)
                 }
             }
 
@@ -58,11 +58,11 @@ macro_rules! strings {
                 }
 
                 fn visit_str<E: Error>(self, text: &str) -> Result<$owned, E> {
-                    text.parse().map_err(|_| E::invalid_value(Unexpected::Str(text), &self))
+                    text.parse().map_err(E::custom)
                 }
 
                 fn visit_string<E: Error>(self, text: String) -> Result<$owned, E> {
-                    $owned::new(text).map_err(|error| E::invalid_value(Unexpected::Str(&error.0), &self))
+                    $owned::new(text).map_err(E::custom)
                 }
             }
 

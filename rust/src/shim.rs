@@ -56,10 +56,32 @@ impl<T: core::fmt::Debug> core::fmt::Debug for crate::erased::scan::Caseless<T> 
     }
 }
 
+/// A singleton has the same debug output as any other character.
+impl core::fmt::Debug for crate::erased::extension::Singleton {
+    #[inline]
+    fn fmt(&self, f: &mut core::fmt::Formatter<'_>) -> core::fmt::Result {
+        char::from(self.unwrap()).fmt(f)
+    }
+}
+
+/// Implements debug output of a type by its field `text`.
+macro_rules! shown {
+    ($tag:ty) => {
+        impl core::fmt::Debug for $tag {
+            #[inline]
+            fn fmt(&self, f: &mut core::fmt::Formatter<'_>) -> core::fmt::Result {
+                self.text.fmt(f)
+            }
+        }
+    };
+}
+
 /// Implements comparison, order, hash and debug output of a type by its field `text`, and nothing
 /// else.
 macro_rules! by_text {
     ($tag:ty) => {
+        shown!($tag);
+
         impl PartialEq for $tag {
             #[inline]
             fn eq(&self, other: &Self) -> bool {
@@ -87,16 +109,6 @@ macro_rules! by_text {
             #[inline]
             fn hash<H: core::hash::Hasher>(&self, state: &mut H) {
                 self.text.hash(state);
-            }
-        }
-
-        impl core::fmt::Debug for $tag {
-            #[inline]
-            fn fmt(&self, f: &mut core::fmt::Formatter<'_>) -> core::fmt::Result {
-                let name = stringify!($tag);
-                f.debug_struct(name.split('<').next().unwrap_or(name))
-                    .field("text", &self.text)
-                    .finish_non_exhaustive()
             }
         }
     };

@@ -1,7 +1,7 @@
 //! `Debug` of the types that a recogniser reads and returns, and `Display` of the kinds of tags.
 use core::fmt;
 
-use crate::erased::recogniser::{ByteSource, Found, Metered};
+use crate::erased::scan::{ByteSource, Found, Metered};
 use crate::Kind;
 
 impl fmt::Debug for Found {

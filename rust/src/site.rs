@@ -2,7 +2,6 @@
 use crate::choice::{
     match_among, suitable_among, BestMatch, PreparedForm, RangeList, TagEntry, TagList,
 };
-use crate::erased::choice::PreparedTag;
 use crate::lists::Ranges;
 use crate::matching::AcceptLanguage;
 use crate::memory::or_abort;
@@ -21,7 +20,7 @@ use alloc::vec::Vec;
 /// use langtag::LangTagBuf;
 ///
 /// let tags: Vec<LangTagBuf> = vec!["en".parse()?, "zh-Hans".parse()?, "zh-Hant".parse()?];
-/// let site = Site::new(&tags);
+/// let site = Site::new(tags);
 /// let best = site.best_for_header("zh-TW,zh;q=0.9,en;q=0.8");
 /// assert_eq!(best.map(|tag| tag.as_str()), Some("zh-Hant"));
 /// assert_eq!(site.best_for_header("ja"), None);
@@ -34,35 +33,38 @@ use alloc::vec::Vec;
 /// use langtag::choice::Site;
 /// use std::sync::LazyLock;
 ///
-/// static SITE: LazyLock<Site<&str>> = LazyLock::new(|| Site::new(&["en", "de", "pt-BR"]));
+/// static SITE: LazyLock<Site<&str>> = LazyLock::new(|| Site::new(["en", "de", "pt-BR"]));
 ///
 /// assert_eq!(SITE.best_for_header("gsw"), Some(&"de"));
 /// ```
 ///
-/// A server that reads its tags when it starts can leak them, because it needs them until it ends:
+/// It owns its tags, so a server that reads them when it starts keeps it in its state:
 ///
 /// ```
 /// use langtag::choice::Site;
 /// use langtag::LangTagBuf;
 ///
+/// struct App {
+///     site: Site<LangTagBuf>,
+/// }
 /// let tags = "en de pt-BR".split(' ').map(str::parse).collect::<Result<Vec<_>, _>>()?;
-/// let site: Site<'static, LangTagBuf> = Site::new(tags.leak());
-/// assert_eq!(site.best_for_header("gsw").unwrap(), "de");
+/// let app = App { site: Site::new(tags) };
+/// assert_eq!(app.site.best_for_header("gsw").unwrap(), "de");
 /// # Ok::<(), Box<dyn std::error::Error>>(())
 /// ```
 #[doc(alias = "matcher")]
 #[doc(alias = "negotiator")]
 #[derive(Clone)]
-pub struct Site<'t, E> {
-    tags: &'t [E],
-    prepared: Vec<Option<PreparedTag<'t>>>,
+pub struct Site<E> {
+    tags: Vec<E>,
+    forms: Vec<Option<PreparedForm>>,
 }
 
-impl<'t, E: TagEntry> Site<'t, E> {
+impl<E: TagEntry> Site<E> {
     /// Prepares tags, which can be [`LangTag`], `LangTagBuf`, `&str` or `String`. A string that is
     /// not a tag is never chosen.
     #[must_use]
-    pub fn new(tags: &'t [E]) -> Site<'t, E> {
+    pub fn new(tags: impl Into<Vec<E>>) -> Site<E> {
         or_abort(Site::try_new(tags))
     }
 
@@ -71,17 +73,21 @@ impl<'t, E: TagEntry> Site<'t, E> {
     /// # Errors
     ///
     /// Returns an error if allocation fails.
-    pub fn try_new(tags: &'t [E]) -> Result<Site<'t, E>, AllocError> {
-        let mut prepared = Vec::new();
-        prepared.try_reserve_exact(tags.len())?;
-        prepared.extend(tags.iter().map(|entry| entry.tag().map(PreparedTag::new)));
-        Ok(Site { tags, prepared })
+    pub fn try_new(tags: impl Into<Vec<E>>) -> Result<Site<E>, AllocError> {
+        let tags = tags.into();
+        let mut forms = Vec::new();
+        forms.try_reserve_exact(tags.len())?;
+        forms.extend(
+            tags.iter()
+                .map(|entry| entry.tag().map(|tag| PreparedForm::of(tag.as_bytes()))),
+        );
+        Ok(Site { tags, forms })
     }
 
     /// Returns the tags as they were given, for example for [`look_up`](crate::matching::look_up).
     #[must_use]
-    pub fn tags(&self) -> &'t [E] {
-        self.tags
+    pub fn tags(&self) -> &[E] {
+        &self.tags
     }
 
     /// Returns the best tag for an `Accept-Language` header ([RFC 9110 section 12.5.4]), or `None`
@@ -89,14 +95,14 @@ impl<'t, E: TagEntry> Site<'t, E> {
     ///
     /// [RFC 9110 section 12.5.4]: https://www.rfc-editor.org/rfc/rfc9110#section-12.5.4
     #[must_use]
-    pub fn best_for_header(&self, header: &(impl AsRef<[u8]> + ?Sized)) -> Option<&'t E> {
+    pub fn best_for_header(&self, header: &(impl AsRef<[u8]> + ?Sized)) -> Option<&E> {
         self.best_among(header.as_ref())
     }
 
     /// Returns the best tag for a parsed header, as
     /// [`best_for_accept_language`](crate::choice::best_for_accept_language) chooses it.
     #[must_use]
-    pub fn best_for_accept_language(&self, accepted: &AcceptLanguage<'_>) -> Option<&'t E> {
+    pub fn best_for_accept_language(&self, accepted: &AcceptLanguage<'_>) -> Option<&E> {
         self.best_among(accepted.ranges())
     }
 
@@ -105,11 +111,11 @@ impl<'t, E: TagEntry> Site<'t, E> {
     /// ```
     /// use langtag::choice::Site;
     ///
-    /// let site = Site::new(&["en", "nb"]);
+    /// let site = Site::new(["en", "nb"]);
     /// assert_eq!(site.best_for_ranges(&["nn", "de"]), Some(&"nb"));
     /// ```
     #[must_use]
-    pub fn best_for_ranges(&self, ranges: &[impl AsRef<str>]) -> Option<&'t E> {
+    pub fn best_for_ranges(&self, ranges: &[impl AsRef<str>]) -> Option<&E> {
         self.best_among(Ranges(ranges))
     }
 
@@ -119,7 +125,7 @@ impl<'t, E: TagEntry> Site<'t, E> {
     /// ```
     /// use langtag::choice::Site;
     ///
-    /// let site = Site::new(&["en", "de"]);
+    /// let site = Site::new(["en", "de"]);
     /// let found = site.match_for_header("tlh, gsw").unwrap();
     /// assert_eq!((site.tags()[found.index], found.range, found.distance), ("de", &b"gsw"[..], 8));
     /// ```
@@ -133,7 +139,7 @@ impl<'t, E: TagEntry> Site<'t, E> {
 
     /// Returns the best tag for any list of ranges.
     #[must_use]
-    pub fn best_among<'a>(&self, ranges: impl RangeList<'a>) -> Option<&'t E> {
+    pub fn best_among<'a>(&self, ranges: impl RangeList<'a>) -> Option<&E> {
         let index = crate::choice::best_among(ranges, self)?;
         Some(&self.tags[index])
     }
@@ -144,37 +150,37 @@ impl<'t, E: TagEntry> Site<'t, E> {
     /// ```
     /// use langtag::choice::Site;
     ///
-    /// let site = Site::new(&["en", "fr", "de", "de-AT"]);
+    /// let site = Site::new(["en", "fr", "de", "de-AT"]);
     /// assert_eq!(site.suitable_for_header("de-CH,fr;q=0.7"), [&"de", &"de-AT", &"fr"]);
     /// ```
     #[must_use]
-    pub fn suitable_for_header(&self, header: &(impl AsRef<[u8]> + ?Sized)) -> Vec<&'t E> {
+    pub fn suitable_for_header(&self, header: &(impl AsRef<[u8]> + ?Sized)) -> Vec<&E> {
         self.suitable_among(header.as_ref())
     }
 
     /// Returns all suitable tags for a list of language ranges in order of preference, best first.
     #[must_use]
-    pub fn suitable_for_ranges(&self, ranges: &[impl AsRef<str>]) -> Vec<&'t E> {
+    pub fn suitable_for_ranges(&self, ranges: &[impl AsRef<str>]) -> Vec<&E> {
         self.suitable_among(Ranges(ranges))
     }
 
     /// Returns all suitable tags for any list of ranges, best first.
     #[must_use]
-    pub fn suitable_among<'a>(&self, ranges: impl RangeList<'a>) -> Vec<&'t E> {
+    pub fn suitable_among<'a>(&self, ranges: impl RangeList<'a>) -> Vec<&E> {
         let found = suitable_among(ranges, self);
         found.into_iter().map(|index| &self.tags[index]).collect()
     }
 }
 
-impl<E: TagEntry> TagList for Site<'_, E> {
+impl<E: TagEntry> TagList for Site<E> {
     #[inline]
     fn count(&self) -> usize {
-        self.prepared.len()
+        self.forms.len()
     }
 
     #[inline]
     fn tag_at(&self, index: usize) -> Option<LangTag<'_>> {
-        self.prepared[index].as_ref().map(PreparedTag::tag)
+        self.tags[index].tag()
     }
 
     #[inline]
@@ -184,11 +190,11 @@ impl<E: TagEntry> TagList for Site<'_, E> {
 
     #[inline]
     fn form_at(&self, index: usize) -> Option<&PreparedForm> {
-        self.prepared[index].as_ref().map(PreparedTag::form)
+        self.forms[index].as_ref()
     }
 }
 
-impl<E: core::fmt::Debug> core::fmt::Debug for Site<'_, E> {
+impl<E: core::fmt::Debug> core::fmt::Debug for Site<E> {
     fn fmt(&self, f: &mut core::fmt::Formatter<'_>) -> core::fmt::Result {
         f.debug_tuple("Site").field(&self.tags).finish()
     }

@@ -20,7 +20,7 @@ impl InvalidSubtag<'_> {
     /// assert_eq!(error.to_string(), "language ger is not registered: did you mean de?");
     /// ```
     #[must_use]
-    pub fn suggestion(&self) -> Option<&'static str> {
+    pub fn suggestion(self) -> Option<&'static str> {
         match self {
             InvalidSubtag::Language(language) => suggested_language(language.as_str()),
             InvalidSubtag::Region(region) => suggested_region(region.as_str()),

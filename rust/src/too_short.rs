@@ -24,7 +24,7 @@ impl TooShort {
     /// Returns the number of bytes that the result needs.
     #[must_use]
     #[inline]
-    pub fn needed(&self) -> usize {
+    pub fn needed(self) -> usize {
         self.needed
     }
 }

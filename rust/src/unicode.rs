@@ -21,9 +21,9 @@ use crate::{memory::or_abort, AllocError, LangTagBuf};
 use crate::{LangTag, TooShort};
 
 pub use crate::erased::keyword::KeywordError;
-#[cfg(feature = "alloc")]
-pub use crate::erased::unicode::{remove_keyword, set_keyword, SetKeywordError};
 pub use crate::erased::unicode::{AttributesIter, KeyValue, KeywordsIter, Transformation};
+#[cfg(feature = "alloc")]
+pub use crate::keywords::{remove_keyword, set_keyword, SetKeywordError};
 
 /// Returns the value of a key of the extension `u`: `Some("")` for a key without a value, and
 /// `None` if the tag does not have the key ([RFC 6067 section 2.1]).
@@ -96,31 +96,12 @@ pub fn transform<'a>(tag: impl Into<LangTag<'a>>) -> Option<Transformation<'a>> 
     unicode::transform(tag.into())
 }
 
-/// Returns a tag with the canonical form of its extensions `u` and `t`: keywords, attributes and
-/// fields are sorted, `true` is left out, and outdated values are replaced by CLDR's aliases.
-///
-/// ```
-/// use langtag::unicode::extensions_form;
-/// use langtag::LangTag;
-///
-/// let tag = LangTag::new("en-u-nu-thai-ca-gregory-kn-true")?;
-/// assert_eq!(extensions_form(tag), "en-u-ca-gregory-kn-nu-thai");
-/// # Ok::<(), Box<dyn std::error::Error>>(())
-/// ```
-#[cfg(feature = "alloc")]
-#[must_use]
-pub fn extensions_form<'a>(tag: impl Into<LangTag<'a>>) -> LangTagBuf {
-    or_abort(try_extensions_form(tag))
-}
-
-/// Returns a tag with the canonical form of its extensions, as [`extensions_form`] does.
-///
-/// # Errors
-///
-/// Returns an error if allocation fails.
-#[cfg(feature = "alloc")]
-pub fn try_extensions_form<'a>(tag: impl Into<LangTag<'a>>) -> Result<LangTagBuf, AllocError> {
-    unicode::extensions_form(tag.into())
+form! {
+    /// Returns a tag with the canonical form of its extensions `u` and `t`: keywords, attributes and
+    /// fields are sorted, `true` is left out, and outdated values are replaced by CLDR's aliases.
+    unicode: extensions_form, try_extensions_form, write_extensions_form;
+    "a tag with the canonical form of its extensions",
+    "en-u-nu-thai-ca-gregory-kn-true" is "en-u-ca-gregory-kn-nu-thai"
 }
 
 /// Returns whether a tag is a Unicode locale identifier (UTS #35, part 1).
@@ -163,31 +144,6 @@ pub fn locale_form<'a>(tag: impl Into<LangTag<'a>>) -> Option<LangTagBuf> {
 #[cfg(feature = "alloc")]
 pub fn try_locale_form<'a>(tag: impl Into<LangTag<'a>>) -> Result<Option<LangTagBuf>, AllocError> {
     locale::locale_form(tag.into())
-}
-
-/// Writes a tag with the canonical form of its extensions to a buffer, as `extensions_form` returns
-/// it, and returns what was written.
-///
-/// It does not allocate.
-///
-/// # Errors
-///
-/// Returns the length of the result if the buffer is too short.
-///
-/// ```
-/// use langtag::unicode::write_extensions_form;
-/// use langtag::LangTag;
-///
-/// let tag = LangTag::new("en-u-nu-thai-ca-gregory")?;
-/// assert_eq!(write_extensions_form(tag, &mut [0; 32])?, "en-u-ca-gregory-nu-thai");
-/// # Ok::<(), Box<dyn std::error::Error>>(())
-/// ```
-pub fn write_extensions_form<'a, 'b>(
-    tag: impl Into<LangTag<'a>>,
-    buffer: &'b mut [u8],
-) -> Result<&'b str, TooShort> {
-    let len = unicode::write_extensions_form(tag.into(), buffer);
-    written(buffer, len)
 }
 
 /// Writes the canonical form of a tag as a Unicode locale identifier to a buffer, as `locale_form`

@@ -65,9 +65,9 @@ fn in_recommended_case() {
 #[test]
 fn for_programmers() {
     let tag = LangTag::new("zh-TW").unwrap();
-    assert_eq!(format!("{tag:?}"), r#"LangTag { text: "zh-TW", .. }"#);
+    let all = (tag, tag.to_owned(), tag.region(), Singleton::new(b'u'));
     assert_eq!(
-        format!("{:?}", tag.region()),
-        r#"Some(Region { text: "TW" })"#
+        format!("{all:?}"),
+        r#"("zh-TW", "zh-TW", Some("TW"), Ok('u'))"#
     );
 }

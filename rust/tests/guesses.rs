@@ -7,7 +7,7 @@ use std::collections::HashSet;
 use std::sync::Arc;
 
 use langtag::choice::{best_among, best_for_header, BestMatch};
-use langtag::matching::{tag_for_header, AcceptLanguage, LanguageRange};
+use langtag::matching::{filter_basic, tag_for_header, AcceptLanguage, LanguageRange};
 use langtag::*;
 
 fn tag(text: &str) -> LangTag<'_> {
@@ -121,6 +121,16 @@ fn filters() {
         2
     );
     assert!(range.matches_basic(&owned[0]) && range.matches_basic(tags[1]));
+    assert!(
+        range.matches(tags[0]) && range.to_owned().matches(&owned[1]) && !range.matches(tags[2])
+    );
+    assert!(tags[0].matches("de") && owned[0].matches("*-CH") && !tags[1].matches("*-CH"));
+    let ranges: Vec<LanguageRangeBuf> = vec!["fr".parse().unwrap(), "de".parse().unwrap()];
+    let ranges: Vec<LanguageRange> = ranges
+        .iter()
+        .map(LanguageRangeBuf::as_language_range)
+        .collect();
+    assert!(filter_basic(&ranges, &tags).eq(["fr", "de-CH", "DE"]));
     let accepted = AcceptLanguage::lenient("fr-CA, de;q=0.5");
     assert_eq!(accepted.look_up(&owned, &owned[0]), "fr");
     assert_eq!(accepted.look_up(&["en", "de"], &"en"), &"de");

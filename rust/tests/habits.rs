@@ -48,13 +48,7 @@ fn texts_that_are_no_tags() {
 
 #[test]
 fn texts_that_are_no_ranges() {
-    for text in ["", "de_CH", "1-de", "de-", "de-**", "abcdefghi", "é"] {
-        assert_eq!(LanguageRange::new(text), Err(InvalidLanguageRange(text)));
-    }
-    assert_eq!(
-        LanguageRange::new("de_").unwrap_err().to_string(),
-        "invalid language range `de_`"
-    );
+    assert_eq!(LanguageRange::new("é"), Err(InvalidLanguageRange("é")));
 }
 
 #[test]
@@ -71,21 +65,6 @@ fn where_a_text_goes_wrong() {
         error.to_string(),
         "invalid language tag `i-no`: unexpected subtag `no`"
     );
-    for (text, words) in [
-        (
-            "zh_Hant",
-            "invalid character `_`: expected a letter, a digit or a hyphen",
-        ),
-        ("de-419-DE", "unexpected subtag `DE`"),
-        ("de--DE", "empty subtag"),
-        ("en-", "unexpected end: expected a subtag"),
-        (
-            "é",
-            "invalid character `é`: expected a letter, a digit or a hyphen",
-        ),
-    ] {
-        assert_eq!(LangTag::new(text).unwrap_err().reason().to_string(), words);
-    }
     assert_eq!(InvalidLangTag("de").reason().to_string(), "it is a tag");
 }
 
@@ -142,10 +121,7 @@ fn order() {
 #[test]
 fn texts() {
     let tag = LangTag::try_from("ZH-Hant").unwrap();
-    assert_eq!(
-        format!("{tag}|{tag:?}"),
-        "ZH-Hant|LangTag { text: \"ZH-Hant\", .. }"
-    );
+    assert_eq!(format!("{tag}|{tag:?}"), "ZH-Hant|\"ZH-Hant\"");
     assert_eq!(
         (tag.as_str(), &*tag, tag.as_bytes()),
         ("ZH-Hant", "ZH-Hant", &b"ZH-Hant"[..])
@@ -165,44 +141,6 @@ fn values_may_cross_threads() {
     is_send_and_sync::<InvalidLangTag<&'static str>>();
     #[cfg(feature = "alloc")]
     is_send_and_sync::<LangTagBuf>();
-}
-
-#[test]
-fn parts_that_are_absent() {
-    let [tag] = tags(["de"]);
-    assert_eq!(
-        (tag.script(), tag.region(), tag.private_use()),
-        (None, None, None)
-    );
-    assert!(tag.variants().is_empty() && tag.extensions().is_empty());
-    assert_eq!(
-        (tag.variants().first(), tag.variants().last()),
-        (None, None)
-    );
-    assert_eq!(tag.private_use_subtags().next(), None);
-    assert_eq!(tag.extensions().get(Singleton::new(b'u').unwrap()), None);
-}
-
-#[test]
-fn parts_of_a_language() {
-    let [tag, bare] = tags(["zh-yue-min-TW", "zh-TW"]);
-    let language = tag.language().unwrap();
-    assert_eq!(
-        (language, language.primary()),
-        (
-            Language::new("zh-yue-min").unwrap(),
-            PrimaryLanguage::new("zh").unwrap()
-        )
-    );
-    assert_eq!(language.extension().unwrap(), "yue-min");
-    assert!(language.extension_subtags().eq(["yue", "min"]));
-    assert_eq!(
-        (
-            bare.language().unwrap().extension(),
-            bare.language().unwrap().extension_subtags().next()
-        ),
-        (None, None)
-    );
 }
 
 #[test]
@@ -250,30 +188,6 @@ fn tags_of_variants<'a>(first: &'a str, last: &'a str) -> (Variant<'a>, Variant<
     (Variant::new(first).unwrap(), Variant::new(last).unwrap())
 }
 
-#[test]
-fn fallbacks_are_ranges() {
-    for (text, wanted) in [
-        (
-            "zh-Hant-CN-x-private1-b",
-            vec!["zh-Hant-CN-x-private1", "zh-Hant-CN", "zh-Hant", "zh"],
-        ),
-        ("de-*-DE", vec!["de"]),
-        ("de-AT-*-x-*", vec!["de-AT", "de"]),
-        ("ab-cd-*-ef-gh", vec!["ab-cd-*-ef", "ab-cd", "ab"]),
-        ("*-CH", vec![]),
-        ("*", vec![]),
-    ] {
-        let range = LanguageRange::new(text).unwrap();
-        let found: Vec<LanguageRange> = range.fallbacks().collect();
-        assert_eq!(found[0], text);
-        assert_eq!(found[1..], wanted[..]);
-        for fallback in found {
-            let read = LanguageRange::new(fallback.as_str()).unwrap();
-            assert_eq!(read.is_basic(), fallback.is_basic(), "{fallback}");
-        }
-    }
-}
-
 #[cfg(feature = "data")]
 #[test]
 fn constants_and_functions_for_a_buffer() {
@@ -288,4 +202,62 @@ fn constants_and_functions_for_a_buffer() {
         FILE_DATE >= "2005-10-16",
         "the registry of BCP 47 is as old as this"
     );
+}
+
+#[test]
+#[cfg(all(feature = "alloc", feature = "data"))]
+fn small_things() {
+    let (language, region) = (Language::new("es").unwrap(), Region::new("419").unwrap());
+    assert_eq!(
+        LangTagBuf::from_parts(language, None, Some(region)),
+        "es-419"
+    );
+    let owned: LangTagBuf = "de-u-CA-buddhist".parse().unwrap();
+    assert_eq!(owned.keyword("CA"), Some("buddhist"));
+    assert!(owned.matches("*-u") && !owned.matches("fr") && !owned.matches("d*"));
+    assert!(Singleton::new(b'a').unwrap() != 'A');
+    let bytes = &b"de-Latn-DE-1996_"[..];
+    assert_eq!(LangTag::try_from(bytes).unwrap_err().0, bytes);
+    assert_eq!(langtag::AllocError.to_string(), "out of memory");
+    assert_eq!(
+        GrandfatheredLangTag::new("x".to_string()),
+        Err("x".to_string())
+    );
+}
+
+/// What few tags show: a second extlang, an alias that is no language, and a range that excludes a tag.
+#[test]
+#[cfg(all(feature = "alloc", feature = "data"))]
+fn rare_tags() {
+    use langtag::{choice::best_among, matching::WeightedRange, registry};
+
+    for (text, misplaced) in [("fr-yue-cmn", Some("yue")), ("zh-yue-cmn", None)] {
+        let found = registry::misplaced_extlang(NormalLangTag::new(text).unwrap());
+        assert_eq!(found.map(ExtendedLangTag::as_str), misplaced);
+    }
+    let dari = registry::InvalidSubtag::Language(PrimaryLanguage::new("drw").unwrap());
+    assert_eq!(dari.suggestion(), None);
+    let ranges = [("de", 0), ("fr", 500)].map(|(range, weight)| WeightedRange {
+        range: LanguageRange::new(range).unwrap(),
+        weight,
+    });
+    assert_eq!(best_among(&ranges[..], &["de", "fr"]), Some(1));
+    assert_eq!(best_among(&ranges[..1], &["de"]), None);
+}
+
+/// A tag of a `const` is the tag that `new` returns.
+#[test]
+fn constants() {
+    const SITE: [LangTag<'static>; 4] = [
+        LangTag::from_static("zh-cmn-Hant-TW-rozaj-a-bb-x-c"),
+        LangTag::from_static("X-mine"),
+        LangTag::from_static("I-klingon"),
+        langtag::langtag!("de"),
+    ];
+    for tag in SITE {
+        let parsed = LangTag::new(tag.as_str()).unwrap();
+        let ends = |tag: LangTag<'_>| tag.as_normal().map(NormalLangTag::ends);
+        assert_eq!((tag.kind(), ends(tag)), (parsed.kind(), ends(parsed)));
+        assert_eq!(tag.as_grandfathered(), parsed.as_grandfathered());
+    }
 }

@@ -6,6 +6,8 @@ use std::cell::Cell;
 use std::panic;
 use std::sync::Once;
 
+use langtag::choice::Site;
+use langtag::erased::choice::suitable_for_header;
 use langtag::likely::{from_posix, try_maximized, try_minimized, try_to_posix, PosixError};
 use langtag::matching::{tag_for_header, AcceptLanguage, AcceptLanguageError, LanguageRange};
 use langtag::registry::{try_canonical, try_extlang_form};
@@ -16,6 +18,7 @@ thread_local! {
     /// The number of requests that are granted before all others are refused. `None` grants all requests.
     static GRANTED: Cell<Option<usize>> = const { Cell::new(None) };
     static REFUSED: Cell<usize> = const { Cell::new(0) };
+    static BYTES: Cell<usize> = const { Cell::new(0) };
 }
 
 struct Refusing;
@@ -42,6 +45,7 @@ unsafe impl GlobalAlloc for Refusing {
         if Refusing::refuses() {
             return std::ptr::null_mut();
         }
+        BYTES.set(BYTES.get() + layout.size());
         unsafe { System.alloc(layout) }
     }
 
@@ -53,6 +57,7 @@ unsafe impl GlobalAlloc for Refusing {
         if Refusing::refuses() {
             return std::ptr::null_mut();
         }
+        BYTES.set(BYTES.get() + size);
         unsafe { System.realloc(at, layout, size) }
     }
 }
@@ -73,8 +78,8 @@ fn grant_to_panics() {
 }
 
 /// Repeats a call with one more request granted each time, until no request is refused. `call` returns whether memory
-/// was refused.
-fn refuse_each(name: &str, call: impl Fn() -> bool) {
+/// was refused. Returns the number of requests.
+fn refuse_each(name: &str, call: impl Fn() -> bool) -> usize {
     grant_to_panics();
     for granted in 0.. {
         GRANTED.set(Some(granted));
@@ -84,9 +89,15 @@ fn refuse_each(name: &str, call: impl Fn() -> bool) {
         assert_eq!(told, REFUSED.get() > 0, "{name}, after {granted} requests");
         if !told {
             assert!(granted > 0, "{name} makes no request");
-            return;
+            return granted;
         }
     }
+    unreachable!()
+}
+
+/// Does the same with a call that makes one request, such as a copy or a setter.
+fn refuse_one(name: &str, call: impl Fn() -> bool) {
+    assert_eq!(refuse_each(name, call), 1, "{name}");
 }
 
 fn is_memory<T>(result: Result<T, AllocError>) -> bool {
@@ -98,7 +109,7 @@ fn copies() {
     macro_rules! copied {
         ($($name:ident $text:literal)+) => {$(
             let value = $name::new($text).unwrap();
-            refuse_each(stringify!($name), || is_memory(value.try_to_owned()));
+            refuse_one(stringify!($name), || is_memory(value.try_to_owned()));
         )+};
     }
     copied! {
@@ -178,6 +189,37 @@ fn headers() {
     });
 }
 
+/// A header takes at most 320 bytes of memory an element.
+#[test]
+fn memory_of_headers() {
+    for number in [1, 2, 3, 7, 64, 1000, 4097, 100_000] {
+        for header in [format!("{}de", " ".repeat(number)), "de,".repeat(number)] {
+            let elements = header.split(',').count();
+            BYTES.set(0);
+            let accepted = AcceptLanguage::new(&header);
+            assert!(
+                accepted.is_ok() && BYTES.get() <= 320 * elements,
+                "{} bytes",
+                BYTES.get()
+            );
+        }
+    }
+}
+
+#[test]
+fn sites() {
+    let tags = ["en", "fr-FR", "de"].map(|text| LangTag::new(text).unwrap());
+    refuse_each("Site::try_new", || {
+        let granted = GRANTED.take();
+        let owned = tags.to_vec();
+        GRANTED.set(granted);
+        is_memory(Site::try_new(owned))
+    });
+    refuse_each("suitable", || {
+        is_memory(suitable_for_header(b"fr, de;q=0.5", &tags))
+    });
+}
+
 /// Calls a setter on a copy of a tag, and returns whether memory was refused. The copy must then be unchanged.
 fn set<E: PartialEq + core::fmt::Debug>(
     text: &str,
@@ -219,8 +261,8 @@ fn setters() {
     macro_rules! set_each {
         ($($setter:ident $part:expr;)+) => {$(
             let part = $part;
-            refuse_each(stringify!($setter), || set(text, AllocError, |held| held.normal.$setter(part)));
-            refuse_each(stringify!($setter), || set(text, EditError::Memory(AllocError), |held| held.any.$setter(part)));
+            refuse_one(stringify!($setter), || set(text, AllocError, |held| held.normal.$setter(part)));
+            refuse_one(stringify!($setter), || set(text, EditError::Memory(AllocError), |held| held.any.$setter(part)));
         )+};
     }
     set_each! {
@@ -236,12 +278,12 @@ fn setters() {
 #[test]
 fn setters_of_keywords() {
     let text = "sl-IT-u-ca-roc-nu-latn-x-mine";
-    let refused = SetKeywordError::Memory(AllocError);
+    let refused = || SetKeywordError::Memory(AllocError);
     refuse_each("set_keyword", || {
-        set(text, refused, |held| held.any.set_keyword("kn", ""))
+        set(text, refused(), |held| held.any.set_keyword("kn", ""))
     });
     refuse_each("remove_keyword", || {
-        set(text, refused, |held| held.any.remove_keyword("ca"))
+        set(text, refused(), |held| held.any.remove_keyword("ca"))
     });
 }
 

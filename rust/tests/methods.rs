@@ -1,9 +1,10 @@
 //! Methods of tags, conversions, and lists with entries that are not tags or ranges.
 #![cfg(all(feature = "alloc", feature = "data"))]
 #![allow(clippy::needless_borrows_for_generic_args)] // references are taken, too
-use langtag::choice::{best_for_header, best_for_ranges, distance};
+use langtag::choice::{best_among, best_for_header, best_for_ranges, distance};
+use langtag::erased::likely::suggested_language;
 use langtag::likely::{is_right_to_left, maximized, minimized};
-use langtag::matching::{look_up, tag_for_header, LanguageRange, LanguageRangeBuf};
+use langtag::matching::{look_up, tag_for_header, LanguageRange, LanguageRangeBuf, WeightedRange};
 use langtag::registry::{canonical, extlang_form, is_canonical, validate};
 use langtag::unicode::{attributes, extensions_form, keyword, keywords, locale_form, transform};
 use langtag::*;
@@ -52,7 +53,7 @@ fn methods_return_what_functions_return() {
             [locale_form(&tag), locale_form(&owned)]
         );
         assert_eq!(
-            [tag.validate(), owned.validate()],
+            [tag.validate(), owned.as_lang_tag().validate()],
             [validate(&tag), validate(&owned)]
         );
         assert_eq!(
@@ -202,4 +203,33 @@ fn lists_with_other_texts() {
     assert_eq!(tag_for_header("de-CH", &site, &"none").unwrap(), &"de");
     let none: [LangTagBuf; 0] = [];
     assert_eq!(best_for_header("de", &none), None);
+}
+
+/// In a list of weighted ranges as in a header, the longest range that matches a tag decides if it is excluded.
+#[test]
+fn weighted_ranges_of_weight_0() {
+    let wanted = [("de", 1000), ("de-CH", 0), ("de-CH-1996", 500)];
+    let ranges = wanted.map(|(text, weight)| WeightedRange {
+        range: LanguageRange::new(text).unwrap(),
+        weight,
+    });
+    for (tags, index) in [
+        (["de-CH-1901", "de-CH-1996"], Some(1)),
+        (["de-CH", "fr"], None),
+        (["de-CH", "de-AT"], Some(1)),
+    ] {
+        assert_eq!(best_among(&ranges[..], &tags), index, "{tags:?}");
+        assert_eq!(
+            best_for_header("de, de-CH;q=0, de-CH-1996;q=0.5", &tags),
+            index,
+            "{tags:?}"
+        );
+    }
+}
+
+/// A code that means a language in a region is not suggested, because a subtag cannot name a region.
+#[test]
+fn suggested_languages() {
+    assert_eq!(suggested_language("ger"), Some("de"));
+    assert_eq!(suggested_language("drw"), None);
 }

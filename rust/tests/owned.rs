@@ -289,7 +289,7 @@ fn errors_with_more_than_a_text() {
     let said = |header, name, tag| read(header, name, tag).unwrap_err().to_string();
     assert_eq!(
         said("fr, de_CH", "de", "de"),
-        "element 1 has a bad language range"
+        "element 2 at offset 3 has a bad language range: `de_CH`"
     );
     assert_eq!(
         said("fr", "C", "de"),
@@ -311,7 +311,7 @@ fn errors_with_more_than_a_text() {
         PosixErrorBuf::NoTag("C".into())
     );
     assert_eq!(
-        from_posix("\t_DE").unwrap_err().to_string(),
+        PosixErrorBuf::from(from_posix("\t_DE").unwrap_err()).to_string(),
         r"no language in the locale name `\t_DE`"
     );
 }

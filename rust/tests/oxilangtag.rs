@@ -89,3 +89,21 @@ fn texts() {
         "invalid language tag, of which the first 2 bytes can begin one"
     );
 }
+
+#[test]
+fn long_parts_order_and_refusals() {
+    let text = format!("de-x-{}", ["abcdefgh"; 30].join("-"));
+    let long = LanguageTag::parse(text.as_str()).unwrap();
+    assert_eq!(long.primary_language(), "de");
+    assert_eq!(long.private_use(), Some(&text[3..]));
+    assert!(LanguageTag::parse("a1").is_err());
+    let (a, b) = ("de", "en");
+    let (a, b) = (
+        LanguageTag::parse(a).unwrap(),
+        LanguageTag::parse(b).unwrap(),
+    );
+    assert!(a < b && a.cmp(&b).is_lt());
+    let error = LanguageTag::parse_and_normalize("de-419-DE").unwrap_err();
+    let same = LanguageTag::parse("de-419-DE").unwrap_err();
+    assert_eq!(error.to_string(), same.to_string());
+}

@@ -1,7 +1,7 @@
 //! The types of a tag's parts (RFC 5646 sections 2.2.1 to 2.2.7): empty lists, the parts that a list names, and singletons.
 use langtag::{
-    ExtensionIter, Extensions, InvalidVariants, Language, LanguageExtensionIter, PrivateUseIter,
-    Singleton, Subtags, Variant, Variants, VariantsIter,
+    ExtensionIter, Extensions, InvalidVariants, LanguageExtensionIter, PrivateUseIter, Singleton,
+    Subtags, Variants, VariantsIter,
 };
 
 #[test]
@@ -31,63 +31,6 @@ fn empty_lists_are_those_of_the_empty_text() {
     assert_eq!(Extensions::EMPTY.as_str(), "");
     assert_eq!(Extensions::EMPTY.iter().next(), None);
     assert_eq!(Extensions::EMPTY.get(Singleton::new(b'A').unwrap()), None);
-}
-
-#[test]
-fn the_first_and_the_last_variant() {
-    for (text, first, last) in [
-        ("1996", "1996", "1996"),
-        ("12345678", "12345678", "12345678"),
-        ("rozaj-1994", "rozaj", "1994"),
-        ("azert-0foo-barbz-4242", "azert", "4242"),
-        (
-            "A1B2C3D4-12345678-abcdefgh-1996-ROZAJ-1996",
-            "A1B2C3D4",
-            "1996",
-        ),
-    ] {
-        let variants = Variants::new(text).unwrap();
-        let text_of = |variant: Option<Variant<'static>>| variant.unwrap().as_str();
-        assert_eq!(text_of(variants.first()), first, "{text}");
-        assert_eq!(text_of(variants.last()), last, "{text}");
-    }
-}
-
-/// Languages of each shape.
-const LANGUAGES: [&str; 15] = [
-    "fr",
-    "FRA",
-    "abcd",
-    "abcde",
-    "abcdef",
-    "abcdefg",
-    "AaBbCcDd",
-    "zh-min",
-    "fr-abc",
-    "fra-ABC",
-    "zh-min-nan",
-    "fr-abc-DEF",
-    "fra-abc-def",
-    "fr-abc-def-ghi",
-    "FRA-abc-def-GHI",
-];
-
-#[test]
-fn a_language_is_cut_at_its_first_hyphen() {
-    for text in LANGUAGES {
-        let language = Language::new(text).unwrap();
-        let (primary, extension) = text.split_once('-').unwrap_or((text, ""));
-        assert_eq!(language.primary().as_str(), primary);
-        assert_eq!(language.extension().map_or("", |it| it.as_str()), extension);
-        let subtags: Vec<&str> = language.extension_subtags().map(|it| it.as_str()).collect();
-        assert_eq!(
-            subtags,
-            extension
-                .split('-')
-                .filter(|it| !it.is_empty())
-                .collect::<Vec<_>>()
-        );
-    }
 }
 
 #[test]

@@ -154,6 +154,7 @@ fn columns() {
         "de,en\tde\n",
         0,
     );
+    prints(&["best", "--tsv", "fi", "en"], "", "fi\t-\n", 1);
 }
 
 #[test]
@@ -184,6 +185,10 @@ fn wrong_arguments() {
         (&["show", "--csv"], "unknown option `--csv`"),
         (&["best"], "missing argument: best HEADER [TAG..]"),
         (&["distance", "de"], "expected two tags: distance A B"),
+        (
+            &["distance", "a", "b", "c"],
+            "expected two tags: distance A B",
+        ),
         (&["show", "--basic"], "`show` does not take --basic"),
     ] {
         says(
@@ -250,7 +255,8 @@ fn answers_do_not_wait() {
     assert!(child.wait().unwrap().success());
 }
 
-/// A directory can't be read, and nothing can be written to a device that is full.
+/// A directory can't be read, nothing can be written to a device that is full, and memory does not hold a line. The statuses
+/// are those of the proved programs, which .ci/process tests.
 #[cfg(target_os = "linux")]
 #[test]
 fn failures() {
@@ -287,6 +293,19 @@ fn failures() {
             program().arg("--help").stdout(full()).spawn().unwrap(),
             "langtag: write failed\n",
             5,
+        ),
+        (
+            Command::new("sh")
+                .args([
+                    "-c",
+                    "ulimit -v 100000; tr '\\0' a </dev/zero | head -c 200000000 | \"$0\" show",
+                ])
+                .arg(env!("CARGO_BIN_EXE_langtag"))
+                .stderr(Stdio::piped())
+                .spawn()
+                .unwrap(),
+            "langtag: out of memory\n",
+            3,
         ),
     ]
     .map(|(child, said, status)| (child.wait_with_output().unwrap(), said, status))

@@ -1,8 +1,6 @@
-//! Tags of every kind, borrowed and owned: how they are displayed, stored, compared (RFC 5646 section 2.1.1) and
-//! converted.
+//! Tags of every kind, borrowed and owned: how they are displayed, stored and converted.
 #![cfg(all(feature = "alloc", feature = "data"))]
-use std::cmp::Ordering;
-use std::collections::{BTreeSet, HashMap, HashSet};
+use std::collections::HashMap;
 
 use langtag::registry::{preferred_language, validate, InvalidSubtag, FILE_DATE};
 use langtag::*;
@@ -15,47 +13,6 @@ fn normal(text: &str) -> NormalLangTag<'_> {
     NormalLangTag::new(text).unwrap()
 }
 
-/// Two tags, and their order.
-const PAIRS: [(&str, &str, Ordering); 8] = [
-    ("dE-AraB-lY", "DE-aRaB-LY", Ordering::Equal),
-    ("fr-FR", "Fr-fr", Ordering::Equal),
-    ("EN-gb", "en-GB", Ordering::Equal),
-    ("x-fr-CH", "X-FR-ch", Ordering::Equal),
-    ("I-kLINgon", "i-KLINGON", Ordering::Equal),
-    ("zh", "zh-Latn", Ordering::Greater),
-    ("i-ami", "x-a", Ordering::Less),
-    ("fr-BE", "FR-ca", Ordering::Less),
-];
-
-#[test]
-fn tags_are_ordered_without_regard_to_case() {
-    for (text, other, order) in PAIRS {
-        assert_eq!(tag(text).cmp(&tag(other)), order, "{text}");
-        let (owned, other) = (tag(text).to_owned(), tag(other).to_owned());
-        assert_eq!(owned.cmp(&other), order, "{text}");
-        assert_eq!(owned == other, order == Ordering::Equal, "{text}");
-    }
-    let script = ScriptBuf::new("hANT".into()).unwrap();
-    assert_eq!(script.as_script().as_str(), "hANT");
-    assert!(script.as_script().eq_str("Hant"));
-}
-
-#[test]
-fn tags_are_keys_without_regard_to_case() {
-    let (mixed, large) = (tag("zh-Latn"), tag("ZH-LATN"));
-    assert!(mixed == large && mixed != tag("zh-Hant"));
-    assert_eq!(mixed.cmp(&large), Ordering::Equal);
-    assert!(tag("zh") > mixed);
-    let seen = HashSet::from([mixed]);
-    assert!(seen.contains(&large) && !seen.contains(&tag("zh")));
-    let sorted: BTreeSet<LangTagBuf> = ["zh", "ZH-latn", "en", "zh-Latn"]
-        .map(|text| tag(text).to_owned())
-        .into();
-    assert_eq!(sorted.len(), 3);
-    assert_eq!(sorted.first().unwrap().as_str(), "en");
-    assert_eq!(sorted.last().unwrap().as_str(), "zh");
-}
-
 #[test]
 fn kinds_are_shown_and_ordered() {
     let kinds = [Kind::Normal, Kind::PrivateUse, Kind::Grandfathered];
@@ -66,12 +23,11 @@ fn kinds_are_shown_and_ordered() {
 #[test]
 fn typed_tags_are_shown() {
     for (text, shown) in [
-        ("fr", "Normal(NormalLangTag { text: \"fr\""),
-        ("X-a", "PrivateUse(PrivateUse { text: \"X-a\""),
+        ("fr", "Normal(\"fr\")"),
+        ("X-a", "PrivateUse(\"X-a\")"),
         ("I-ami", "Grandfathered(IAmi)"),
     ] {
-        let debug = format!("{:?}", tag(text).as_typed());
-        assert!(debug.starts_with(shown), "{debug}");
+        assert_eq!(format!("{:?}", tag(text).as_typed()), shown);
     }
 }
 
@@ -181,21 +137,6 @@ fn a_tag_is_made_of_its_parts() {
             assert_eq!(made.into_string().capacity(), text.len());
         }
     }
-}
-
-#[test]
-fn a_tag_is_taken_apart_and_kept() -> Result<(), Box<dyn std::error::Error>> {
-    let tag = LangTag::new("zh-Hant-TW-x-mine")?;
-    assert_eq!(tag.kind(), Kind::Normal);
-    assert_eq!(tag.language().unwrap().as_str(), "zh");
-    assert_eq!(tag.script().map(|script| script.as_str()), Some("Hant"));
-    assert_eq!(tag.region().unwrap().as_str(), "TW");
-    assert_eq!(tag.variants().as_str(), "");
-    assert!(tag.eq_str("ZH-hant-tw-X-mine"));
-    let kept = tag.try_to_owned()?;
-    assert_eq!(kept.as_lang_tag().private_use().unwrap().as_str(), "x-mine");
-    assert_eq!(LangTag::new("zh_Hant").unwrap_err().0, "zh_Hant");
-    Ok(())
 }
 
 #[test]

@@ -4,16 +4,10 @@
 
 #[path = "../../src/erased/canonical/mod.rs"]
 pub mod canonical;
-#[path = "../../src/erased/case/mod.rs"]
-pub mod case;
 #[path = "../../src/erased/choice/mod.rs"]
 pub mod choice;
 #[path = "../../src/erased/cldr/mod.rs"]
 pub mod cldr;
-#[path = "../../src/erased/distance/mod.rs"]
-pub mod distance;
-#[path = "../../src/erased/edit/mod.rs"]
-pub mod edit;
 #[path = "../../src/erased/extension/mod.rs"]
 pub mod extension;
 #[path = "../../src/erased/fields/mod.rs"]
@@ -30,8 +24,6 @@ pub mod likely;
 pub mod locale;
 #[path = "../../src/erased/matching/mod.rs"]
 pub mod matching;
-#[path = "../../src/erased/output/mod.rs"]
-pub mod output;
 #[path = "../../src/erased/parent/mod.rs"]
 pub mod parent;
 #[path = "../../src/erased/place/mod.rs"]
@@ -42,18 +34,14 @@ pub mod posix;
 pub mod private;
 #[path = "../../src/erased/range/mod.rs"]
 pub mod range;
-#[path = "../../src/erased/recogniser/mod.rs"]
-pub mod recogniser;
-#[path = "../../src/erased/refusal/mod.rs"]
-pub mod refusal;
 #[path = "../../src/erased/registry/mod.rs"]
 pub mod registry;
 #[path = "../../src/erased/scan/mod.rs"]
 pub mod scan;
-#[path = "../../src/erased/tables/mod.rs"]
-pub mod tables;
 #[path = "../../src/erased/tag/mod.rs"]
 pub mod tag;
+#[path = "../../src/erased/text/mod.rs"]
+pub mod text;
 #[path = "../../src/erased/unicode/mod.rs"]
 pub mod unicode;
 #[path = "../../src/erased/validity/mod.rs"]

@@ -17,7 +17,7 @@ use crate::calls::best_match::BestMatch;
 use crate::calls::parse::Parts;
 use crate::calls::prepare::PreparedTag;
 use crate::calls::repeats::Repeated;
-use crate::spans::Span;
+use crate::calls::span::Span;
 use core::mem::zeroed;
 use core::slice;
 
@@ -266,6 +266,11 @@ pub unsafe extern "C" fn langtag_cldr_version(buffer: *mut u8, buffer_len: usize
 #[no_mangle]
 pub unsafe extern "C" fn langtag_parent(bytes: *const u8, len: usize, buffer: *mut u8, buffer_len: usize) -> usize {
     calls::parent::langtag_parent(lent(bytes, len), taken(buffer, buffer_len))
+}
+
+#[no_mangle]
+pub unsafe extern "C" fn langtag_nth_parent(bytes: *const u8, len: usize, index: u32, buffer: *mut u8, buffer_len: usize) -> usize {
+    calls::parent::langtag_nth_parent(lent(bytes, len), index, taken(buffer, buffer_len))
 }
 
 #[no_mangle]

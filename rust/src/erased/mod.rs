@@ -4,14 +4,10 @@
 
 #[cfg(feature = "data")]
 pub mod canonical;
-pub mod case;
 #[cfg(feature = "data")]
 pub mod choice;
 #[cfg(feature = "data")]
 pub mod cldr;
-#[cfg(feature = "data")]
-pub mod distance;
-pub mod edit;
 pub mod extension;
 #[cfg(feature = "data")]
 pub mod fields;
@@ -24,7 +20,6 @@ pub mod likely;
 #[cfg(feature = "data")]
 pub mod locale;
 pub mod matching;
-pub mod output;
 #[cfg(feature = "data")]
 pub mod parent;
 pub mod place;
@@ -32,13 +27,11 @@ pub mod place;
 pub mod posix;
 pub mod private;
 pub mod range;
-pub mod recogniser;
-pub mod refusal;
 #[cfg(feature = "data")]
 pub mod registry;
 pub mod scan;
-pub mod tables;
 pub mod tag;
+pub mod text;
 #[cfg(feature = "data")]
 pub mod unicode;
 #[cfg(feature = "data")]

@@ -1,4 +1,4 @@
-//! The names of Unicode's CLDR 48.2 (the notice: likely/LICENSE-UNICODE). Written by names/generate.py. Do not edit.
+//! The names of Unicode's CLDR 48.2 (the notice: LICENSE-UNICODE). Written by data/names/generate.py. Do not edit.
 
 /// The English names of subtags, in the order of the subtags.
 #[rustfmt::skip]
@@ -1378,7 +1378,7 @@ pub(super) static OWN_NAMES: [(&str, &str); 363] = [
     ("ksb", "Kishambaa"),
     ("ksf", "rikpa"),
     ("ksh", "Kölsch"),
-    ("ku", "kurmancî"),
+    ("ku", "kurdî (kurmancî)"),
     ("kw", "kernewek"),
     ("kxv", "kuvi"),
     ("kxv-Deva", "कुवि"),

@@ -68,10 +68,7 @@ pub fn direction(text: Option<&str>) -> String {
     direction.into()
 }
 
-pub fn posix(name: Option<&str>) -> String {
-    let Some(name) = name else {
-        return "-".into();
-    };
+pub fn posix(name: &str) -> String {
     match from_posix(name) {
         Ok(tag) => {
             check_buffer(tag.as_str(), |buffer| {
@@ -113,15 +110,20 @@ pub fn unknown(name: &[u8]) -> String {
     }
 }
 
-/// Returns a tag and its parents. Each one is the parent of the one before it, and the last has none.
+/// Returns a tag and its parents. The second one is the parent.
 pub fn chain(text: Option<&str>) -> String {
     let Some(Ok(tag)) = text.map(LangTag::new) else {
         return "-".into();
     };
-    let chain: Vec<LangTag> = tag.parents().collect();
+    let chain: Vec<LangTagBuf> = tag.parents().collect();
+    assert_eq!(
+        (tag.parent(), parent(tag)),
+        (chain.get(1).cloned(), chain.get(1).cloned())
+    );
     for (index, tag) in chain.iter().enumerate() {
-        assert_eq!(tag.parent(), chain.get(index + 1).copied());
-        assert_eq!(parent(*tag), tag.parent());
+        check_buffer(tag.as_str(), |buffer| {
+            length(write_parent(chain[0].as_lang_tag(), index, buffer).map(Option::unwrap))
+        });
     }
     let texts: Vec<&str> = chain.iter().map(|tag| tag.as_str()).collect();
     texts.join(" ")
@@ -142,7 +144,7 @@ fn in_each_list(tags: &str, best: impl Fn(&dyn TagList) -> Option<usize>) -> Str
             best(&&owned[..]),
             best(&texts),
             best(&strings),
-            best(&Site::new(&owned)),
+            best(&Site::new(&owned[..])),
         ]
     );
     shown(found, &tags)
@@ -152,14 +154,23 @@ fn shown(best: Option<usize>, tags: &[LangTag<'_>]) -> String {
     best.map_or("-".into(), |index| tags[index].to_string())
 }
 
+/// A list may have other texts than tags, which are never chosen.
+fn are_tags(texts: &[&str]) -> bool {
+    texts.iter().all(|text| LangTag::new(text).is_ok())
+}
+
 pub fn best(header: &[u8], tags: &str) -> String {
+    let texts: Vec<&str> = tags.split_whitespace().collect();
+    if !are_tags(&texts) {
+        return best_for_header(header, &texts).map_or("-".into(), |index| texts[index].into());
+    }
     in_each_list(tags, |tags| best_for_header(header, tags))
 }
 
 pub fn best_match(header: &[u8], tags: &str) -> String {
     let tags = tags_of(tags);
     let found = match_for_header(header, &tags);
-    assert_eq!(found, Site::new(&tags).match_for_header(header));
+    assert_eq!(found, Site::new(&tags[..]).match_for_header(header));
     assert_eq!(
         found.map(|found| found.index),
         best_for_header(header, &tags)
@@ -204,6 +215,16 @@ fn all_shown(found: &[usize], tags: &[LangTag<'_>], of_site: &[&LangTag<'_>]) ->
 
 /// Returns the suitable tags. An array that is too short must get the first of them.
 pub fn suitable(header: &[u8], tags: &str) -> String {
+    let texts: Vec<&str> = tags.split_whitespace().collect();
+    if !are_tags(&texts) {
+        let found = suitable_for_header(header, &texts).into_iter();
+        let found: Vec<&str> = found.map(|index| texts[index]).collect();
+        return if found.is_empty() {
+            "-".into()
+        } else {
+            found.join(" ")
+        };
+    }
     let tags = tags_of(tags);
     let found = suitable_for_header(header, &tags);
     for room in 0..=tags.len() {
@@ -212,11 +233,19 @@ pub fn suitable(header: &[u8], tags: &str) -> String {
         assert_eq!(some[..count], found[..room.min(found.len())]);
         assert!(some[count..].iter().all(|index| *index == usize::MAX));
     }
-    all_shown(&found, &tags, &Site::new(&tags).suitable_for_header(header))
+    all_shown(
+        &found,
+        &tags,
+        &Site::new(&tags[..]).suitable_for_header(header),
+    )
 }
 
 pub fn suitable_ranges(ranges: &str, tags: &str) -> String {
     let (texts, tags): (Vec<&str>, _) = (ranges.split_whitespace().collect(), tags_of(tags));
     let found = suitable_for_ranges(&texts, &tags);
-    all_shown(&found, &tags, &Site::new(&tags).suitable_for_ranges(&texts))
+    all_shown(
+        &found,
+        &tags,
+        &Site::new(&tags[..]).suitable_for_ranges(&texts),
+    )
 }

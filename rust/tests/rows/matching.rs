@@ -91,10 +91,31 @@ pub fn header(header: &str, tags: &str) -> String {
 pub fn elements(header: &str) -> String {
     match AcceptLanguage::new(header) {
         Ok(accepted) => weighted(accepted.ranges()),
-        Err(error) => format!(
-            "{error} | {}",
-            weighted(AcceptLanguage::lenient(header).ranges())
-        ),
+        Err(error) => {
+            let words = error.to_string();
+            let AcceptLanguageError::BadElement {
+                index,
+                offset,
+                part,
+                ..
+            } = error
+            else {
+                panic!("{error}");
+            };
+            let element = header[offset..].split(',').next().unwrap().trim();
+            let place = format!(
+                "element {} at offset {offset} has a bad {part}: `",
+                index + 1
+            );
+            assert!(words.starts_with(&place), "{words}");
+            let shown = element.escape_debug().to_string();
+            assert!(
+                words.contains(&shown) || element.len() > 80 || !element.is_ascii(),
+                "{words}"
+            );
+            let ranges = weighted(AcceptLanguage::lenient(header).ranges());
+            format!("element {index} has a bad {part} | {ranges}")
+        }
     }
 }
 
@@ -129,9 +150,14 @@ pub fn ranges(ranges: &str, tags: &str) -> String {
 }
 
 pub fn fallbacks(range: &str) -> String {
-    LanguageRange::new(range).map_or("refused".into(), |range| {
-        list(range.fallbacks().map(Into::into))
-    })
+    let Ok(range) = LanguageRange::new(range) else {
+        return "refused".into();
+    };
+    for fallback in range.fallbacks() {
+        let read = LanguageRange::new(fallback.as_str()).expect("a fallback is a range");
+        assert_eq!(read.is_basic(), fallback.is_basic(), "{fallback}");
+    }
+    list(range.fallbacks().map(Into::into))
 }
 
 pub fn filter(rule: &str, ranges: &str, tags: &str) -> String {

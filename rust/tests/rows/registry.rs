@@ -90,6 +90,13 @@ pub fn misplaced(text: &str) -> String {
     })
 }
 
+pub fn extlang_at_fault(text: &str) -> String {
+    words([NormalLangTag::new(text)
+        .ok()
+        .and_then(misplaced_extlang)
+        .map(Into::into)])
+}
+
 pub fn subtag(text: &str) -> String {
     let mut found: Vec<Option<&str>> = Vec::new();
     if let Ok(language) = PrimaryLanguage::new(text) {

@@ -47,6 +47,9 @@ pub fn tag(bytes: &[u8]) -> String {
     let mut line = |name: &str, words: &str| lines.push(format!("  {name} {words}"));
     if let Some(language) = tag.language() {
         let primary = language.primary();
+        let (first, rest) = language.split_once('-').unwrap_or((&language, ""));
+        assert_eq!(primary.as_str(), first);
+        assert_eq!(language.extension().map_or("", |it| it.as_str()), rest);
         let subtags =
             std::iter::once(primary.as_str()).chain(language.extension_subtags().map(Into::into));
         line("language", &list(subtags));
@@ -234,7 +237,6 @@ pub fn refused(bytes: &[u8]) -> String {
     )
 }
 
-/// Returns the character or the byte that the message of an error shows.
 /// Returns the message for bytes that are not a tag. The message for the same string is the same.
 pub fn message(bytes: &[u8]) -> String {
     let error = LangTag::from_bytes(bytes).unwrap_err().to_string();

@@ -50,25 +50,45 @@ macro_rules! seen {
             (Ok(lent), Ok(owned)) => {
                 assert_eq!((lent.as_str(), owned.as_str()), (text, text));
                 assert_eq!((pieces_of(&lent), pieces_of(&owned)), (1, 1));
-                assert_eq!((lent.to_string(), owned.to_string()), (text.into(), text.into()));
-                let debug = format!(" {{ text: {text:?}");
-                assert!(format!("{lent:?}").starts_with(&(stringify!($name).to_owned() + &debug)));
-                assert!(format!("{owned:?}").starts_with(&(stringify!($owned).to_owned() + &debug)));
-                for other in [lent.to_owned(), lent.try_to_owned().unwrap(), owned.clone(), lent.into()] {
+                assert_eq!(
+                    (lent.to_string(), owned.to_string()),
+                    (text.into(), text.into())
+                );
+                assert_eq!(format!("{lent:?}{owned:?}"), format!("{text:?}{text:?}"));
+                for other in [
+                    lent.to_owned(),
+                    lent.try_to_owned().unwrap(),
+                    owned.clone(),
+                    lent.into(),
+                ] {
                     assert_eq!((&other, other.$lend()), (&owned, lent));
                     assert_eq!(other.into_string().capacity(), text.len());
                 }
                 let upper = text.to_ascii_uppercase();
-                assert!(lent == upper.as_str() && upper == owned && owned == lent && lent == $name::from(&owned));
+                assert!(
+                    lent == upper.as_str()
+                        && upper == owned
+                        && owned == lent
+                        && lent == $name::from(&owned)
+                );
                 assert!(lent.eq_str(&upper) && lent == *upper && *upper == owned);
-                assert_eq!((&*lent, AsRef::<[u8]>::as_ref(&owned)), (text, text.as_bytes()));
+                assert_eq!(
+                    (&*lent, AsRef::<[u8]>::as_ref(&owned)),
+                    (text, text.as_bytes())
+                );
                 assert_eq!(owned.into_bytes(), text.as_bytes());
                 "accepted".to_owned()
             }
             (Err(lent), Err(owned)) => {
-                assert_eq!((lent.0, &*owned.0, lent.into_owned()), (text, text, owned.clone()));
+                assert_eq!(
+                    (lent.0, &*owned.0, lent.into_owned()),
+                    (text, text, owned.clone())
+                );
                 assert_eq!(lent.to_string(), owned.to_string());
-                assert_eq!(format!("{lent:?}"), format!("Invalid{}({text:?})", stringify!($name)));
+                assert_eq!(
+                    format!("{lent:?}"),
+                    format!("Invalid{}({text:?})", stringify!($name))
+                );
                 before_text(&lent.to_string(), text)
             }
             (lent, owned) => format!("{lent:?}, and {owned:?}"),
@@ -150,9 +170,9 @@ fn singleton(text: &str) -> String {
         Ok(singleton) => {
             assert_eq!(pieces_of(&singleton), 1);
             assert!(singleton == text.as_bytes()[0] && char::from(singleton) == singleton);
-            format!("{singleton} {singleton:?}")
-                .replace('{', "\\x7b")
-                .replace('}', "\\x7d")
+            assert_eq!(format!("{singleton:?}"), format!("'{singleton}'"));
+            let byte = singleton.unwrap();
+            format!("{singleton} Singleton \\x7b byte: {byte} \\x7d")
         }
         Err(refusal) => {
             assert_eq!(refusal.0, text);

@@ -10,7 +10,7 @@ fn tag(text: &str) -> LangTag<'_> {
 
 fn written(keywords: KeywordsIter<'_>) -> Vec<String> {
     keywords
-        .map(|KeyValue { key, value }| format!("{key}={value}"))
+        .map(|KeyValue { key, value, .. }| format!("{key}={value}"))
         .collect()
 }
 
@@ -20,7 +20,7 @@ pub fn value(text: &str, key: &str) -> String {
 
 pub fn pairs(text: &str) -> String {
     let pairs = written(keywords(tag(text)));
-    for KeyValue { key, value } in keywords(tag(text)) {
+    for KeyValue { key, value, .. } in keywords(tag(text)) {
         assert_eq!(keyword(tag(text), key), Some(value), "{text}");
     }
     list(pairs.iter().map(String::as_str))
@@ -35,7 +35,7 @@ pub fn transformed(text: &str) -> String {
         return "-".into();
     };
     let fields = written(transformation.fields());
-    for KeyValue { key, value } in transformation.fields() {
+    for KeyValue { key, value, .. } in transformation.fields() {
         assert_eq!(transformation.field(key), Some(value), "{text}");
     }
     let language = words([Some(transformation.language().unwrap_or(""))]);
@@ -105,40 +105,80 @@ pub fn form(text: &str) -> String {
     form.as_str().into()
 }
 
-/// Returns the tag with a keyword set, or removed if the value is `-`. A value that is set must be read again, and an error must leave the buffer unchanged.
+/// Returns the tag with a keyword set, or removed if the value is `-`, as an owned tag becomes it. A buffer of the length that the
+/// documentation gives is long enough. A buffer that is one byte too short stays unchanged, as it does after an error.
 pub fn edited(text: &str, key: &str, value: &str) -> String {
-    let mut buffer = vec![b'!'; text.len() + key.len() + value.len() + 4];
-    let written = match value {
-        "-" => write_without_keyword(tag(text), key, &mut buffer),
-        _ => write_with_keyword(tag(text), key, value, &mut buffer),
+    let edit = |room: usize| {
+        let mut buffer = vec![b'!'; room];
+        let written = match value {
+            "-" => write_without_keyword(tag(text), key, &mut buffer),
+            _ => write_with_keyword(tag(text), key, value, &mut buffer),
+        };
+        let made = written.map(str::to_owned);
+        let rest = made.as_ref().map_or(0, String::len);
+        assert!(buffer[rest..].iter().all(|byte| *byte == b'!'), "{text}");
+        made
     };
-    let error = match written {
+    let room = if value == "-" {
+        0
+    } else {
+        key.len() + value.len() + 4
+    };
+    let outcome = edit(text.len() + room);
+    check_owned(text, key, value, &outcome);
+    let error = match outcome {
         Ok(made) => {
-            assert!(
-                value == "-" || keyword(tag(made), key) == Some(value),
-                "{made}"
-            );
-            return made.into();
+            let Err(WriteKeywordError::TooShort(error)) = edit(made.len() - 1) else {
+                panic!("{text}");
+            };
+            assert_eq!(error.needed(), made.len(), "{text}");
+            if value != "-" {
+                assert_eq!(keyword(tag(&made), key), Some(value), "{made}");
+                let others = ["ca", "nu", "co", "kn"].into_iter();
+                for other in others.filter(|other| !other.eq_ignore_ascii_case(key)) {
+                    let before = keyword(tag(text), other);
+                    assert_eq!(keyword(tag(&made), other), before, "{made}");
+                }
+            }
+            return made;
         }
-        Err(error) => error,
-    };
-    assert!(buffer.iter().all(|byte| *byte == b'!'), "{text}");
-    let WriteKeywordError::Keyword(error) = error else {
-        panic!("{error}");
+        Err(WriteKeywordError::Keyword(error)) => error,
+        Err(error) => panic!("{error}"),
     };
     match error {
         KeywordError::Key => "bad key".into(),
         KeywordError::Value(offset) => {
-            let subtag = value[offset..].split('-').next().unwrap_or("");
-            assert!(
-                subtag.len() < 3
-                    || subtag.len() > 8
-                    || !subtag.bytes().all(|byte| byte.is_ascii_alphanumeric()),
-                "{value}"
-            );
+            let is_bad = |subtag: &str| {
+                !(3..=8).contains(&subtag.len())
+                    || !subtag.bytes().all(|byte| byte.is_ascii_alphanumeric())
+            };
+            let first = value.split('-').position(is_bad).expect("a bad subtag");
+            let start = value.split('-').take(first).map(|subtag| subtag.len() + 1);
+            assert_eq!(offset, start.sum::<usize>(), "{value}");
             "bad value".into()
         }
         KeywordError::NotNormal => "no parts".into(),
         _ => panic!("{error}"),
     }
+}
+
+/// Checks that an owned tag becomes the text that was written, or stays unchanged after the same error.
+fn check_owned(text: &str, key: &str, value: &str, outcome: &Result<String, WriteKeywordError>) {
+    let mut owned = tag(text).to_owned();
+    let result = match value {
+        "-" => owned.remove_keyword(key),
+        _ => owned.set_keyword(key, value),
+    };
+    let result = result.map_err(|error| {
+        WriteKeywordError::Keyword(match error {
+            SetKeywordError::Key(_) => KeywordError::Key,
+            SetKeywordError::Value(_, offset) => KeywordError::Value(offset),
+            SetKeywordError::NotNormal => KeywordError::NotNormal,
+            _ => panic!("{error}"),
+        })
+    });
+    assert_eq!(result.as_ref(), outcome.as_ref().map(|_| &()), "{text}");
+    assert_eq!(owned.as_str(), outcome.as_deref().unwrap_or(text));
+    let read = LangTag::new(owned.as_str()).expect("it is a tag");
+    assert_eq!(owned.as_lang_tag().as_typed(), read.as_typed());
 }

@@ -41,7 +41,12 @@ pub fn walk(list: &str, pattern: &str, text: &str) -> String {
             next_back
         ),
         "Variants" => walked!(
-            Variants::new(text).ok().map(|list| list.iter()),
+            Variants::new(text).ok().map(|list| {
+                let (mut first, mut last) = (list.iter(), list.iter());
+                assert_eq!(list.first(), first.next(), "{text}");
+                assert_eq!(list.last(), last.next_back(), "{text}");
+                list.iter()
+            }),
             pattern,
             next_back
         ),

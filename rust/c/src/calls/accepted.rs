@@ -3,8 +3,9 @@
 //! A walk over the elements of an Accept-Language header (RFC 9110 section 12.5.4), without
 //! allocating.
 
-use crate::erased::header::element_at;
-use crate::spans::{next_item, number_of, Span};
+use crate::calls::items::{next_item, number_of};
+use crate::calls::span::Span;
+use crate::erased::matching::element_at;
 
 /// Removes the first element from `rest`, which is the value of an Accept-Language header or the
 /// rest of it (RFC 9110 section 12.5.4). Returns an enum `langtag_accepted_answer`. Empty elements

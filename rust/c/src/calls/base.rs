@@ -2,7 +2,7 @@
 
 //! The part of a tag before its extensions and private use.
 
-use crate::spans::tag_of;
+use crate::calls::tag::tag_of;
 
 /// Returns the length of a tag without its extensions and private use, which is 10 for
 /// de-CH-1996-u-co-phonebk-x-mine. A private-use tag and an irregular tag have no extensions, so

@@ -2,9 +2,10 @@
 
 //! The best tag for a reader, with the range that it serves and its distance from that range.
 
+use crate::calls::range_place::range_at;
+use crate::calls::span::Span;
 use crate::calls::spanned_tags::SpannedTags;
 use crate::erased::choice::match_among;
-use crate::spans::{range_at, Span};
 
 /// The range of a header that the best tag serves, and the distance from the range to the tag.
 #[repr(C)]

@@ -2,12 +2,12 @@
 
 //! The canonical form of a tag, in the caller's buffer (RFC 5646 section 4.5).
 
+use crate::calls::tag::tag_of;
 use crate::erased::registry::{is_canonical, write_canonical};
-use crate::spans::tag_of;
 
 /// Writes the canonical form of a tag to `buffer` ([RFC 5646 section 4.5]), and returns its length:
 /// iw becomes he, zh-yue becomes yue, art-lojban becomes jbo, en-b-ccc-a-aaa becomes
-/// en-a-aaa-b-ccc. The registry is that of `langtag_registry_date`.
+/// en-a-aaa-b-ccc. It uses the registry whose date `langtag_registry_date` returns.
 ///
 /// ```c
 /// char buffer[64];

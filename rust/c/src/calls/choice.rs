@@ -3,10 +3,11 @@
 //! The best tag for a reader, and the distance of two tags (UTS #35, part 1, section 'Language
 //! Matching').
 
+use crate::calls::span::Span;
 use crate::calls::spanned_ranges::SpannedRanges;
 use crate::calls::spanned_tags::SpannedTags;
+use crate::calls::tag::tag_of;
 use crate::erased::choice::{best_among, distance};
-use crate::spans::{tag_of, Span};
 
 /// The result if one of the two strings is not a tag.
 const NO_DISTANCE: u32 = u32::MAX;
@@ -45,10 +46,10 @@ pub fn langtag_distance(desired: &[u8], supported: &[u8]) -> u32 {
 /// its nearest tag is chosen (`langtag_distance`). If there is no such range, the limit is 50, and
 /// after that, lookup is tried (RFC 4647 section 3.4). A tag whose longest matching range has the
 /// weight 0 is not chosen. A range "*" chooses nothing, so the program's default is used. Among
-/// tags at the same distance, the best is the tag for which lookup removes the fewest subtags from
-/// the range, then a tag with the most likely region of its language, then one of CLDR's paradigm
-/// locales, such as es-419, then the first in the list. So list the tags in the order that you
-/// prefer.
+/// tags at the same distance, the best has the most variants of the range. If several have as many,
+/// it is the tag for which lookup removes the fewest subtags from the range, then a tag with the
+/// most likely region of its language, then one of CLDR's paradigm locales, such as es-419, then
+/// the first in the list. So list the tags in the order that you prefer.
 ///
 /// Malformed elements are read leniently: _ is read as a hyphen, everything after ., @ or _# is
 /// dropped, and a weight that is not a number counts as 1.
@@ -67,6 +68,7 @@ pub fn langtag_best_for_header(header: &[u8], bytes: &[u8], tags: &[Span]) -> us
 /// Returns the index of the best tag for a list of language ranges, in order of preference, or
 /// `tags_len` if none is suitable. The ranges are spans of one string, and the tags are spans of
 /// another. The choice is that of `langtag_best_for_header` if all ranges have the same weight.
+/// Only a header skips extended ranges, such as de-*.
 ///
 /// A range is read as in a header: zh_TW.UTF-8 is read as zh-TW, and sr_RS@latin as sr-RS. Call
 /// `langtag_from_posix` first for the names in LANG and LANGUAGE. An extended range is read without

@@ -2,8 +2,8 @@
 
 //! Whether a tag is written from right to left.
 
+use crate::calls::tag::tag_of;
 use crate::erased::likely::is_right_to_left;
-use crate::spans::tag_of;
 
 /// Returns whether a tag is written from right to left, by its script or, if it has none, by its
 /// likely script: true for he, pa-PK and az-Arab, false for ar-Latn, for und, for a private-use

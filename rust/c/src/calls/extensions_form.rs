@@ -2,8 +2,8 @@
 
 //! The canonical form of a tag's extensions, in the caller's buffer (UTS #35, part 1, Annex C).
 
+use crate::calls::tag::tag_of;
 use crate::erased::unicode::write_extensions_form;
-use crate::spans::tag_of;
 
 /// Writes a tag with its extensions u and t in canonical form to `buffer` (UTS #35, part 1, Annex
 /// C), and returns its length: en-u-nu-thai-ca-gregory-kn-true becomes en-u-ca-gregory-kn-nu-thai.

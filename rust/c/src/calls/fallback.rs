@@ -2,8 +2,8 @@
 
 //! The fallbacks of a language range in a lookup (RFC 4647 section 3.4), without allocating.
 
+use crate::calls::span::Span;
 use crate::erased::range::shortened_len;
-use crate::spans::Span;
 
 /// Shortens `rest` to its next fallback in a lookup ([RFC 4647 section 3.4]); for a catalogue of
 /// strings, call `langtag_parent` instead. It removes the last subtag, and each subtag of one byte

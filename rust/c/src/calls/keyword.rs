@@ -2,8 +2,9 @@
 
 //! Where the keywords and attributes of the extension `u` are (RFC 6067 section 2.1).
 
+use crate::calls::extension_walk::{before_key, extension_subtags, next_key, value_of};
+use crate::calls::span::Span;
 use crate::erased::keyword::Keys;
-use crate::spans::{before_key, extension_subtags, next_key, value_of, Span};
 
 /// Returns whether the extension u has a key ([RFC 6067 section 2.1]), ignoring case, and writes
 /// where its value is (out).

@@ -3,9 +3,9 @@
 //! The maximal and minimal forms of a tag, in the caller's buffer (UTS #35, part 1, section 'Likely
 //! Subtags').
 
+use crate::calls::tag::tag_of;
 use crate::erased::likely::{write_maximized, write_minimized, CLDR_VERSION};
-use crate::erased::output::write_text;
-use crate::spans::tag_of;
+use crate::erased::text::write_text;
 
 /// Writes a tag with its likely subtags to `buffer` (UTS #35, part 1, Add Likely Subtags), and
 /// returns its length: zh-TW becomes zh-Hant-TW, and en and und become en-Latn-US. The data are

@@ -2,8 +2,8 @@
 
 //! Unicode locale identifiers, and their canonical form in the caller's buffer (UTS #35, part 1).
 
+use crate::calls::tag::tag_of;
 use crate::erased::locale::{is_locale, write_locale_form};
-use crate::spans::tag_of;
 
 /// Returns whether a string is a Unicode locale identifier (UTS #35, part 1, section "Unicode
 /// Locale Identifier"), as Intl of JavaScript requires: true for de-1996-u-co-phonebk, false for

@@ -3,7 +3,9 @@
 //! The tag that lookup finds for an Accept-Language header (RFC 9110 section 12.5.4, RFC 4647
 //! section 3.4), without allocating.
 
-use crate::spans::{first_bad, index_for_header, number_of, Span};
+use crate::calls::header_look_up::{first_bad, index_for_header};
+use crate::calls::items::number_of;
+use crate::calls::span::Span;
 
 /// Looks up a tag as `langtag_tag_for_header_lenient` does, but refuses a header with a malformed
 /// element. Returns an enum `langtag_accepted_answer`.

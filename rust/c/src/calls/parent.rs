@@ -1,45 +1,48 @@
 // Made by rust/erase from crates/langtag_c/src/parent.rt. Change that file, not this one.
 
-//! The parent of a tag, in the caller's buffer (UTS #35, part 1, section 'Parent Locales').
+//! The parents of a tag, in the caller's buffer (UTS #35, part 1, section 'Parent Locales').
 
-use crate::erased::output::write_text;
-use crate::erased::parent::parent;
-use crate::spans::tag_of;
+use crate::calls::tag::tag_of;
+use crate::erased::parent::nth_parent;
 
 /// Writes the parent of a tag in CLDR to `buffer` (UTS #35, part 1, Parent Locales), and returns
 /// its length: pt-PT for pt-AO, zh-Hant for zh-TW. If a catalogue has no string for a tag, it looks
-/// for the parent of the tag next. The data are those of `langtag_cldr_version`. As with
-/// `langtag_canonical`, nothing is written if the buffer is too short.
-///
-/// ```c
-/// char tags[2][64] = {"pt-AO"};
-/// size_t len = 5;
-/// for (int at = 0; len > 0 && len <= sizeof tags[at]; at = !at) {
-///     printf("%.*s ", (int)len, tags[at]); // pt-AO pt-PT pt
-///     len = langtag_parent(tags[at], len, tags[!at], sizeof tags[!at]);
-/// }
-/// ```
-///
-/// A parent is written in the same script, so zh-Hant has none: zh is Simplified. Extensions and
-/// private use are removed first, then each variant, the last one first, then the region. A script
-/// is only removed if it is the likely script of the language. The tag should be in its canonical
-/// form, as CLDR does not list deprecated or extended languages. Case is ignored.
+/// for the parent of the tag next, and then for the other tags of `langtag_nth_parent`, which says
+/// more. As with `langtag_canonical`, nothing is written if the buffer is too short.
 ///
 /// Returns 0 and writes nothing if the tag has no parent, such as pt and x-a, or if the string is
 /// not a tag.
 #[inline]
 pub fn langtag_parent(bytes: &[u8], buffer: &mut [u8]) -> usize {
-    match parent_of(bytes) {
-        Some(parent) => write_text(parent, buffer),
-        None => 0,
-    }
+    langtag_nth_parent(bytes, 1, buffer)
 }
 
-/// Returns the parent of a tag.
-#[inline]
-fn parent_of(bytes: &[u8]) -> Option<&[u8]> {
-    match tag_of(bytes) {
-        Some(tag) => Some(parent(tag)?.as_str().as_bytes()),
-        None => None,
+/// Writes the tag at an index of the chain of a tag and its parents in CLDR to `buffer`, and
+/// returns its length. At 0 is the tag itself, and at 1 its parent. A catalogue looks for a string
+/// in this order. The data are those of `langtag_cldr_version`. As with `langtag_canonical`,
+/// nothing is written if the buffer is too short.
+///
+/// ```c
+/// char tag[64];
+/// size_t len;
+/// for (uint32_t at = 0; (len = langtag_nth_parent("pt-Latn-AO", 10, at, tag, sizeof tag)) > 0 && len <= sizeof tag; at++)
+///     printf("%.*s ", (int)len, tag); // pt-Latn-AO pt-AO pt-PT pt
+/// ```
+///
+/// All tags of a chain are written in the same script, so zh-Hant has no parent: zh is Simplified.
+/// A script that is likely anyway goes first. Extensions and private use are removed next, then
+/// each variant, the last one first, and then the region. The variants come back with each parent:
+/// ca-ES-valencia, ca-ES, ca-valencia, ca. A script is only removed if it is the likely script of
+/// the language. The tag should be in its canonical form, as CLDR does not list deprecated or
+/// extended languages. Case is ignored.
+///
+/// Returns 0 and writes nothing if the chain has no more tags, or if the string is not a tag.
+pub fn langtag_nth_parent(bytes: &[u8], index: u32, buffer: &mut [u8]) -> usize {
+    let Some(tag) = tag_of(bytes) else {
+        return 0;
+    };
+    match nth_parent(tag, index as usize) {
+        Some(parent) => parent.write(buffer),
+        None => 0,
     }
 }

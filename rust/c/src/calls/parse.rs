@@ -2,9 +2,8 @@
 
 //! Whether bytes are a tag, of which kind, and where its parts are.
 
-use crate::erased::recogniser::{recognise, Found, Metered};
-use crate::erased::scan::Ends;
-use crate::spans::Span;
+use crate::calls::span::Span;
+use crate::erased::scan::{recognise, Ends, Found, Metered};
 
 /// Where each part of a tag is, for example in "zh-yue-Hant-HK-rozaj-1994-u-co-pinyin-x-mine":
 #[repr(C)]

@@ -3,23 +3,28 @@
 //! The tag for a POSIX locale name and the name for a tag, in the caller's buffer, and the unknown
 //! modifier that is dropped.
 
+use crate::calls::span::Span;
+use crate::calls::tag::tag_of;
 use crate::erased::posix::{unknown_modifier, write_from_posix, write_to_posix};
-use crate::spans::{tag_of, Span};
 
 /// Writes the tag for a POSIX locale name to `buffer` (IEEE Std 1003.1, section 8.2), and returns
 /// its length: pt_BR.UTF-8 becomes pt-BR, sr_RS@latin becomes sr-Latn-RS, ca_ES@valencia becomes
 /// ca-ES-valencia, and zh_TW_#Hant, as Java prints it, becomes zh-Hant-TW. As with
 /// `langtag_canonical`, nothing is written if the buffer is too short. Names as Android and .NET
 /// write them are read, too: zh-rTW becomes zh-TW, b+sr+Latn becomes sr-Latn, zh-CHT becomes
-/// zh-Hant, and sr-SP-Latn becomes sr-Latn-RS.
+/// zh-Hant, and sr-SP-Latn becomes sr-Latn-RS. An empty language or region is read as in Java and
+/// ICU: _US becomes und-US.
 ///
 /// The codeset is dropped. The modifiers latin, cyrillic, devanagari, iqtelif, valencia, tarask,
-/// ijekavian, ijekavianlatin and the codes of scripts are used, ignoring case. Other modifiers are
-/// dropped. If the only variant is POSIX, ignoring case, and there are no extensions, it becomes
-/// the keyword va-posix: en_US_POSIX becomes en-US-u-va-posix.
+/// ijekavian, ijekavianlatin and the codes of scripts are used, ignoring case. Extensions come from
+/// Java's names and from the keywords of ICU and Apple: de_DE_#u-co-phonebk and
+/// de_DE@collation=phonebook become de-DE-u-co-phonebk. Other modifiers are dropped, and so are
+/// keywords if one of them cannot be read. If the only variant is POSIX, ignoring case, and there
+/// are no extensions, it becomes the keyword va-posix: en_US_POSIX becomes en-US-u-va-posix.
 ///
 /// Returns 0 and writes nothing if language and territory do not form a tag (C), are POSIX, or have
-/// more than 255 bytes.
+/// more than 255 bytes, or 260 with extensions. Also if what follows # is no script and no
+/// extension, or if extensions would come after an extension or private use.
 #[inline]
 pub fn langtag_from_posix(name: &[u8], buffer: &mut [u8]) -> usize {
     match write_from_posix(name, buffer) {

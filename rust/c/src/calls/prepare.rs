@@ -2,9 +2,10 @@
 
 //! Tags that are prepared for many choices.
 
+use crate::calls::span::Span;
+use crate::calls::spanned::{bytes_in, tag_in};
 use crate::erased::choice::{PreparedForm, TagList};
 use crate::erased::tag::LangTag;
-use crate::spans::{bytes_in, tag_in, Span};
 
 /// A tag of a site, with what a choice computes of it. It is plain data without pointers: it may be
 /// copied, stored, and shared by threads. Set `tag`, and let `langtag_prepare` write the rest.

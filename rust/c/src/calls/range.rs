@@ -2,8 +2,8 @@
 
 //! Language ranges, and the tags that they match (RFC 4647).
 
-use crate::erased::header::LanguageRange;
-use crate::spans::tag_of;
+use crate::calls::tag::tag_of;
+use crate::erased::matching::LanguageRange;
 
 /// Returns which kind of language range a string is, as an enum `langtag_range_kind_answer`.
 #[inline]

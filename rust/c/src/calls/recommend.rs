@@ -2,7 +2,7 @@
 
 //! The recommended case (RFC 5646 section 2.1.1).
 
-use crate::erased::case::make_recommended_case;
+use crate::erased::text::make_recommended_case;
 
 /// Changes a string to the case that [RFC 5646 section 2.1.1] recommends, in place: zh-hant-tw
 /// becomes zh-Hant-TW.

@@ -2,8 +2,8 @@
 
 //! Where a string that is not a tag is wrong (RFC 5646 section 2.1).
 
+use crate::calls::span::Span;
 use crate::erased::tag::{Refusal, RefusalKind};
-use crate::spans::Span;
 
 /// Returns why a string is not a tag, as an enum `langtag_refused_answer`. Writes the wrong subtag
 /// (out) and the offset to point at (out).

@@ -2,8 +2,10 @@
 
 //! Variants and singletons that occur twice in a tag (RFC 5646 section 2.2.9).
 
+use crate::calls::members::{singleton_at, variant_at};
+use crate::calls::span::Span;
+use crate::calls::tag::normal_tag_of;
 use crate::erased::tag::NormalLangTag;
-use crate::spans::{normal_tag_of, singleton_at, variant_at, Span};
 
 /// Where the repeated subtags of a tag are. A span has the length 0 if no such subtag is repeated.
 #[repr(C)]

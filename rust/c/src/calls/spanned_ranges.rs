@@ -2,9 +2,10 @@
 
 //! Language ranges as spans of a string.
 
+use crate::calls::span::Span;
+use crate::calls::spanned::range_in;
 use crate::erased::choice::RangeList;
-use crate::erased::range::WantedRange;
-use crate::spans::{range_in, Span};
+use crate::erased::matching::WantedRange;
 
 /// A string, and spans of it that are language ranges, in order of preference.
 #[derive(Clone, Copy)]

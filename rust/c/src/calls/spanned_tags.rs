@@ -2,9 +2,10 @@
 
 //! Tags as spans of a string.
 
+use crate::calls::span::Span;
+use crate::calls::spanned::{bytes_in, tag_in};
 use crate::erased::choice::TagList;
 use crate::erased::tag::LangTag;
-use crate::spans::{bytes_in, tag_in, Span};
 
 /// A string, and spans of it that are tags.
 #[derive(Clone, Copy)]

@@ -3,7 +3,7 @@
 //! What was probably meant by a subtag that is not registered.
 
 use crate::erased::likely::{suggested_language, suggested_region};
-use crate::erased::output::write_text;
+use crate::erased::text::write_text;
 
 /// Writes the registered code that is probably meant by a subtag that is not registered, and
 /// returns its length, which is 2 or 3: de for the language deu or ger, GB for the region UK, US

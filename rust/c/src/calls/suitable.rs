@@ -2,10 +2,10 @@
 
 //! All tags that suit a reader, best first.
 
+use crate::calls::span::Span;
 use crate::calls::spanned_ranges::SpannedRanges;
 use crate::calls::spanned_tags::SpannedTags;
 use crate::erased::choice::write_suitable;
-use crate::spans::Span;
 
 /// Writes the indices of the suitable tags for an Accept-Language header to `found` (out), best
 /// first, and returns their number: the tag that `langtag_best_for_header` chooses, the tag that it
@@ -19,8 +19,8 @@ use crate::spans::Span;
 /// for (size_t i = 0; i < count; i++) printf("%zu ", found[i]); // 2 3 1
 /// ```
 ///
-/// The rest of the array stays unchanged. The time is that of `langtag_best_for_header` for each
-/// index, and of a comparison with each earlier index for each tag, so `found_len` limits the time.
+/// The rest of the array stays unchanged. The time is that of a choice for every 16 indices, and of
+/// a comparison with each earlier index for each tag, so `found_len` limits the time.
 #[inline]
 pub fn langtag_suitable_for_header(
     header: &[u8],

@@ -2,8 +2,9 @@
 
 //! Where the language and the fields of the extension `t` are (RFC 6497 section 2.2).
 
+use crate::calls::extension_walk::{before_key, extension_subtags, next_key, value_of};
+use crate::calls::span::Span;
 use crate::erased::keyword::Keys;
-use crate::spans::{before_key, extension_subtags, next_key, value_of, Span};
 
 /// Returns whether a tag has the extension t ([RFC 6497 section 2.2]), and writes where the
 /// language of t is (out), before its first field: ja-latn in und-t-ja-latn-m0-hepburn. The

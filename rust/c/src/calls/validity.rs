@@ -2,9 +2,11 @@
 
 //! Whether a tag is valid by the registry (RFC 5646 section 2.2.9).
 
+use crate::calls::members::{singleton_at, variant_at};
+use crate::calls::span::Span;
+use crate::calls::tag::tag_of;
 use crate::erased::registry::{fault_at, InvalidSubtag};
 use crate::erased::tag::NormalLangTag;
-use crate::spans::{singleton_at, tag_of, variant_at, Span};
 
 /// Returns whether a tag is valid ([RFC 5646 section 2.2.9]), as an enum `langtag_validity_answer`,
 /// and writes where its first invalid subtag is (out), which is empty if there is none.
@@ -17,8 +19,8 @@ use crate::spans::{singleton_at, tag_of, variant_at, Span};
 ///
 /// A tag is valid if it is grandfathered, or if its language, extended language, script, region and
 /// variants are registered, it has at most one extended language, and no variant or singleton is
-/// repeated. The registry is that of `langtag_registry_date`. Deprecated subtags are valid. Whether
-/// a variant follows one of its prefixes is not checked.
+/// repeated. It uses the registry whose date `langtag_registry_date` returns. Deprecated subtags
+/// are valid. Whether a variant follows one of its prefixes is not checked.
 ///
 /// [RFC 5646 section 2.2.9]: https://www.rfc-editor.org/rfc/rfc5646#section-2.2.9
 pub fn langtag_validity(bytes: &[u8], invalid: &mut Span) -> u32 {

@@ -2,7 +2,7 @@
 
 //! How many bytes of a string can begin a tag.
 
-use crate::erased::recogniser::viable_len;
+use crate::erased::scan::viable_len;
 
 /// Returns the length of the longest prefix with which some tag begins: 3 for "i-no" and for "en-".
 /// It is `len` if and only if the string is a tag, or more bytes can make it one.

@@ -2,9 +2,9 @@
 
 //! Walks over the subtags and the extensions of a part, without allocating.
 
+use crate::calls::span::Span;
 use crate::erased::extension::first_extension_end;
 use crate::erased::scan::segment_end;
-use crate::spans::Span;
 
 /// Removes the first subtag from `rest`, and writes it to `subtag` (out). `rest` then begins after
 /// the next hyphen. Begin with a copy of the span of a part:

@@ -3,8 +3,8 @@
 //! A tag with a keyword of the extension `u` set or removed, written to the caller's buffer (RFC
 //! 6067 section 2.1).
 
+use crate::calls::tag::tag_of;
 use crate::erased::unicode::{write_with_keyword, write_without_keyword};
-use crate::spans::tag_of;
 
 /// Writes a normal tag with a value of a key of the extension u to `buffer` ([RFC 6067 section
 /// 2.1]), and returns the length of the new tag. An empty value means true: the key then has no

@@ -2,8 +2,9 @@
 
 //! A tag with one part changed, written to the caller's buffer (RFC 5646 sections 2.2.1 to 2.2.7).
 
+use crate::calls::part::part_of;
+use crate::calls::tag::normal_tag_of;
 use crate::erased::tag::write_part;
-use crate::spans::{normal_tag_of, part_of};
 
 /// Writes a normal tag with one part changed to `buffer`, and returns the length of the new tag.
 /// `part` is an enum `langtag_part`. An empty string removes the part. All other parts stay, and

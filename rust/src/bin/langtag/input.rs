@@ -1,5 +1,5 @@
 //! The texts: arguments, or the lines of standard input.
-use std::io::{self, BufRead, BufReader, Write};
+use std::io::{self, BufRead, BufReader, ErrorKind, Write};
 
 use langtag::AllocError;
 
@@ -60,12 +60,29 @@ pub fn texts<W: Write>(
             output.flush().map_err(Failure::write)?;
         }
         line.clear();
-        let count = input
-            .read_until(b'\n', &mut line)
-            .map_err(|_| Failure::Read)?;
-        if count == 0 {
+        gather(&mut input, &mut line)?;
+        if line.is_empty() {
             return Ok(());
         }
         answer(line.strip_suffix(b"\n").unwrap_or(&line), output)?;
+    }
+}
+
+/// Adds the bytes of the next line to `line`, with its LF. At the end of the input, it adds none.
+fn gather(input: &mut impl BufRead, line: &mut Vec<u8>) -> Result<(), Failure> {
+    loop {
+        let read = match input.fill_buf() {
+            Ok(read) => read,
+            Err(error) if error.kind() == ErrorKind::Interrupted => continue,
+            Err(_) => return Err(Failure::Read),
+        };
+        let end = read.iter().position(|byte| *byte == b'\n');
+        let len = end.map_or(read.len(), |end| end + 1);
+        line.try_reserve(len).map_err(|_| Failure::Memory)?;
+        line.extend_from_slice(&read[..len]);
+        input.consume(len);
+        if end.is_some() || len == 0 {
+            return Ok(());
+        }
     }
 }

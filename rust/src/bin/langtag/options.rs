@@ -4,30 +4,8 @@ use std::ffi::OsString;
 use langtag::likely::CLDR_VERSION;
 use langtag::registry::FILE_DATE;
 
-const HELP: &str = "\
-langtag COMMAND [--tsv] [TEXT..]
-Asks language tags (BCP 47): the arguments, or else the lines of standard input.
-
-  show [TAG..]          kind and parts: normal language=zh script= region=TW ..
-  check [TAG..]         validity and canonical form: invalid region=FQ canonical=..
-  canonical [TAG..]     the canonical form: iw becomes he
-  maximize [TAG..]      with likely subtags: zh-TW becomes zh-Hant-TW
-  minimize [TAG..]      without likely subtags: zh-Hant-TW becomes zh-TW
-  best HEADER [TAG..]   the best tag for an Accept-Language header
-  distance [A B]        how far B is from A: 0 is nearest, 255 is unknown
-  match RANGE [TAG..]   the tags that a language range matches
-
-  --tsv       the text, a tab, and the answer in columns; `match` answers yes or no
-  --basic     `match` filters by RFC 4647 section 3.3.1, not by section 3.3.2
-  --help, --version
-
-A text that is not a tag is `refused`, or `-`. Standard error says why if the texts
-are arguments. The status is
-  0  all is well                           3  out of memory
-  1  a text is refused or not valid,       4  a read failed
-     or nothing is found                   5  a write failed
-  2  an argument is wrong
-";
+/// The words of `--help`, which `python -m langtag` has, too.
+const HELP: &str = include_str!("help.txt");
 
 #[derive(Clone, Copy, Debug, PartialEq, Eq)]
 pub enum Command {
@@ -136,5 +114,5 @@ impl Options {
 
 fn version() -> String {
     let version = env!("CARGO_PKG_VERSION");
-    format!("langtag {version} (IANA's registry of {FILE_DATE}, CLDR {CLDR_VERSION})\n")
+    format!("langtag {version} (IANA's registry of {FILE_DATE}, CLDR {CLDR_VERSION})\nnot proved\n")
 }

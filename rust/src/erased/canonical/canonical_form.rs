@@ -5,10 +5,10 @@
 use crate::erased::canonical::canonical_parts::put_canonical_parts;
 use crate::erased::canonical::form::{form_of, Form};
 use crate::erased::fields::preferred_for;
-use crate::erased::output::write_text;
 #[cfg(feature = "alloc")]
 use crate::erased::tag::{tag_of, LangTagBuf};
 use crate::erased::tag::{LangTag, NormalLangTag};
+use crate::erased::text::write_text;
 #[cfg(feature = "alloc")]
 use crate::shim::{try_vec, AllocError};
 #[cfg(feature = "alloc")]

@@ -9,9 +9,9 @@ use crate::erased::fields::{
     is_registered_extlang, preferred_language, preferred_region, preferred_variant,
 };
 use crate::erased::language::{ExtendedLangTag, Language, PrimaryLanguage};
-use crate::erased::output::Output;
 use crate::erased::place::{Region, Script, Variants};
 use crate::erased::tag::{push_private_use, NormalLangTag};
+use crate::erased::text::Output;
 
 /// Writes a tag with its parts in their canonical forms into a buffer, as far as it fits, and
 /// returns the length of the form.

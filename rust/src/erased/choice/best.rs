@@ -5,10 +5,11 @@
 use crate::erased::choice::best_match::BestMatch;
 use crate::erased::choice::by_ranges::first_by_ranges;
 use crate::erased::choice::by_tags::first_by_tags;
+use crate::erased::choice::candidate::{index_of, Candidate};
 use crate::erased::choice::range_list::RangeList;
 use crate::erased::choice::refused::is_refused;
+use crate::erased::choice::tag_distance::range_distance;
 use crate::erased::choice::tag_list::{TagList, Tags};
-use crate::erased::distance::{index_of, range_distance, Candidate};
 #[cfg(feature = "alloc")]
 use crate::erased::header::AcceptLanguage;
 use crate::erased::header::LanguageRange;

@@ -3,10 +3,12 @@
 //! Making the choice range by range. Ranges of lower weight are skipped if a tag is near a range of
 //! higher weight.
 
+use crate::erased::choice::candidate::Candidate;
+use crate::erased::choice::improve::limit;
 use crate::erased::choice::known_at::improve_entry;
 use crate::erased::choice::range_list::RangeList;
 use crate::erased::choice::tag_list::TagList;
-use crate::erased::distance::{limit, Candidate, Wish};
+use crate::erased::choice::wish::Wish;
 use crate::erased::range::WantedRange;
 
 /// Returns the best of all candidates, even if it is refused or not a tag, and whether a range has

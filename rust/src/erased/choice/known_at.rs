@@ -2,8 +2,11 @@
 
 //! The entry of a list as the choice reads it, and the candidate after it was tried.
 
+use crate::erased::choice::candidate::Candidate;
+use crate::erased::choice::improve::improve_near;
+use crate::erased::choice::known_tag::KnownTag;
 use crate::erased::choice::tag_list::TagList;
-use crate::erased::distance::{improve_near, Candidate, KnownTag, Wish};
+use crate::erased::choice::wish::Wish;
 
 /// Returns the tag at an index of a list as the choice reads it.
 pub(crate) fn known_at<T: TagList>(tags: &T, index: usize) -> KnownTag<'_> {
@@ -17,7 +20,7 @@ pub(crate) fn known_at<T: TagList>(tags: &T, index: usize) -> KnownTag<'_> {
 /// It does not check that the entry is a tag.
 ///
 /// The entry is read twice, so that what is not needed of an entry that is far stays out of memory.
-#[inline]
+#[inline(always)]
 pub(crate) fn improve_entry<'a, 't, T: TagList>(
     found: &mut Option<Candidate<'a, 't>>,
     wish: &Wish<'a>,

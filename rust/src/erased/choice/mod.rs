@@ -20,29 +20,44 @@ mod best;
 mod best_match;
 mod by_ranges;
 mod by_tags;
+mod candidate;
+mod first_letters;
+mod improve;
 mod known_at;
+mod known_tag;
+mod likely_region;
+mod matching_tables;
+mod nearness;
+#[cfg(feature = "alloc")]
 mod owned_site;
+mod prepared_form;
 mod prepared_tag;
+mod range_language;
 mod range_list;
+mod read_range;
 mod refused;
-mod remaining;
+mod region_distance;
+mod rule_distance;
+mod shortlist;
 mod site;
 mod suitable;
 mod tag_distance;
 mod tag_list;
+mod variants;
+mod wish;
 
-pub use crate::erased::distance::{PreparedForm, FORMLESS_DISTANCE};
 #[cfg(feature = "alloc")]
 pub use best::best_for_accept_language;
 pub use best::{best_among, best_for_header, best_for_ranges, match_among, match_for_header};
 pub use best_match::BestMatch;
 #[cfg(feature = "alloc")]
 pub use owned_site::OwnedSite;
+pub use prepared_form::PreparedForm;
 pub use prepared_tag::PreparedTag;
 pub use range_list::RangeList;
 pub use site::Site;
 pub use suitable::write_suitable;
 #[cfg(feature = "alloc")]
 pub use suitable::{suitable_among, suitable_for_header, suitable_for_ranges};
-pub use tag_distance::distance;
+pub use tag_distance::{distance, FORMLESS_DISTANCE};
 pub use tag_list::TagList;

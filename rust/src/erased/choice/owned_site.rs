@@ -5,9 +5,7 @@
 use crate::erased::choice::prepared_tag::PreparedTag;
 use crate::erased::choice::site::Site;
 use crate::erased::tag::LangTag;
-#[cfg(feature = "alloc")]
 use crate::shim::{AllocError, TryItems};
-#[cfg(feature = "alloc")]
 use alloc::vec::Vec;
 
 /// A [`Site`] that owns its prepared tags.
@@ -23,12 +21,10 @@ use alloc::vec::Vec;
 /// # Ok(())
 /// # }
 /// ```
-#[cfg(feature = "alloc")]
 pub struct OwnedSite<'t> {
     tags: Vec<PreparedTag<'t>>,
 }
 
-#[cfg(feature = "alloc")]
 impl<'t> OwnedSite<'t> {
     /// Prepares tags.
     ///

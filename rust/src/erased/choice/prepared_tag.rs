@@ -2,7 +2,7 @@
 
 //! A tag with what the choice computes of it.
 
-use crate::erased::distance::PreparedForm;
+use crate::erased::choice::prepared_form::PreparedForm;
 use crate::erased::tag::LangTag;
 
 /// A tag with what the choice computes of it.
@@ -24,8 +24,8 @@ pub struct PreparedTag<'t> {
 }
 
 impl<'t> PreparedTag<'t> {
-    /// Returns the tag with what the choice computes of it. It is proved that a clone of a prepared
-    /// tag is the same value.
+    /// Returns the tag with what the choice computes of it. A clone of a prepared tag is the same
+    /// value.
     #[inline]
     #[must_use]
     pub fn new(tag: LangTag<'t>) -> PreparedTag<'t> {

@@ -4,10 +4,10 @@
 
 use crate::erased::choice::best::{best_among, match_among};
 use crate::erased::choice::best_match::BestMatch;
+use crate::erased::choice::prepared_form::PreparedForm;
 use crate::erased::choice::prepared_tag::PreparedTag;
 use crate::erased::choice::range_list::RangeList;
 use crate::erased::choice::tag_list::TagList;
-use crate::erased::distance::PreparedForm;
 #[cfg(feature = "alloc")]
 use crate::erased::header::AcceptLanguage;
 use crate::erased::header::LanguageRange;
@@ -35,7 +35,7 @@ pub struct Site<'s, 't> {
 }
 
 impl<'s, 't> Site<'s, 't> {
-    /// Returns the site with these tags. It is proved that a clone is the same value.
+    /// Returns the site with these tags. A clone is the same value.
     #[inline]
     #[must_use]
     pub fn new(tags: &'s [PreparedTag<'t>]) -> Site<'s, 't> {

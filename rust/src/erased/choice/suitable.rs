@@ -2,9 +2,9 @@
 
 //! All tags that suit a reader, best first.
 
-use crate::erased::choice::best::best_among;
+use crate::erased::choice::by_tags::best_by_tags;
 use crate::erased::choice::range_list::RangeList;
-use crate::erased::choice::remaining::Remaining;
+use crate::erased::choice::shortlist::{take_first, worst_of};
 use crate::erased::choice::tag_list::{TagList, Tags};
 use crate::erased::header::LanguageRange;
 use crate::erased::tag::LangTag;
@@ -18,8 +18,8 @@ use alloc::vec::Vec;
 /// the tag that it chooses among the others, and so on. For `de-CH,fr;q=0.7` and the tags `en`,
 /// `fr`, `de` and `de-AT`, they are 2, 3 and 1.
 ///
-/// The time is that of a choice for each index, as long as the list is short. To limit it, call
-/// [`write_suitable`] with a short array.
+/// The time is that of a choice for every 16 indices. To limit it, call [`write_suitable`] with a
+/// short array.
 ///
 /// # Errors
 ///
@@ -139,21 +139,45 @@ pub fn write_suitable<'a, R: RangeList<'a>, T: TagList>(
     choose_in_turn(ranges, tags, found)
 }
 
+/// The number of tags that one pass over all tags finds.
+const BLOCK: usize = 16;
+
 /// Writes the indices of the tags that are chosen in turn to an array, and returns their number.
 fn choose_in_turn<'a, R: RangeList<'a>, T: TagList>(
     ranges: R,
     tags: &T,
     found: &mut [usize],
 ) -> usize {
-    for count in 0..found.len() {
-        let left = Remaining {
-            tags,
-            chosen: &found[..count],
-        };
-        let Some(index) = best_among(ranges, &left) else {
+    let mut count = 0;
+    while count < found.len() {
+        let (next, is_last) = choose_next(ranges, tags, found, count);
+        count = next;
+        if is_last {
             return count;
-        };
-        found[count] = index;
+        }
     }
-    found.len()
+    count
+}
+
+/// Writes the indices of the next tags that are chosen in turn behind the first `start` indices, as
+/// many as one pass over the tags finds. Returns the number of all indices, and whether there are
+/// no more.
+fn choose_next<'a, R: RangeList<'a>, T: TagList>(
+    ranges: R,
+    tags: &T,
+    found: &mut [usize],
+    start: usize,
+) -> (usize, bool) {
+    let mut best = [None; BLOCK];
+    best_by_tags(ranges, tags, &found[..start], &mut best);
+    let worst = best[worst_of(&best)];
+    let mut end = start;
+    while end < found.len() {
+        let Some(next) = take_first(&mut best) else {
+            return (end, worst.is_none());
+        };
+        found[end] = next.index;
+        end += 1;
+    }
+    (end, true)
 }

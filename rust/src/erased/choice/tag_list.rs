@@ -2,7 +2,7 @@
 
 //! The lists of tags from which one can be chosen.
 
-use crate::erased::distance::PreparedForm;
+use crate::erased::choice::prepared_form::PreparedForm;
 use crate::erased::tag::LangTag;
 
 /// A list of tags with an index for each. An entry that is not a tag is allowed, but never chosen.

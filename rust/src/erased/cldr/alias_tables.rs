@@ -1,7 +1,7 @@
 // Made by rust/erase from crates/langtag_cldr/src/alias_tables.rt. Change that file, not this one.
 
 //! The deprecated languages and regions of Unicode's CLDR 48.2, in tables (the notice:
-//! likely/LICENSE-UNICODE). Written by likely/generate.py. Do not edit.
+//! LICENSE-UNICODE). Written by data/likely/generate.py. Do not edit.
 
 /// The keys of the languages that are replaced, in ascending order: each key is the number whose
 /// base-26 digits are the letters.

@@ -30,7 +30,7 @@ pub(crate) use likely::{add_likely_subtags, remove_likely_subtags};
 pub(crate) use names::script_codes;
 pub(crate) use tag_fields::TagFields;
 
-// For langtag_distance and langtag_choice.
+// For langtag_choice.
 pub(crate) use keys::index_of;
 pub(crate) use likely::suffices;
 pub(crate) use matching::{completed, matching_form, replaced_form};

@@ -7,7 +7,16 @@ use crate::erased::cldr::keys::place;
 use crate::erased::cldr::names::name_in;
 use crate::erased::cldr::tables;
 use crate::erased::cldr::tag_fields::TagFields;
-use crate::erased::tables::letter_number;
+use crate::erased::text::letter_number;
+
+/// The number of `aa`, which is the least of all languages.
+const FIRST_LANGUAGE: usize = 27;
+
+/// The number of regions that a key can tell.
+const REGIONS: u32 = 512;
+
+/// The number of scripts that a key can tell.
+const SCRIPTS: u32 = 256;
 
 /// Returns the right side of the row with this left side. The language of the right side is empty
 /// if the left side has a language.
@@ -31,7 +40,7 @@ fn language_row(language: &[u8]) -> Option<TagFields<'static>> {
 /// Returns the index of a language, given by its number, among the languages with a row. If the
 /// language's bit is set, the index is the number of set bits before it.
 fn language_index(number: usize) -> Option<usize> {
-    let place = number - 27;
+    let place = number - FIRST_LANGUAGE;
     let bits = tables::LANGUAGE_BITS[place / 64] >> (place % 64);
     if bits % 2 == 0 {
         return None;
@@ -50,8 +59,9 @@ fn other_row(key: TagFields<'_>) -> Option<TagFields<'static>> {
 /// Returns the number that stands for three fields, which is never 0.
 #[must_use]
 pub fn key_number(key: TagFields<'_>) -> u32 {
-    let places = place(script_keys(), key.script) * 512 + (place(region_keys(), key.region) + 1);
-    language_number(key.language) * 131072 + places
+    let script = place(script_keys(), key.script) * REGIONS;
+    let region = place(region_keys(), key.region) + 1;
+    language_number(key.language) * (SCRIPTS * REGIONS) + (script + region)
 }
 
 /// Returns the number whose digits in base 26 are the letters of a language, or 0 if there is no

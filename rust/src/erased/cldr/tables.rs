@@ -1,7 +1,7 @@
 // Made by rust/erase from crates/langtag_cldr/src/tables.rt. Change that file, not this one.
 
-//! Unicode's CLDR 48.2 in tables (the notice: likely/LICENSE-UNICODE). Written by
-//! likely/generate.py. Do not edit.
+//! Unicode's CLDR 48.2 in tables (the notice: LICENSE-UNICODE). Written by data/likely/generate.py.
+//! Do not edit.
 
 /// The version of Unicode's CLDR in this crate.
 pub const CLDR_VERSION: &str = "48.2";

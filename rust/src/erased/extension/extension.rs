@@ -50,10 +50,12 @@ impl<T: fmt::Debug + AsRef<[u8]>> core::error::Error for InvalidExtension<T> {}
 /// ```
 ///
 /// [RFC 5646 section 2.2.6]: https://www.rfc-editor.org/rfc/rfc5646#section-2.2.6
-#[derive(Clone, Copy, Debug, PartialEq, Eq, PartialOrd, Ord, Hash)]
+#[derive(Clone, Copy, PartialEq, Eq, PartialOrd, Ord, Hash)]
 pub struct Extension<'a> {
     text: Caseless<&'a str>,
 }
+
+shown!(Extension<'_>);
 
 impl<'a> Extension<'a> {
     /// Parses a string as an extension.
@@ -98,7 +100,7 @@ impl<'a> Extension<'a> {
     /// ```
     #[inline]
     #[must_use]
-    pub fn as_str(&self) -> &'a str {
+    pub fn as_str(self) -> &'a str {
         self.text.0
     }
 
@@ -114,12 +116,12 @@ impl<'a> Extension<'a> {
     /// ```
     #[inline]
     #[must_use]
-    pub fn as_bytes(&self) -> &'a [u8] {
+    pub fn as_bytes(self) -> &'a [u8] {
         self.as_str().as_bytes()
     }
 
-    /// Returns whether another string equals this string, ignoring the case of ASCII letters. It is
-    /// proved that comparisons and hashes also ignore case, and that a clone is the same value.
+    /// Returns whether another string equals this string, ignoring the case of ASCII letters.
+    /// Comparisons and hashes also ignore case, and a clone is the same value.
     ///
     /// ```
     /// # fn main() -> Result<(), Box<dyn std::error::Error>> {
@@ -131,7 +133,7 @@ impl<'a> Extension<'a> {
     /// ```
     #[inline]
     #[must_use]
-    pub fn eq_str(&self, other: &str) -> bool {
+    pub fn eq_str(self, other: &str) -> bool {
         self.text == Caseless(other)
     }
 
@@ -151,7 +153,7 @@ impl<'a> Extension<'a> {
     /// ```
     #[cfg(feature = "alloc")]
     #[inline]
-    pub fn try_to_owned(&self) -> Result<ExtensionBuf, AllocError> {
+    pub fn try_to_owned(self) -> Result<ExtensionBuf, AllocError> {
         let text = try_string(self.as_str())?;
         Ok(ExtensionBuf {
             text: Caseless(text),
@@ -170,13 +172,13 @@ impl<'a> Extension<'a> {
     /// ```
     #[inline]
     #[must_use]
-    pub fn singleton(&self) -> Singleton {
+    pub fn singleton(self) -> Singleton {
         Singleton::from_checked(self.as_bytes()[0])
     }
 
     /// Returns whether the extension begins with the singleton, ignoring case.
     #[inline]
-    pub(crate) fn has_singleton(&self, singleton: Singleton) -> bool {
+    pub(crate) fn has_singleton(self, singleton: Singleton) -> bool {
         into_smallcase(self.singleton().unwrap()) == into_smallcase(singleton.unwrap())
     }
 
@@ -195,7 +197,7 @@ impl<'a> Extension<'a> {
     /// ```
     #[inline]
     #[must_use]
-    pub fn iter(&self) -> ExtensionIter<'a> {
+    pub fn iter(self) -> ExtensionIter<'a> {
         ExtensionIter::new(self.as_str())
     }
 }
@@ -220,10 +222,13 @@ impl fmt::Display for Extension<'_> {
 /// # }
 /// ```
 #[cfg(feature = "alloc")]
-#[derive(Debug, PartialEq, Eq, PartialOrd, Ord, Hash)]
+#[derive(PartialEq, Eq, PartialOrd, Ord, Hash)]
 pub struct ExtensionBuf {
     text: Caseless<String>,
 }
+
+#[cfg(feature = "alloc")]
+shown!(ExtensionBuf);
 
 #[cfg(feature = "alloc")]
 impl ExtensionBuf {
@@ -253,8 +258,7 @@ impl ExtensionBuf {
         })
     }
 
-    /// Borrows the extension. It is proved that comparisons and hashes of owned extensions ignore
-    /// case.
+    /// Borrows the extension. Comparisons and hashes of owned extensions ignore case.
     ///
     /// ```
     /// # fn main() -> Result<(), Box<dyn std::error::Error>> {

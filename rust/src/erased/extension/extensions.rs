@@ -54,10 +54,12 @@ impl<T: fmt::Debug + AsRef<[u8]>> core::error::Error for InvalidExtensions<T> {}
 /// ```
 ///
 /// [RFC 5646 section 2.2.6]: https://www.rfc-editor.org/rfc/rfc5646#section-2.2.6
-#[derive(Clone, Copy, Debug, PartialEq, Eq, PartialOrd, Ord, Hash)]
+#[derive(Clone, Copy, PartialEq, Eq, PartialOrd, Ord, Hash)]
 pub struct Extensions<'a> {
     text: Caseless<&'a str>,
 }
+
+shown!(Extensions<'_>);
 
 impl<'a> Extensions<'a> {
     /// No extensions.
@@ -110,7 +112,7 @@ impl<'a> Extensions<'a> {
     /// ```
     #[inline]
     #[must_use]
-    pub fn as_str(&self) -> &'a str {
+    pub fn as_str(self) -> &'a str {
         self.text.0
     }
 
@@ -126,12 +128,12 @@ impl<'a> Extensions<'a> {
     /// ```
     #[inline]
     #[must_use]
-    pub fn as_bytes(&self) -> &'a [u8] {
+    pub fn as_bytes(self) -> &'a [u8] {
         self.as_str().as_bytes()
     }
 
-    /// Returns whether another string equals this string, ignoring the case of ASCII letters. It is
-    /// proved that comparisons and hashes also ignore case, and that a clone is the same value.
+    /// Returns whether another string equals this string, ignoring the case of ASCII letters.
+    /// Comparisons and hashes also ignore case, and a clone is the same value.
     ///
     /// ```
     /// # fn main() -> Result<(), Box<dyn std::error::Error>> {
@@ -143,7 +145,7 @@ impl<'a> Extensions<'a> {
     /// ```
     #[inline]
     #[must_use]
-    pub fn eq_str(&self, other: &str) -> bool {
+    pub fn eq_str(self, other: &str) -> bool {
         self.text == Caseless(other)
     }
 
@@ -163,7 +165,7 @@ impl<'a> Extensions<'a> {
     /// ```
     #[cfg(feature = "alloc")]
     #[inline]
-    pub fn try_to_owned(&self) -> Result<ExtensionsBuf, AllocError> {
+    pub fn try_to_owned(self) -> Result<ExtensionsBuf, AllocError> {
         let text = try_string(self.as_str())?;
         Ok(ExtensionsBuf {
             text: Caseless(text),
@@ -185,7 +187,7 @@ impl<'a> Extensions<'a> {
     /// ```
     #[inline]
     #[must_use]
-    pub fn iter(&self) -> ExtensionsIter<'a> {
+    pub fn iter(self) -> ExtensionsIter<'a> {
         ExtensionsIter::new(self.as_str())
     }
 
@@ -202,7 +204,7 @@ impl<'a> Extensions<'a> {
     /// # }
     /// ```
     #[inline]
-    pub(crate) fn get_singleton(&self, singleton: Singleton) -> Option<Extension<'a>> {
+    pub(crate) fn get_singleton(self, singleton: Singleton) -> Option<Extension<'a>> {
         self.iter()
             .find(|extension| extension.has_singleton(singleton))
     }
@@ -220,8 +222,7 @@ impl<'a> Extensions<'a> {
     /// # }
     /// ```
     #[inline]
-    #[must_use]
-    pub fn iter_extension(&self, singleton: Singleton) -> ExtensionIter<'a> {
+    pub(crate) fn iter_singleton(self, singleton: Singleton) -> ExtensionIter<'a> {
         let Some(extension) = self.get_singleton(singleton) else {
             return ExtensionIter::empty();
         };
@@ -256,10 +257,13 @@ impl fmt::Display for Extensions<'_> {
 /// # }
 /// ```
 #[cfg(feature = "alloc")]
-#[derive(Debug, PartialEq, Eq, PartialOrd, Ord, Hash)]
+#[derive(PartialEq, Eq, PartialOrd, Ord, Hash)]
 pub struct ExtensionsBuf {
     text: Caseless<String>,
 }
+
+#[cfg(feature = "alloc")]
+shown!(ExtensionsBuf);
 
 #[cfg(feature = "alloc")]
 impl ExtensionsBuf {
@@ -289,8 +293,7 @@ impl ExtensionsBuf {
         })
     }
 
-    /// Borrows the extensions. It is proved that comparisons and hashes of owned lists of
-    /// extensions ignore case.
+    /// Borrows the extensions. Comparisons and hashes of owned lists of extensions ignore case.
     ///
     /// ```
     /// # fn main() -> Result<(), Box<dyn std::error::Error>> {

@@ -41,14 +41,14 @@ impl<T: fmt::Debug> core::error::Error for InvalidSingleton<T> {}
 /// ```
 ///
 /// [RFC 5646 section 2.2.6]: https://www.rfc-editor.org/rfc/rfc5646#section-2.2.6
-#[derive(Clone, Copy, Debug, PartialEq, Eq, PartialOrd, Ord, Hash)]
+#[derive(Clone, Copy, PartialEq, Eq, PartialOrd, Ord, Hash)]
 pub struct Singleton {
     byte: u8,
 }
 
 impl Singleton {
-    /// Returns the singleton for a byte. It is proved that singletons compare and hash by their
-    /// exact bytes, and that a clone is the same value.
+    /// Returns the singleton for a byte. Singletons compare and hash by their exact bytes, and a
+    /// clone is the same value.
     ///
     /// # Errors
     ///

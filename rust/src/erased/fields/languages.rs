@@ -4,7 +4,7 @@
 
 use crate::erased::fields::tables::LANGUAGE_BITS;
 use crate::erased::language::PrimaryLanguage;
-use crate::erased::tables::letter_number;
+use crate::erased::text::letter_number;
 
 /// Returns whether a language is registered, ignoring case ([RFC 5646 section 2.2.1]): `true` for
 /// `fr`, `FR` and the private use subtag `qaa`, `false` for `qt`.

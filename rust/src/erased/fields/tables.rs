@@ -1,7 +1,7 @@
 // Made by rust/erase from crates/langtag_fields/src/tables.rt. Change that file, not this one.
 
-//! The registry in tables. Written by registry/generate.py from the registry of 2025-08-25. Do not
-//! edit.
+//! The registry in tables. Written by data/registry/generate.py from the registry of 2025-08-25. Do
+//! not edit.
 
 /// The File-Date of the registry in this crate (RFC 5646 section 3.1.1).
 pub const FILE_DATE: &str = "2025-08-25";

@@ -2,16 +2,13 @@
 
 //! The language ranges in an Accept-Language header (RFC 9110 section 12.5.4).
 
-#[cfg(feature = "alloc")]
 use crate::erased::header::accept_language_error::AcceptLanguageError;
 use crate::erased::header::element::element_at;
 use crate::erased::header::lookup::tag_for;
 use crate::erased::header::weighted_range::WeightedRange;
 use crate::erased::range::{is_empty_element, split_at_byte};
 use crate::erased::tag::LangTag;
-#[cfg(feature = "alloc")]
 use crate::shim::{AllocError, TryItems};
-#[cfg(feature = "alloc")]
 use alloc::vec::Vec;
 use core::cmp::Reverse;
 
@@ -28,13 +25,11 @@ use core::cmp::Reverse;
 /// # Ok(())
 /// # }
 /// ```
-#[cfg(feature = "alloc")]
 #[derive(Debug, Clone, PartialEq, Eq, Hash)]
 pub struct AcceptLanguage<'a> {
     ranges: Vec<WeightedRange<'a>>,
 }
 
-#[cfg(feature = "alloc")]
 impl<'a> AcceptLanguage<'a> {
     /// Parses a header by RFC 9110, and leaves out the ranges of weight 0, which are not
     /// acceptable. Ranges of equal weight keep their order. Empty elements are skipped.
@@ -87,9 +82,8 @@ impl<'a> AcceptLanguage<'a> {
         Ok(AcceptLanguage { ranges })
     }
 
-    /// Returns the ranges, the greatest weight first. It is proved that ranges are equal if their
-    /// weights are equal and their strings are equal, ignoring case. It is also proved that a clone
-    /// is the same value.
+    /// Returns the ranges, the greatest weight first. Ranges are equal if their weights are equal
+    /// and their strings are equal, ignoring case. A clone is the same value.
     ///
     /// ```
     /// # fn main() -> Result<(), Box<dyn std::error::Error>> {
@@ -160,7 +154,6 @@ impl<'a> AcceptLanguage<'a> {
 /// # Ok(())
 /// # }
 /// ```
-#[cfg(feature = "alloc")]
 #[inline]
 pub fn tag_for_header<'h, 't>(
     header: &'h str,
@@ -172,7 +165,6 @@ pub fn tag_for_header<'h, 't>(
 }
 
 /// Returns the elements of a header, in order.
-#[cfg(feature = "alloc")]
 #[inline]
 fn elements(header: &str) -> Result<Vec<WeightedRange<'_>>, AcceptLanguageError<'_>> {
     let mut elements = Vec::new();
@@ -201,7 +193,6 @@ fn elements(header: &str) -> Result<Vec<WeightedRange<'_>>, AcceptLanguageError<
 }
 
 /// Returns the elements of a header, in order, and skips malformed elements.
-#[cfg(feature = "alloc")]
 #[inline]
 fn good_elements(header: &str) -> Result<Vec<WeightedRange<'_>>, AllocError> {
     let mut elements = Vec::new();

@@ -67,9 +67,12 @@ impl fmt::Display for AcceptLanguageError<'_> {
     #[inline]
     fn fmt(&self, f: &mut fmt::Formatter<'_>) -> fmt::Result {
         match self {
-            AcceptLanguageError::BadElement { index, part, .. } => {
-                write!(f, "element {index} has a bad {part}")
-            }
+            AcceptLanguageError::BadElement {
+                header,
+                index,
+                offset,
+                part,
+            } => crate::message::write_element(f, header, *index, *offset, part),
             AcceptLanguageError::Memory(_) => f.write_str("out of memory"),
         }
     }

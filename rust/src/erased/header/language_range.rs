@@ -50,10 +50,12 @@ impl<T: fmt::Debug + AsRef<[u8]>> core::error::Error for InvalidLanguageRange<T>
 /// # Ok(())
 /// # }
 /// ```
-#[derive(Clone, Copy, Debug, PartialEq, Eq, PartialOrd, Ord, Hash)]
+#[derive(Clone, Copy, PartialEq, Eq, PartialOrd, Ord, Hash)]
 pub struct LanguageRange<'a> {
     text: Caseless<&'a str>,
 }
+
+shown!(LanguageRange<'_>);
 
 impl<'a> LanguageRange<'a> {
     /// Parses a string as a range.
@@ -97,12 +99,12 @@ impl<'a> LanguageRange<'a> {
     /// ```
     #[inline]
     #[must_use]
-    pub fn as_str(&self) -> &'a str {
+    pub fn as_str(self) -> &'a str {
         self.text.0
     }
 
-    /// Returns whether another string equals this string, ignoring the case of ASCII letters. It is
-    /// proved that comparisons and hashes also ignore case, and that a clone is the same value.
+    /// Returns whether another string equals this string, ignoring the case of ASCII letters.
+    /// Comparisons and hashes also ignore case, and a clone is the same value.
     ///
     /// ```
     /// # fn main() -> Result<(), Box<dyn std::error::Error>> {
@@ -114,7 +116,7 @@ impl<'a> LanguageRange<'a> {
     /// ```
     #[inline]
     #[must_use]
-    pub fn eq_str(&self, other: &str) -> bool {
+    pub fn eq_str(self, other: &str) -> bool {
         self.text == Caseless(other)
     }
 
@@ -134,7 +136,7 @@ impl<'a> LanguageRange<'a> {
     /// [RFC 4647 section 2.1]: https://www.rfc-editor.org/rfc/rfc4647#section-2.1
     #[inline]
     #[must_use]
-    pub fn is_basic(&self) -> bool {
+    pub fn is_basic(self) -> bool {
         is_basic_range(self.as_str())
     }
 
@@ -158,7 +160,7 @@ impl<'a> LanguageRange<'a> {
     ///
     /// [RFC 4647 section 3.3.1]: https://www.rfc-editor.org/rfc/rfc4647#section-3.3.1
     #[inline]
-    pub(crate) fn is_basic_match(&self, tag: &LangTag<'_>) -> bool {
+    pub(crate) fn is_basic_match(self, tag: &LangTag<'_>) -> bool {
         matches_basic(self.as_str(), tag.as_str())
     }
 
@@ -180,7 +182,7 @@ impl<'a> LanguageRange<'a> {
     ///
     /// [RFC 4647 section 3.3.2]: https://www.rfc-editor.org/rfc/rfc4647#section-3.3.2
     #[inline]
-    pub(crate) fn is_extended_match(&self, tag: &LangTag<'_>) -> bool {
+    pub(crate) fn is_extended_match(self, tag: &LangTag<'_>) -> bool {
         matches_extended(self.as_str(), tag.as_str())
     }
 
@@ -202,8 +204,8 @@ impl<'a> LanguageRange<'a> {
     /// [RFC 4647 section 3.4]: https://www.rfc-editor.org/rfc/rfc4647#section-3.4
     #[inline]
     #[must_use]
-    pub fn fallbacks(&self) -> Fallbacks<'a> {
-        Fallbacks::new(*self)
+    pub fn fallbacks(self) -> Fallbacks<'a> {
+        Fallbacks::new(self)
     }
 
     /// Copies the string into an owned value.
@@ -222,7 +224,7 @@ impl<'a> LanguageRange<'a> {
     /// ```
     #[cfg(feature = "alloc")]
     #[inline]
-    pub fn try_to_owned(&self) -> Result<LanguageRangeBuf, AllocError> {
+    pub fn try_to_owned(self) -> Result<LanguageRangeBuf, AllocError> {
         let text = try_string(self.as_str())?;
         Ok(LanguageRangeBuf {
             text: Caseless(text),
@@ -249,10 +251,13 @@ impl fmt::Display for LanguageRange<'_> {
 /// # }
 /// ```
 #[cfg(feature = "alloc")]
-#[derive(Debug, PartialEq, Eq, PartialOrd, Ord, Hash)]
+#[derive(PartialEq, Eq, PartialOrd, Ord, Hash)]
 pub struct LanguageRangeBuf {
     text: Caseless<String>,
 }
+
+#[cfg(feature = "alloc")]
+shown!(LanguageRangeBuf);
 
 #[cfg(feature = "alloc")]
 impl LanguageRangeBuf {
@@ -282,7 +287,7 @@ impl LanguageRangeBuf {
         })
     }
 
-    /// Borrows the range. It is proved that comparisons and hashes of owned ranges ignore case.
+    /// Borrows the range. Comparisons and hashes of owned ranges ignore case.
     ///
     /// ```
     /// # fn main() -> Result<(), Box<dyn std::error::Error>> {

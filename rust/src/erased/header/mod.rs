@@ -3,6 +3,7 @@
 //! Language ranges (RFC 4647), look-up, and Accept-Language headers (RFC 9110 section 12.5.4).
 //! `langtag_match` exports these items.
 
+#[cfg(feature = "alloc")]
 mod accept_language;
 mod accept_language_error;
 mod element;

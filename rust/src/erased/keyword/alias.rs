@@ -5,6 +5,10 @@
 use crate::erased::keyword::alias_tables as tables;
 use crate::erased::keyword::keys::Keys;
 use crate::erased::scan::case_insensitive_eq;
+use crate::erased::text::alias_for;
+
+/// A key, and its types that are replaced, each with its replacement.
+type KeyAliases = (&'static str, &'static [(&'static str, &'static str)]);
 
 /// Returns the canonical value of a key, except that its case may differ.
 #[inline]
@@ -49,7 +53,7 @@ fn subdivision(value: &str) -> &str {
 
 #[inline]
 fn unicode_type<'a>(key: &[u8], value: &'a str) -> &'a str {
-    match type_alias_for(unicode_type_aliases(), key, value.as_bytes()) {
+    match key_alias_for(unicode_type_aliases(), key, value.as_bytes()) {
         Some(other) => other,
         None => value,
     }
@@ -57,39 +61,20 @@ fn unicode_type<'a>(key: &[u8], value: &'a str) -> &'a str {
 
 #[inline]
 fn transform_value<'a>(key: &[u8], value: &'a str) -> &'a str {
-    match type_alias_for(transform_type_aliases(), key, value.as_bytes()) {
+    match key_alias_for(transform_type_aliases(), key, value.as_bytes()) {
         Some(other) => other,
         None => value,
     }
 }
 
-/// Returns the replacement of a string, if there is one.
-#[must_use]
-pub fn alias_for(
-    rows: &'static [(&'static str, &'static str)],
-    text: &[u8],
-) -> Option<&'static str> {
-    let mut rows = rows;
-    while let [(old, new), others @ ..] = rows {
-        if case_insensitive_eq(old.as_bytes(), text) {
-            return Some(new);
-        }
-        rows = others;
-    }
-    None
-}
-
 /// Returns the replacement of a type of a key, if there is one.
-#[must_use]
-pub fn type_alias_for(
-    rows: &'static [(&'static str, &'static str, &'static str)],
-    key: &[u8],
-    text: &[u8],
-) -> Option<&'static str> {
+fn key_alias_for(rows: &'static [KeyAliases], key: &[u8], text: &[u8]) -> Option<&'static str> {
     let mut rows = rows;
-    while let [(of, old, new), others @ ..] = rows {
-        if case_insensitive_eq(of.as_bytes(), key) && case_insensitive_eq(old.as_bytes(), text) {
-            return Some(new);
+    while let [(of, types), others @ ..] = rows {
+        if case_insensitive_eq(of.as_bytes(), key) {
+            if let Some(new) = alias_for(types, text) {
+                return Some(new);
+            }
         }
         rows = others;
     }
@@ -97,12 +82,12 @@ pub fn type_alias_for(
 }
 
 #[inline]
-fn unicode_type_aliases() -> &'static [(&'static str, &'static str, &'static str)] {
+fn unicode_type_aliases() -> &'static [KeyAliases] {
     &tables::UNICODE_TYPE_ALIASES
 }
 
 #[inline]
-fn transform_type_aliases() -> &'static [(&'static str, &'static str, &'static str)] {
+fn transform_type_aliases() -> &'static [KeyAliases] {
     &tables::TRANSFORM_TYPE_ALIASES
 }
 

@@ -1,34 +1,60 @@
 // Made by rust/erase from crates/langtag_keyword/src/alias_tables.rt. Change that file, not this one.
 
-//! The aliases of Unicode's CLDR 48.2, in tables (the notice: unicode/LICENSE-UNICODE). Written by
-//! unicode/generate.py. Do not edit.
+//! The aliases of Unicode's CLDR 48.2, in tables (the notice: LICENSE-UNICODE). Written by
+//! data/unicode/generate.py. Do not edit.
 
-/// The types of the extension `u` that are replaced: a key, the old type and the new type.
+/// The keys of the extension `u` some of whose types are replaced, each with the old types and the
+/// new types.
 #[rustfmt::skip]
-pub(crate) static UNICODE_TYPE_ALIASES: [(&str, &str, &str); 60] = [
-    ("ca", "ethiopic-amete-alem", "ethioaa"), ("ca", "islamicc", "islamic-civil"), ("kb", "yes", "true"),
-    ("kc", "yes", "true"), ("kh", "yes", "true"), ("kk", "yes", "true"), ("kn", "yes", "true"),
-    ("ks", "primary", "level1"), ("ks", "tertiary", "level3"), ("ms", "imperial", "uksystem"),
-    ("tz", "aqams", "aqmcm"), ("tz", "aukns", "auhba"), ("tz", "caffs", "cawnp"), ("tz", "camtr", "cator"),
-    ("tz", "canpg", "cator"), ("tz", "capnt", "caiql"), ("tz", "cathu", "cator"), ("tz", "cayzf", "caedm"),
-    ("tz", "cet", "bebru"), ("tz", "cnckg", "cnsha"), ("tz", "cnhrb", "cnsha"), ("tz", "cnkhg", "cnurc"),
-    ("tz", "cst6cdt", "uschi"), ("tz", "cuba", "cuhav"), ("tz", "eet", "grath"), ("tz", "egypt", "egcai"),
-    ("tz", "eire", "iedub"), ("tz", "est", "papty"), ("tz", "est5edt", "usnyc"), ("tz", "factory", "unk"),
-    ("tz", "gaza", "gazastrp"), ("tz", "gmt0", "gmt"), ("tz", "hongkong", "hkhkg"), ("tz", "hst", "ushnl"),
-    ("tz", "iceland", "isrey"), ("tz", "iran", "irthr"), ("tz", "israel", "jeruslm"), ("tz", "jamaica", "jmkin"),
-    ("tz", "japan", "jptyo"), ("tz", "libya", "lytip"), ("tz", "met", "bebru"), ("tz", "mncoq", "mnuln"),
-    ("tz", "mst", "usphx"), ("tz", "mst7mdt", "usden"), ("tz", "mxstis", "mxtij"), ("tz", "navajo", "usden"),
-    ("tz", "poland", "plwaw"), ("tz", "portugal", "ptlis"), ("tz", "prc", "cnsha"), ("tz", "pst8pdt", "uslax"),
-    ("tz", "roc", "twtpe"), ("tz", "rok", "krsel"), ("tz", "turkey", "trist"), ("tz", "uaozh", "uaiev"),
-    ("tz", "uauzh", "uaiev"), ("tz", "uct", "utc"), ("tz", "umjon", "ushnl"), ("tz", "usnavajo", "usden"),
-    ("tz", "wet", "ptlis"), ("tz", "zulu", "utc"),
+pub(crate) static UNICODE_TYPE_ALIASES: [(&str, &[(&str, &str)]); 9] = [
+    ("ca", &[
+        ("ethiopic-amete-alem", "ethioaa"), ("islamicc", "islamic-civil"),
+    ]),
+    ("kb", &[
+        ("yes", "true"),
+    ]),
+    ("kc", &[
+        ("yes", "true"),
+    ]),
+    ("kh", &[
+        ("yes", "true"),
+    ]),
+    ("kk", &[
+        ("yes", "true"),
+    ]),
+    ("kn", &[
+        ("yes", "true"),
+    ]),
+    ("ks", &[
+        ("primary", "level1"), ("tertiary", "level3"),
+    ]),
+    ("ms", &[
+        ("imperial", "uksystem"),
+    ]),
+    ("tz", &[
+        ("aqams", "aqmcm"), ("aukns", "auhba"), ("caffs", "cawnp"), ("camtr", "cator"), ("canpg", "cator"),
+        ("capnt", "caiql"), ("cathu", "cator"), ("cayzf", "caedm"), ("cet", "bebru"), ("cnckg", "cnsha"),
+        ("cnhrb", "cnsha"), ("cnkhg", "cnurc"), ("cst6cdt", "uschi"), ("cuba", "cuhav"), ("eet", "grath"),
+        ("egypt", "egcai"), ("eire", "iedub"), ("est", "papty"), ("est5edt", "usnyc"), ("factory", "unk"),
+        ("gaza", "gazastrp"), ("gmt0", "gmt"), ("hongkong", "hkhkg"), ("hst", "ushnl"), ("iceland", "isrey"),
+        ("iran", "irthr"), ("israel", "jeruslm"), ("jamaica", "jmkin"), ("japan", "jptyo"), ("libya", "lytip"),
+        ("met", "bebru"), ("mncoq", "mnuln"), ("mst", "usphx"), ("mst7mdt", "usden"), ("mxstis", "mxtij"),
+        ("navajo", "usden"), ("poland", "plwaw"), ("portugal", "ptlis"), ("prc", "cnsha"), ("pst8pdt", "uslax"),
+        ("roc", "twtpe"), ("rok", "krsel"), ("turkey", "trist"), ("uaozh", "uaiev"), ("uauzh", "uaiev"),
+        ("uct", "utc"), ("umjon", "ushnl"), ("usnavajo", "usden"), ("wet", "ptlis"), ("zulu", "utc"),
+    ]),
 ];
 
-/// The types of the extension `t` that are replaced: a key, the old type and the new type.
+/// The keys of the extension `t` some of whose types are replaced, each with the old types and the
+/// new types.
 #[rustfmt::skip]
-pub(crate) static TRANSFORM_TYPE_ALIASES: [(&str, &str, &str); 5] = [
-    ("d0", "name", "charname"), ("m0", "beta-metsehaf", "betamets"), ("m0", "ies-jes", "iesjes"),
-    ("m0", "names", "prprname"), ("m0", "tekie-alibekit", "tekieali"),
+pub(crate) static TRANSFORM_TYPE_ALIASES: [(&str, &[(&str, &str)]); 2] = [
+    ("d0", &[
+        ("name", "charname"),
+    ]),
+    ("m0", &[
+        ("beta-metsehaf", "betamets"), ("ies-jes", "iesjes"), ("names", "prprname"), ("tekie-alibekit", "tekieali"),
+    ]),
 ];
 
 /// The subdivisions that are replaced: the old code and the new code.

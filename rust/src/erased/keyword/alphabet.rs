@@ -4,8 +4,8 @@
 
 use crate::erased::keyword::least_numbers::{order_number, push_numbers, LeastNumbers, FEW, MANY};
 use crate::erased::keyword::subtags::split_first;
-use crate::erased::output::Output;
 use crate::erased::scan::{into_smallcase, Subtags};
+use crate::erased::text::Output;
 
 /// Appends subtags in lowercase and in alphabetical order, each once.
 #[inline]
@@ -77,7 +77,7 @@ pub(crate) fn push_each_lowercase(out: &mut Output<'_>, text: &str) {
 
 /// Appends a subtag in lowercase, after a hyphen if there is text before it.
 #[inline]
-pub fn push_lowercase(out: &mut Output<'_>, subtag: &str) {
+pub(crate) fn push_lowercase(out: &mut Output<'_>, subtag: &str) {
     out.push_subtag(b"");
     for byte in subtag.as_bytes() {
         out.push(&[into_smallcase(*byte)]);

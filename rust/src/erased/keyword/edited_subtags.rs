@@ -5,8 +5,8 @@
 use crate::erased::keyword::alphabet::is_before;
 use crate::erased::keyword::keys::Keys;
 use crate::erased::keyword::subtags::{nonempty, split_first};
-use crate::erased::output::Output;
 use crate::erased::scan::{case_insensitive_eq, Subtags};
+use crate::erased::text::Output;
 
 /// Returns whether a string has a subtag that belongs to no keyword of a key.
 #[inline]

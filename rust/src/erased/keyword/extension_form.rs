@@ -8,8 +8,8 @@ use crate::erased::keyword::keys::Keys;
 use crate::erased::keyword::keyword_form::push_keywords;
 use crate::erased::keyword::subtags::preceding;
 use crate::erased::keyword::transform_form::{is_transform, push_transform};
-use crate::erased::output::Output;
 use crate::erased::scan::into_smallcase;
+use crate::erased::text::Output;
 
 /// Appends extensions, with the first `u` and the first `t` in canonical form.
 pub fn push_extensions(out: &mut Output<'_>, extensions: Extensions<'_>) {

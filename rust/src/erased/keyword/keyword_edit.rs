@@ -6,8 +6,8 @@ use crate::erased::extension::{Extension, Extensions, ExtensionsIter, Singleton}
 use crate::erased::keyword::edited_subtags::{has_others, push_with_keyword, push_without_keyword};
 use crate::erased::keyword::extension_form::subtags_of;
 use crate::erased::keyword::subtags::nonempty;
-use crate::erased::output::Output;
 use crate::erased::scan::into_smallcase;
+use crate::erased::text::Output;
 
 /// A key and its new value, or `None` to remove the key.
 #[derive(Clone, Copy)]

@@ -10,8 +10,8 @@ use core::fmt;
 ///
 /// ```
 /// # fn main() -> Result<(), Box<dyn std::error::Error>> {
-/// use langtag::LangTag;
-/// use langtag::unicode::{KeywordError, SetKeywordError, set_keyword};
+/// use langtag::erased::tag::LangTag;
+/// use langtag::erased::unicode::{KeywordError, SetKeywordError, set_keyword};
 ///
 /// let mut tag = LangTag::new("de")?.to_owned();
 /// assert_eq!(

@@ -10,8 +10,8 @@ use crate::erased::keyword::key_values::values_after;
 use crate::erased::keyword::keys::Keys;
 use crate::erased::keyword::least_numbers::{order_number, LeastNumbers, FEW, MANY};
 use crate::erased::keyword::subtags::value_in;
-use crate::erased::output::Output;
 use crate::erased::scan::Subtags;
+use crate::erased::text::Output;
 
 /// Appends the keywords of a string, each once, in the order of their keys.
 ///

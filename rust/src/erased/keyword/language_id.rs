@@ -4,8 +4,8 @@
 
 use crate::erased::keyword::alphabet::{push_in_alphabet, push_lowercase};
 use crate::erased::keyword::subtags::split_first;
-use crate::erased::output::Output;
 use crate::erased::scan::{case_insensitive_eq, is_primary, is_region, is_script, is_variant};
+use crate::erased::text::Output;
 
 /// Returns whether a string is a language with an optional script, an optional region, and any
 /// number of different variants.

@@ -2,8 +2,8 @@
 
 //! The least of many numbers, in little memory.
 
-use crate::erased::output::Output;
 use crate::erased::scan::folded_number;
+use crate::erased::text::Output;
 
 /// Room for the numbers of a few subtags.
 pub const FEW: usize = 32;

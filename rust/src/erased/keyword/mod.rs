@@ -24,9 +24,8 @@ mod transform_form;
 pub use keys::Keys;
 pub use keyword_error::KeywordError;
 
-// For langtag_unicode, langtag_locale and langtag_span.
-pub(crate) use alias::{alias_for, type_alias_for};
-pub(crate) use alphabet::{are_few, push_lowercase};
+// For langtag_unicode, langtag_locale and langtag_c.
+pub(crate) use alphabet::are_few;
 pub(crate) use extension_form::{is_of, push_extensions, push_unicode, subtags_of};
 pub(crate) use key_set::KeySet;
 pub(crate) use keyword_check::{invalid_type, is_unicode_key};

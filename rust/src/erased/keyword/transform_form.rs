@@ -6,8 +6,8 @@ use crate::erased::keyword::keys::Keys;
 use crate::erased::keyword::keyword_form::push_keywords;
 use crate::erased::keyword::language_id::{is_language_id, push_language_id};
 use crate::erased::keyword::subtags::preceding;
-use crate::erased::output::Output;
 use crate::erased::scan::Subtags;
+use crate::erased::text::Output;
 
 /// Returns whether the subtags after the singleton are what UTS #35 allows: a language, fields, or
 /// both.

@@ -53,10 +53,12 @@ impl<T: fmt::Debug + AsRef<[u8]>> core::error::Error for InvalidLanguage<T> {}
 /// ```
 ///
 /// [RFC 5646 section 2.2.1]: https://www.rfc-editor.org/rfc/rfc5646#section-2.2.1
-#[derive(Clone, Copy, Debug, PartialEq, Eq, PartialOrd, Ord, Hash)]
+#[derive(Clone, Copy, PartialEq, Eq, PartialOrd, Ord, Hash)]
 pub struct Language<'a> {
     text: Caseless<&'a str>,
 }
+
+shown!(Language<'_>);
 
 impl<'a> Language<'a> {
     /// Parses a string as a language.
@@ -100,7 +102,7 @@ impl<'a> Language<'a> {
     /// ```
     #[inline]
     #[must_use]
-    pub fn as_str(&self) -> &'a str {
+    pub fn as_str(self) -> &'a str {
         self.text.0
     }
 
@@ -116,12 +118,12 @@ impl<'a> Language<'a> {
     /// ```
     #[inline]
     #[must_use]
-    pub fn as_bytes(&self) -> &'a [u8] {
+    pub fn as_bytes(self) -> &'a [u8] {
         self.as_str().as_bytes()
     }
 
-    /// Returns whether another string equals this string, ignoring the case of ASCII letters. It is
-    /// proved that comparisons and hashes also ignore case, and that a clone is the same value.
+    /// Returns whether another string equals this string, ignoring the case of ASCII letters.
+    /// Comparisons and hashes also ignore case, and a clone is the same value.
     ///
     /// ```
     /// # fn main() -> Result<(), Box<dyn std::error::Error>> {
@@ -133,7 +135,7 @@ impl<'a> Language<'a> {
     /// ```
     #[inline]
     #[must_use]
-    pub fn eq_str(&self, other: &str) -> bool {
+    pub fn eq_str(self, other: &str) -> bool {
         self.text == Caseless(other)
     }
 
@@ -153,7 +155,7 @@ impl<'a> Language<'a> {
     /// ```
     #[cfg(feature = "alloc")]
     #[inline]
-    pub fn try_to_owned(&self) -> Result<LanguageBuf, AllocError> {
+    pub fn try_to_owned(self) -> Result<LanguageBuf, AllocError> {
         let text = try_string(self.as_str())?;
         Ok(LanguageBuf {
             text: Caseless(text),
@@ -172,7 +174,7 @@ impl<'a> Language<'a> {
     /// ```
     #[inline]
     #[must_use]
-    pub fn primary(&self) -> PrimaryLanguage<'a> {
+    pub fn primary(self) -> PrimaryLanguage<'a> {
         self.split().0
     }
 
@@ -190,7 +192,7 @@ impl<'a> Language<'a> {
     /// ```
     #[inline]
     #[must_use]
-    pub fn extension(&self) -> Option<LanguageExtension<'a>> {
+    pub fn extension(self) -> Option<LanguageExtension<'a>> {
         self.split().1
     }
 
@@ -208,7 +210,7 @@ impl<'a> Language<'a> {
     /// ```
     #[inline]
     #[must_use]
-    pub fn extension_subtags(&self) -> LanguageExtensionIter<'a> {
+    pub fn extension_subtags(self) -> LanguageExtensionIter<'a> {
         let (_, extension) = self.split();
         match extension {
             Some(extension) => extension.iter(),
@@ -218,7 +220,7 @@ impl<'a> Language<'a> {
 
     /// Returns the primary subtag, and the extension if there is one.
     #[inline]
-    fn split(&self) -> (PrimaryLanguage<'a>, Option<LanguageExtension<'a>>) {
+    fn split(self) -> (PrimaryLanguage<'a>, Option<LanguageExtension<'a>>) {
         let text = self.as_str();
         let end = segment_end(text.as_bytes(), 0);
         if end == text.len() {
@@ -262,10 +264,13 @@ impl fmt::Display for Language<'_> {
 /// # }
 /// ```
 #[cfg(feature = "alloc")]
-#[derive(Debug, PartialEq, Eq, PartialOrd, Ord, Hash)]
+#[derive(PartialEq, Eq, PartialOrd, Ord, Hash)]
 pub struct LanguageBuf {
     text: Caseless<String>,
 }
+
+#[cfg(feature = "alloc")]
+shown!(LanguageBuf);
 
 #[cfg(feature = "alloc")]
 impl LanguageBuf {
@@ -295,8 +300,7 @@ impl LanguageBuf {
         })
     }
 
-    /// Borrows the language. It is proved that comparisons and hashes of owned languages ignore
-    /// case.
+    /// Borrows the language. Comparisons and hashes of owned languages ignore case.
     ///
     /// ```
     /// # fn main() -> Result<(), Box<dyn std::error::Error>> {

@@ -50,10 +50,12 @@ impl<T: fmt::Debug + AsRef<[u8]>> core::error::Error for InvalidLanguageExtensio
 /// ```
 ///
 /// [RFC 5646 section 2.2.2]: https://www.rfc-editor.org/rfc/rfc5646#section-2.2.2
-#[derive(Clone, Copy, Debug, PartialEq, Eq, PartialOrd, Ord, Hash)]
+#[derive(Clone, Copy, PartialEq, Eq, PartialOrd, Ord, Hash)]
 pub struct LanguageExtension<'a> {
     text: Caseless<&'a str>,
 }
+
+shown!(LanguageExtension<'_>);
 
 impl<'a> LanguageExtension<'a> {
     /// Parses a string as a language extension.
@@ -97,7 +99,7 @@ impl<'a> LanguageExtension<'a> {
     /// ```
     #[inline]
     #[must_use]
-    pub fn as_str(&self) -> &'a str {
+    pub fn as_str(self) -> &'a str {
         self.text.0
     }
 
@@ -113,12 +115,12 @@ impl<'a> LanguageExtension<'a> {
     /// ```
     #[inline]
     #[must_use]
-    pub fn as_bytes(&self) -> &'a [u8] {
+    pub fn as_bytes(self) -> &'a [u8] {
         self.as_str().as_bytes()
     }
 
-    /// Returns whether another string equals this string, ignoring the case of ASCII letters. It is
-    /// proved that comparisons and hashes also ignore case, and that a clone is the same value.
+    /// Returns whether another string equals this string, ignoring the case of ASCII letters.
+    /// Comparisons and hashes also ignore case, and a clone is the same value.
     ///
     /// ```
     /// # fn main() -> Result<(), Box<dyn std::error::Error>> {
@@ -130,7 +132,7 @@ impl<'a> LanguageExtension<'a> {
     /// ```
     #[inline]
     #[must_use]
-    pub fn eq_str(&self, other: &str) -> bool {
+    pub fn eq_str(self, other: &str) -> bool {
         self.text == Caseless(other)
     }
 
@@ -150,7 +152,7 @@ impl<'a> LanguageExtension<'a> {
     /// ```
     #[cfg(feature = "alloc")]
     #[inline]
-    pub fn try_to_owned(&self) -> Result<LanguageExtensionBuf, AllocError> {
+    pub fn try_to_owned(self) -> Result<LanguageExtensionBuf, AllocError> {
         let text = try_string(self.as_str())?;
         Ok(LanguageExtensionBuf {
             text: Caseless(text),
@@ -171,7 +173,7 @@ impl<'a> LanguageExtension<'a> {
     /// ```
     #[inline]
     #[must_use]
-    pub fn iter(&self) -> LanguageExtensionIter<'a> {
+    pub fn iter(self) -> LanguageExtensionIter<'a> {
         LanguageExtensionIter::new(self.as_str())
     }
 }
@@ -202,10 +204,13 @@ impl fmt::Display for LanguageExtension<'_> {
 /// # }
 /// ```
 #[cfg(feature = "alloc")]
-#[derive(Debug, PartialEq, Eq, PartialOrd, Ord, Hash)]
+#[derive(PartialEq, Eq, PartialOrd, Ord, Hash)]
 pub struct LanguageExtensionBuf {
     text: Caseless<String>,
 }
+
+#[cfg(feature = "alloc")]
+shown!(LanguageExtensionBuf);
 
 #[cfg(feature = "alloc")]
 impl LanguageExtensionBuf {
@@ -236,8 +241,8 @@ impl LanguageExtensionBuf {
         })
     }
 
-    /// Borrows the language extension. It is proved that comparisons and hashes of owned language
-    /// extensions ignore case.
+    /// Borrows the language extension. Comparisons and hashes of owned language extensions ignore
+    /// case.
     ///
     /// ```
     /// # fn main() -> Result<(), Box<dyn std::error::Error>> {

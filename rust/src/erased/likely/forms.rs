@@ -5,10 +5,10 @@
 use crate::erased::cldr::{add_likely_subtags, remove_likely_subtags};
 use crate::erased::likely::fields::fields_of;
 use crate::erased::likely::put::write_changed;
-use crate::erased::output::write_text;
 use crate::erased::tag::LangTag;
 #[cfg(feature = "alloc")]
 use crate::erased::tag::{tag_of, LangTagBuf};
+use crate::erased::text::write_text;
 #[cfg(feature = "alloc")]
 use crate::shim::{try_vec, AllocError};
 #[cfg(feature = "alloc")]

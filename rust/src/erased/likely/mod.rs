@@ -21,7 +21,7 @@ mod forms;
 mod put;
 
 pub use crate::erased::cldr::{suggested_language, suggested_region, CLDR_VERSION};
-pub use crate::erased::parent::{parent, Parents};
+pub use crate::erased::parent::{nth_parent, parent, ParentTag, Parents};
 #[cfg(feature = "alloc")]
 pub use crate::erased::posix::{from_posix, to_posix, PosixError};
 pub use crate::erased::posix::{unknown_modifier, write_from_posix, write_to_posix};

@@ -4,8 +4,8 @@
 
 use crate::erased::cldr::{or_other, TagFields};
 use crate::erased::language::Language;
-use crate::erased::output::{write_pieces, write_text};
 use crate::erased::tag::NormalLangTag;
+use crate::erased::text::{write_pieces, write_text};
 
 /// Writes a tag with the given fields to a buffer, or the unchanged tag if `None` is given.
 #[inline]

@@ -2,15 +2,14 @@
 
 //! The canonical form of a Unicode locale identifier (UTS #35, part 1, Annex C).
 
-use crate::erased::case::make_recommended_case;
 use crate::erased::cldr::TagFields;
 use crate::erased::keyword::nonempty;
 use crate::erased::locale::locale_extensions::{push_identifier, push_locale_extensions};
 use crate::erased::locale::locale_for::locale_for;
-use crate::erased::output::Output;
 use crate::erased::tag::{push_private_use, LangTag, Language, NormalLangTag, Region, Script};
 #[cfg(feature = "alloc")]
 use crate::erased::tag::{tag_of, LangTagBuf};
+use crate::erased::text::{make_recommended_case, Output};
 #[cfg(feature = "alloc")]
 use crate::shim::{try_vec, AllocError};
 #[cfg(feature = "alloc")]

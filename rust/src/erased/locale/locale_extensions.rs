@@ -10,8 +10,8 @@ use crate::erased::keyword::{
 };
 use crate::erased::locale::locale_fields::identifier_form;
 use crate::erased::locale::locale_variants::push_variants;
-use crate::erased::output::Output;
 use crate::erased::tag::{into_smallcase, Extension, Extensions, Singleton};
+use crate::erased::text::Output;
 
 /// Appends the extensions in their forms, in the order of their singletons.
 pub(crate) fn push_locale_extensions(out: &mut Output<'_>, extensions: Extensions<'_>) {

@@ -4,10 +4,11 @@
 //! C).
 
 use crate::erased::cldr::{add_likely, region_replacement, TagFields};
-use crate::erased::keyword::{alias_for, is_among, split_first};
+use crate::erased::keyword::{is_among, split_first};
 use crate::erased::locale::locale_tables as tables;
 use crate::erased::locale::locale_variants::variant_languages;
 use crate::erased::tag::case_insensitive_eq;
+use crate::erased::text::alias_for;
 
 /// Returns the form of the fields of a language identifier with these variants. The first step,
 /// which replaces the language, is done already.

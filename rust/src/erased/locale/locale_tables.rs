@@ -1,7 +1,7 @@
 // Made by rust/erase from crates/langtag_locale/src/locale_tables.rt. Change that file, not this one.
 
 //! The aliases of language identifiers of Unicode's CLDR 48.2, in tables (the notice:
-//! unicode/LICENSE-UNICODE). Written by unicode/generate.py. Do not edit.
+//! LICENSE-UNICODE). Written by data/unicode/generate.py. Do not edit.
 
 /// The languages that change with a variant: the language, the variant and the new language.
 #[rustfmt::skip]

@@ -3,12 +3,11 @@
 //! The variants in the form of a Unicode locale identifier (UTS #35, part 1, Annex C).
 
 use crate::erased::keyword::{
-    alias_for, are_few, is_among, order_number, push_numbers, split_first, type_alias_for,
-    LeastNumbers, FEW, MANY,
+    are_few, is_among, order_number, push_numbers, split_first, LeastNumbers, FEW, MANY,
 };
 use crate::erased::locale::locale_tables as tables;
-use crate::erased::output::Output;
 use crate::erased::tag::case_insensitive_eq;
+use crate::erased::text::{alias_for, type_alias_for, Output};
 
 /// Appends the variants of a language identifier in their forms, each once, in lowercase and in
 /// alphabetical order.

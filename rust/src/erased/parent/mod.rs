@@ -6,21 +6,24 @@
 //!
 //! ```
 //! # fn main() -> Result<(), Box<dyn std::error::Error>> {
-//! use langtag::LangTag;
-//! use langtag::likely::parent;
+//! use langtag::erased::tag::LangTag;
+//! use langtag::erased::parent::{Parents, parent};
 //!
-//! assert_eq!(parent(LangTag::new("es-MX")?).map(|tag| tag.as_str()), Some("es-419"));
-//! assert_eq!(parent(LangTag::new("zh-Hant")?), None);
+//! assert_eq!(Parents::new(LangTag::new("es-MX")?).count(), 3); // `es-MX`, `es-419` and `es`
+//! assert!(parent(LangTag::new("zh-Hant")?).is_none());
 //! # Ok(())
 //! # }
 //! ```
 
-mod likely_script;
-mod locales;
+mod base;
+mod parent_base;
+mod parent_tag;
 mod parents;
-mod scripted;
+mod scripts;
+mod stated;
 mod tables;
 mod tag_parent;
 
+pub use parent_tag::ParentTag;
 pub use parents::Parents;
-pub use tag_parent::parent;
+pub use tag_parent::{nth_parent, parent};

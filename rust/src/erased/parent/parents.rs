@@ -2,45 +2,144 @@
 
 //! A tag and its parents.
 
-use crate::erased::parent::tag_parent::parent;
-use crate::erased::tag::LangTag;
+use crate::erased::parent::base::Base;
+use crate::erased::parent::parent_base::parent_of;
+use crate::erased::parent::parent_tag::ParentTag;
+use crate::erased::parent::scripts::{has_likely_script, short};
+use crate::erased::scan::segment_start;
+use crate::erased::tag::{LangTag, NormalLangTag};
 
-/// An iterator over a tag, its parent, the parent of its parent, and so on.
+/// An iterator over a tag and its parents, the nearest first.
 ///
 /// ```
 /// # fn main() -> Result<(), Box<dyn std::error::Error>> {
-/// use langtag::LangTag;
-/// use langtag::likely::Parents;
+/// use langtag::erased::tag::LangTag;
+/// use langtag::erased::parent::Parents;
 ///
-/// let mut chain = Parents::new(LangTag::new("pt-AO")?);
-/// assert_eq!(chain.next().map(|tag| tag.as_str()), Some("pt-AO"));
-/// assert_eq!(chain.next().map(|tag| tag.as_str()), Some("pt-PT"));
-/// assert_eq!(chain.next().map(|tag| tag.as_str()), Some("pt"));
-/// assert_eq!(chain.next(), None);
+/// assert_eq!(Parents::new(LangTag::new("pt-AO")?).count(), 3); // `pt-AO`, `pt-PT` and `pt`
 /// # Ok(())
 /// # }
 /// ```
 #[derive(Clone, Debug)]
 pub struct Parents<'a> {
-    next: Option<LangTag<'a>>,
+    // A tag that comes before those of `base`.
+    pending: Option<ParentTag<'a>>,
+    base: Option<Base<'a>>,
+    // What stands after the region of the next tag, with the hyphen before it.
+    rest: &'a [u8],
+    // The variants of the first tag, with the hyphen before them.
+    variants: &'a [u8],
 }
 
 impl<'a> Parents<'a> {
     /// Returns an iterator that starts at the tag itself.
-    #[inline]
     #[must_use]
     pub fn new(tag: LangTag<'a>) -> Self {
-        Parents { next: Some(tag) }
+        match tag.as_normal() {
+            Some(tag) => Parents::of_normal(tag),
+            None => Parents {
+                pending: Some(ParentTag::whole(tag.as_str().as_bytes())),
+                base: None,
+                rest: b"",
+                variants: b"",
+            },
+        }
+    }
+
+    /// Returns an iterator that starts at a normal tag.
+    fn of_normal(tag: NormalLangTag<'a>) -> Self {
+        let base = Base::of(tag);
+        let rest = after_region(tag);
+        Parents {
+            pending: given_form(base, rest),
+            base: Some(short(base)),
+            rest,
+            variants: after_region(tag.base()),
+        }
     }
 }
 
 impl<'a> Iterator for Parents<'a> {
-    type Item = LangTag<'a>;
+    type Item = ParentTag<'a>;
 
-    #[inline]
-    fn next(&mut self) -> Option<LangTag<'a>> {
-        let tag = self.next?;
-        self.next = parent(tag);
-        Some(tag)
+    fn next(&mut self) -> Option<ParentTag<'a>> {
+        if let Some(pending) = self.pending {
+            self.pending = None;
+            return Some(pending);
+        }
+        let base = self.base?;
+        let rest = self.rest;
+        self.pending = short_form(base, rest);
+        (self.base, self.rest) = following(base, rest, self.variants);
+        Some(ParentTag::new(base, rest))
     }
+}
+
+/// Returns the tag of a base with its script, if this script is likely anyway.
+#[inline]
+fn given_form<'a>(base: Base<'a>, rest: &'a [u8]) -> Option<ParentTag<'a>> {
+    if has_likely_script(base) {
+        Some(ParentTag::new(base, rest))
+    } else {
+        None
+    }
+}
+
+/// Returns the tag of a base without its script, if this script is likely anyway.
+#[inline]
+fn short_form<'a>(base: Base<'a>, rest: &'a [u8]) -> Option<ParentTag<'a>> {
+    if has_likely_script(base) {
+        Some(ParentTag::new(short(base), rest))
+    } else {
+        None
+    }
+}
+
+/// Returns the base of the next tag, and what stands after its region: the same base with less
+/// after it, or the parent of the base with all variants.
+#[inline]
+fn following<'a>(
+    base: Base<'a>,
+    rest: &'a [u8],
+    variants: &'a [u8],
+) -> (Option<Base<'a>>, &'a [u8]) {
+    match shortened(rest, variants) {
+        Some(shorter) => (Some(base), shorter),
+        None => (parent_of(short(base)), variants),
+    }
+}
+
+/// Returns what stands after the region of the next tag of the same language, script and region:
+/// without extensions and private use, and then without the last variant. Returns `None` if nothing
+/// stands there.
+#[inline]
+fn shortened<'a>(rest: &'a [u8], variants: &'a [u8]) -> Option<&'a [u8]> {
+    if variants.len() < rest.len() {
+        return Some(variants);
+    }
+    without_last(rest)
+}
+
+/// Returns a string without its last subtag and the hyphen before it.
+#[inline]
+fn without_last(text: &[u8]) -> Option<&[u8]> {
+    let (shorter, _) = split_last(text);
+    shorter
+}
+
+/// Returns the string before the last hyphen and the string after it. If there is no hyphen,
+/// returns `None` and the whole string.
+fn split_last(text: &[u8]) -> (Option<&[u8]>, &[u8]) {
+    let start = segment_start(text, text.len());
+    if start == 0 {
+        return (None, text);
+    }
+    (Some(&text[..start - 1]), &text[start..])
+}
+
+/// Returns what stands after the region of a tag, with the hyphen before it.
+#[inline]
+fn after_region<'a>(tag: NormalLangTag<'a>) -> &'a [u8] {
+    let text = tag.as_str();
+    &text.as_bytes()[tag.ends().region..]
 }

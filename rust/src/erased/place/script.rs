@@ -47,10 +47,12 @@ impl<T: fmt::Debug + AsRef<[u8]>> core::error::Error for InvalidScript<T> {}
 /// ```
 ///
 /// [RFC 5646 section 2.2.3]: https://www.rfc-editor.org/rfc/rfc5646#section-2.2.3
-#[derive(Clone, Copy, Debug, PartialEq, Eq, PartialOrd, Ord, Hash)]
+#[derive(Clone, Copy, PartialEq, Eq, PartialOrd, Ord, Hash)]
 pub struct Script<'a> {
     text: Caseless<&'a str>,
 }
+
+shown!(Script<'_>);
 
 impl<'a> Script<'a> {
     /// Parses a string as a script.
@@ -94,7 +96,7 @@ impl<'a> Script<'a> {
     /// ```
     #[inline]
     #[must_use]
-    pub fn as_str(&self) -> &'a str {
+    pub fn as_str(self) -> &'a str {
         self.text.0
     }
 
@@ -110,12 +112,12 @@ impl<'a> Script<'a> {
     /// ```
     #[inline]
     #[must_use]
-    pub fn as_bytes(&self) -> &'a [u8] {
+    pub fn as_bytes(self) -> &'a [u8] {
         self.as_str().as_bytes()
     }
 
-    /// Returns whether another string equals this string, ignoring the case of ASCII letters. It is
-    /// proved that comparisons and hashes also ignore case, and that a clone is the same value.
+    /// Returns whether another string equals this string, ignoring the case of ASCII letters.
+    /// Comparisons and hashes also ignore case, and a clone is the same value.
     ///
     /// ```
     /// # fn main() -> Result<(), Box<dyn std::error::Error>> {
@@ -127,7 +129,7 @@ impl<'a> Script<'a> {
     /// ```
     #[inline]
     #[must_use]
-    pub fn eq_str(&self, other: &str) -> bool {
+    pub fn eq_str(self, other: &str) -> bool {
         self.text == Caseless(other)
     }
 
@@ -147,7 +149,7 @@ impl<'a> Script<'a> {
     /// ```
     #[cfg(feature = "alloc")]
     #[inline]
-    pub fn try_to_owned(&self) -> Result<ScriptBuf, AllocError> {
+    pub fn try_to_owned(self) -> Result<ScriptBuf, AllocError> {
         let text = try_string(self.as_str())?;
         Ok(ScriptBuf {
             text: Caseless(text),
@@ -175,10 +177,13 @@ impl fmt::Display for Script<'_> {
 /// # }
 /// ```
 #[cfg(feature = "alloc")]
-#[derive(Debug, PartialEq, Eq, PartialOrd, Ord, Hash)]
+#[derive(PartialEq, Eq, PartialOrd, Ord, Hash)]
 pub struct ScriptBuf {
     text: Caseless<String>,
 }
+
+#[cfg(feature = "alloc")]
+shown!(ScriptBuf);
 
 #[cfg(feature = "alloc")]
 impl ScriptBuf {
@@ -208,7 +213,7 @@ impl ScriptBuf {
         })
     }
 
-    /// Borrows the script. It is proved that comparisons and hashes of owned scripts ignore case.
+    /// Borrows the script. Comparisons and hashes of owned scripts ignore case.
     ///
     /// ```
     /// # fn main() -> Result<(), Box<dyn std::error::Error>> {

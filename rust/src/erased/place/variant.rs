@@ -48,10 +48,12 @@ impl<T: fmt::Debug + AsRef<[u8]>> core::error::Error for InvalidVariant<T> {}
 /// ```
 ///
 /// [RFC 5646 section 2.2.5]: https://www.rfc-editor.org/rfc/rfc5646#section-2.2.5
-#[derive(Clone, Copy, Debug, PartialEq, Eq, PartialOrd, Ord, Hash)]
+#[derive(Clone, Copy, PartialEq, Eq, PartialOrd, Ord, Hash)]
 pub struct Variant<'a> {
     text: Caseless<&'a str>,
 }
+
+shown!(Variant<'_>);
 
 impl<'a> Variant<'a> {
     /// Parses a string as a variant.
@@ -96,7 +98,7 @@ impl<'a> Variant<'a> {
     /// ```
     #[inline]
     #[must_use]
-    pub fn as_str(&self) -> &'a str {
+    pub fn as_str(self) -> &'a str {
         self.text.0
     }
 
@@ -112,12 +114,12 @@ impl<'a> Variant<'a> {
     /// ```
     #[inline]
     #[must_use]
-    pub fn as_bytes(&self) -> &'a [u8] {
+    pub fn as_bytes(self) -> &'a [u8] {
         self.as_str().as_bytes()
     }
 
-    /// Returns whether another string equals this string, ignoring the case of ASCII letters. It is
-    /// proved that comparisons and hashes also ignore case, and that a clone is the same value.
+    /// Returns whether another string equals this string, ignoring the case of ASCII letters.
+    /// Comparisons and hashes also ignore case, and a clone is the same value.
     ///
     /// ```
     /// # fn main() -> Result<(), Box<dyn std::error::Error>> {
@@ -129,7 +131,7 @@ impl<'a> Variant<'a> {
     /// ```
     #[inline]
     #[must_use]
-    pub fn eq_str(&self, other: &str) -> bool {
+    pub fn eq_str(self, other: &str) -> bool {
         self.text == Caseless(other)
     }
 
@@ -149,7 +151,7 @@ impl<'a> Variant<'a> {
     /// ```
     #[cfg(feature = "alloc")]
     #[inline]
-    pub fn try_to_owned(&self) -> Result<VariantBuf, AllocError> {
+    pub fn try_to_owned(self) -> Result<VariantBuf, AllocError> {
         let text = try_string(self.as_str())?;
         Ok(VariantBuf {
             text: Caseless(text),
@@ -177,10 +179,13 @@ impl fmt::Display for Variant<'_> {
 /// # }
 /// ```
 #[cfg(feature = "alloc")]
-#[derive(Debug, PartialEq, Eq, PartialOrd, Ord, Hash)]
+#[derive(PartialEq, Eq, PartialOrd, Ord, Hash)]
 pub struct VariantBuf {
     text: Caseless<String>,
 }
+
+#[cfg(feature = "alloc")]
+shown!(VariantBuf);
 
 #[cfg(feature = "alloc")]
 impl VariantBuf {
@@ -211,7 +216,7 @@ impl VariantBuf {
         })
     }
 
-    /// Borrows the variant. It is proved that comparisons and hashes of owned variants ignore case.
+    /// Borrows the variant. Comparisons and hashes of owned variants ignore case.
     ///
     /// ```
     /// # fn main() -> Result<(), Box<dyn std::error::Error>> {

@@ -51,10 +51,12 @@ impl<T: fmt::Debug + AsRef<[u8]>> core::error::Error for InvalidVariants<T> {}
 /// ```
 ///
 /// [RFC 5646 section 2.2.5]: https://www.rfc-editor.org/rfc/rfc5646#section-2.2.5
-#[derive(Clone, Copy, Debug, PartialEq, Eq, PartialOrd, Ord, Hash)]
+#[derive(Clone, Copy, PartialEq, Eq, PartialOrd, Ord, Hash)]
 pub struct Variants<'a> {
     text: Caseless<&'a str>,
 }
+
+shown!(Variants<'_>);
 
 impl<'a> Variants<'a> {
     /// No variants.
@@ -106,7 +108,7 @@ impl<'a> Variants<'a> {
     /// ```
     #[inline]
     #[must_use]
-    pub fn as_str(&self) -> &'a str {
+    pub fn as_str(self) -> &'a str {
         self.text.0
     }
 
@@ -122,12 +124,12 @@ impl<'a> Variants<'a> {
     /// ```
     #[inline]
     #[must_use]
-    pub fn as_bytes(&self) -> &'a [u8] {
+    pub fn as_bytes(self) -> &'a [u8] {
         self.as_str().as_bytes()
     }
 
-    /// Returns whether another string equals this string, ignoring the case of ASCII letters. It is
-    /// proved that comparisons and hashes also ignore case, and that a clone is the same value.
+    /// Returns whether another string equals this string, ignoring the case of ASCII letters.
+    /// Comparisons and hashes also ignore case, and a clone is the same value.
     ///
     /// ```
     /// # fn main() -> Result<(), Box<dyn std::error::Error>> {
@@ -139,7 +141,7 @@ impl<'a> Variants<'a> {
     /// ```
     #[inline]
     #[must_use]
-    pub fn eq_str(&self, other: &str) -> bool {
+    pub fn eq_str(self, other: &str) -> bool {
         self.text == Caseless(other)
     }
 
@@ -159,7 +161,7 @@ impl<'a> Variants<'a> {
     /// ```
     #[cfg(feature = "alloc")]
     #[inline]
-    pub fn try_to_owned(&self) -> Result<VariantsBuf, AllocError> {
+    pub fn try_to_owned(self) -> Result<VariantsBuf, AllocError> {
         let text = try_string(self.as_str())?;
         Ok(VariantsBuf {
             text: Caseless(text),
@@ -180,7 +182,7 @@ impl<'a> Variants<'a> {
     /// ```
     #[inline]
     #[must_use]
-    pub fn iter(&self) -> VariantsIter<'a> {
+    pub fn iter(self) -> VariantsIter<'a> {
         VariantsIter::new(self.as_str())
     }
 
@@ -200,7 +202,7 @@ impl<'a> Variants<'a> {
     /// ```
     #[inline]
     #[must_use]
-    pub fn first(&self) -> Option<Variant<'a>> {
+    pub fn first(self) -> Option<Variant<'a>> {
         self.iter().next()
     }
 
@@ -219,7 +221,7 @@ impl<'a> Variants<'a> {
     /// ```
     #[inline]
     #[must_use]
-    pub fn last(&self) -> Option<Variant<'a>> {
+    pub fn last(self) -> Option<Variant<'a>> {
         self.iter().next_back()
     }
 }
@@ -251,10 +253,13 @@ impl fmt::Display for Variants<'_> {
 /// # }
 /// ```
 #[cfg(feature = "alloc")]
-#[derive(Debug, PartialEq, Eq, PartialOrd, Ord, Hash)]
+#[derive(PartialEq, Eq, PartialOrd, Ord, Hash)]
 pub struct VariantsBuf {
     text: Caseless<String>,
 }
+
+#[cfg(feature = "alloc")]
+shown!(VariantsBuf);
 
 #[cfg(feature = "alloc")]
 impl VariantsBuf {
@@ -285,8 +290,7 @@ impl VariantsBuf {
         })
     }
 
-    /// Borrows the variants. It is proved that comparisons and hashes of owned lists of variants
-    /// ignore case.
+    /// Borrows the variants. Comparisons and hashes of owned lists of variants ignore case.
     ///
     /// ```
     /// # fn main() -> Result<(), Box<dyn std::error::Error>> {

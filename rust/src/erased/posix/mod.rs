@@ -1,7 +1,7 @@
 // Made by rust/erase from crates/langtag_posix/src/lib.rt. Change that file, not this one.
 
 //! The tags for the names of POSIX locales (IEEE Std 1003.1, section 8.2), and the names for tags.
-//! The names as Java, Android and .NET write them are read, too.
+//! The names as Java, Android, .NET, ICU and Apple's systems write them are read, too.
 //!
 //! ```
 //! # fn main() -> Result<(), Box<dyn std::error::Error>> {
@@ -14,13 +14,16 @@
 //! # }
 //! ```
 
+mod keyword_names;
 mod locale_name;
 mod modifiers;
 mod platform_names;
 mod posix;
+#[cfg(feature = "alloc")]
 mod posix_error;
 mod posix_name;
 mod posix_parts;
+mod posix_text;
 mod posix_variant;
 
 #[cfg(feature = "alloc")]

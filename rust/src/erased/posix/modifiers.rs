@@ -4,15 +4,16 @@
 
 use crate::erased::cldr::script_codes;
 use crate::erased::place::Script;
+use crate::erased::posix::keyword_names::are_keywords;
 use crate::erased::range::split_at_byte;
 use crate::erased::scan::is_script;
 use crate::erased::tag::case_insensitive_eq;
 
 /// Returns the modifier of a locale name if [`write_from_posix`] and `from_posix` drop it because
-/// they do not know it: `b"foo"` for `de_DE@foo`.
+/// they do not know it: `b"foo"` for `de_DE@foo`, and `b"x=y"` for `de_DE@x=y`.
 ///
-/// Returns `None` if there is no modifier, if the modifier names a script or a variant, or if it is
-/// not about the language, such as `euro`.
+/// Returns `None` if there is no modifier, if the modifier names a script or a variant, if it
+/// consists of keywords that are read, or if it is not about the language, such as `euro`.
 ///
 /// ```
 /// use langtag::likely::unknown_modifier;
@@ -39,6 +40,7 @@ fn is_known(modifier: &[u8]) -> bool {
         || modifier_script(modifier).is_some()
         || modifier_variant(modifier).is_some()
         || says_nothing(modifier)
+        || are_keywords(modifier)
 }
 
 /// Returns the script that a modifier names.

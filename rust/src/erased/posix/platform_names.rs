@@ -1,21 +1,21 @@
 // Made by rust/erase from crates/langtag_posix/src/platform_names.rt. Change that file, not this one.
 
-//! The language and the territory of a locale name, as Android and .NET write them.
+//! The language and the territory of a locale name, as Android and .NET write them, or with an
+//! empty field.
 
-use crate::erased::output::write_pieces;
 use crate::erased::posix::modifiers::is_script_code;
 use crate::erased::range::split_at_byte;
-use crate::erased::scan::{case_insensitive_eq, is_primary, is_region};
+use crate::erased::scan::{case_insensitive_eq, is_primary, is_region, is_script, is_variant};
+use crate::erased::text::write_pieces;
 
 /// The greatest length of a language and a territory, in bytes.
 pub(crate) const MOST: usize = 255;
 
-/// The greatest length of the tag for a name in a form of Android or .NET, in bytes: a language, a
-/// script and a region.
-pub(crate) const MOST_READ: usize = 12;
+/// The greatest length of the string that they are read as, in bytes: `und` may come before them.
+pub(crate) const MOST_READ: usize = 260;
 
 /// Returns the string that a language and a territory are read as, written into `room` or `short`:
-/// `zh-TW` for `zh_TW`, and for `zh-rTW` and `b+zh+TW`.
+/// `zh-TW` for `zh_TW`, and for `zh-rTW` and `b+zh+TW`, and `und-TW` for `_TW`.
 pub(crate) fn read_place<'a>(
     place: &[u8],
     room: &'a mut [u8; MOST],
@@ -46,14 +46,15 @@ fn hyphenate(bytes: &mut [u8], mark: u8) {
     }
 }
 
-/// Returns the tag for a string in a form of Android or .NET, or else the string as it stands.
+/// Returns the tag for a string in a form of Android or .NET or with an empty field, or else the
+/// string as it stands.
 fn platform_read<'a>(text: &'a [u8], short: &'a mut [u8; MOST_READ]) -> &'a [u8] {
     let (language, behind) = split_at_byte(text, b'-');
-    if !is_short_language(language) {
-        return text;
+    if let Some((first, second)) = platform_text(language, behind) {
+        return written(language, first, second, short);
     }
-    match platform_behind(language, behind) {
-        Some((first, second)) => written(language, first, second, short),
+    match filled_behind(language, behind) {
+        Some((first, second)) => written(language_or_und(language), first, second, short),
         None => text,
     }
 }
@@ -75,6 +76,16 @@ fn written<'t, 'r>(
 #[inline]
 fn is_short_language(language: &[u8]) -> bool {
     is_primary(language) && language.len() <= 3
+}
+
+/// Returns what [`platform_behind`] does, after a language of two or three letters.
+#[inline]
+fn platform_text<'a>(language: &[u8], behind: &'a [u8]) -> Option<(&'a [u8], &'a [u8])> {
+    if is_short_language(language) {
+        platform_behind(language, behind)
+    } else {
+        None
+    }
 }
 
 /// Returns the one or two subtags that are read for the string after a language, if the string has
@@ -125,4 +136,56 @@ fn region_now<'a>(language: &[u8], region: &'a [u8]) -> &'a [u8] {
         return b"RS";
     }
     region
+}
+
+/// Returns the string behind a language in a name with an empty field, in one or two parts: `POSIX`
+/// for `-POSIX`, and `Hant` and `PINYIN` for `Hant--PINYIN`. If the language is empty, any string
+/// behind it is returned.
+fn filled_behind<'a>(language: &[u8], behind: &'a [u8]) -> Option<(&'a [u8], &'a [u8])> {
+    if let Some(found) = without_gap(behind) {
+        return Some(found);
+    }
+    if language.is_empty() && !behind.is_empty() {
+        Some((behind, b""))
+    } else {
+        None
+    }
+}
+
+/// Returns the string behind a language without the mark of an empty region, in one or two parts.
+fn without_gap(behind: &[u8]) -> Option<(&[u8], &[u8])> {
+    if let Some(variants) = behind_gap(behind) {
+        return Some((variants, b""));
+    }
+    let (script, others) = split_at_byte(behind, b'-');
+    if !is_script(script) {
+        return None;
+    }
+    let variants = behind_gap(others)?;
+    Some((script, variants))
+}
+
+/// Returns the variants behind an empty field.
+#[inline]
+fn behind_gap(behind: &[u8]) -> Option<&[u8]> {
+    match behind {
+        [b'-', variants @ ..] if begins_variant(variants) => Some(variants),
+        _ => None,
+    }
+}
+
+#[inline]
+fn begins_variant(text: &[u8]) -> bool {
+    let (first, _) = split_at_byte(text, b'-');
+    is_variant(first)
+}
+
+/// Returns a language, or `und` for an empty one.
+#[inline]
+fn language_or_und(language: &[u8]) -> &[u8] {
+    if language.is_empty() {
+        b"und"
+    } else {
+        language
+    }
 }

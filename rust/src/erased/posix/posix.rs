@@ -2,24 +2,23 @@
 
 //! The tag for a POSIX locale name.
 
-use crate::erased::output::write_text;
 use crate::erased::place::{Script, Variants};
 use crate::erased::posix::modifiers::{modifier_script, modifier_variant, script_of};
-use crate::erased::posix::platform_names::{read_place, MOST, MOST_READ};
 #[cfg(feature = "alloc")]
 use crate::erased::posix::posix_error::PosixError;
+use crate::erased::posix::posix_text::{front_and_modifier, tag_of_name, MOST_NAMED};
 use crate::erased::posix::posix_variant::{tag_with_keyword, MOST_WITH_KEYWORD};
-use crate::erased::range::{locale_place, split_at_byte, split_at_either};
+use crate::erased::range::split_at_byte;
 #[cfg(feature = "alloc")]
 use crate::erased::tag::{tag_of, LangTagBuf};
 use crate::erased::tag::{write_part, LangTag, Part};
+use crate::erased::text::write_text;
 #[cfg(feature = "alloc")]
 use crate::shim::{try_vec, AllocError};
 #[cfg(feature = "alloc")]
 use alloc::vec::Vec;
 
-/// The greatest length of a language and a territory with the keyword `va-posix` and a script, in
-/// bytes.
+/// The greatest length of the tag for a name with the keyword `va-posix` and a script, in bytes.
 const MOST_WITH_SCRIPT: usize = MOST_WITH_KEYWORD + 5;
 
 /// Returns the tag for a POSIX locale name (IEEE Std 1003.1, section 8.2),
@@ -33,12 +32,22 @@ const MOST_WITH_SCRIPT: usize = MOST_WITH_KEYWORD + 5;
 /// - `valencia`, `tarask`, `ijekavian`, and `ijekavianlatin`, which names both a script and a
 ///   variant.
 ///
+/// A modifier may also consist of keywords, `key=type` with semicolons between them, as ICU and
+/// Apple's systems write them: `en-US-u-ca-buddhist` for `en_US@calendar=buddhist`. Their keys and
+/// types have ICU's names, such as `collation` and `phonebook`, or those of CLDR, such as `co` and
+/// `phonebk`. They keep their order.
+///
 /// Other modifiers are dropped, such as `euro`; [`unknown_modifier`] returns a modifier whose
-/// meaning is not known.
+/// meaning is not known. If one keyword cannot be read, such as `timezone=America/New_York`, that
+/// is all of the modifier.
 ///
 /// These names are read, too, ignoring case:
 ///
-/// - a script after `_#`, as Java and Android print it: `zh-Hant-TW` for `zh_TW_#Hant`;
+/// - a script and extensions after `_#`, as Java and Android print them: `zh-Hant-TW` for
+///   `zh_TW_#Hant`, and
+///   `de-DE-u-co-phonebk` for `de_DE_#u-co-phonebk`;
+/// - an empty language or region, as in Java and ICU: `und-US` for `_US`, and `en-u-va-posix` for
+///   `en__POSIX`;
 /// - a region after `r`, or subtags after `b+`, as in Android's resource folders: `zh-TW` for
 ///   `zh-rTW`, and `sr-Latn` for
 ///   `b+sr+Latn`;
@@ -56,8 +65,11 @@ const MOST_WITH_SCRIPT: usize = MOST_WITH_KEYWORD + 5;
 /// # Errors
 ///
 /// Returns `NoTag` with the name if its language and territory are not a tag, as in `C`, `en_` and
-/// the empty string. `NoTag` is also returned for `POSIX`, ignoring case, and for a language and
-/// territory of more than 255 bytes. Returns `Memory` if allocation fails.
+/// the empty string. `NoTag` is also returned for `POSIX`, ignoring case, if extensions or keywords
+/// come after an extension or private use, and if other text than a script and extensions comes
+/// after `#`. A language and territory of more than 255 bytes have no tag, and no tag is made if
+/// they have more than 260 bytes with extensions and keywords. Returns `Memory` if allocation
+/// fails.
 ///
 /// ```
 /// # fn main() -> Result<(), Box<dyn std::error::Error>> {
@@ -65,6 +77,7 @@ const MOST_WITH_SCRIPT: usize = MOST_WITH_KEYWORD + 5;
 ///
 /// assert_eq!(from_posix("sr_RS@latin")?.as_str(), "sr-Latn-RS");
 /// assert_eq!(from_posix("zh-rTW")?.as_str(), "zh-TW");
+/// assert_eq!(from_posix("de_DE@collation=phonebook")?.as_str(), "de-DE-u-co-phonebk");
 /// assert!(from_posix("C").is_err());
 /// # Ok(())
 /// # }
@@ -101,8 +114,8 @@ fn bytes_of(name: &[u8]) -> Result<Option<Vec<u8>>, AllocError> {
 /// assert_eq!(write_from_posix(b"C", &mut buffer), None);
 /// ```
 pub fn write_from_posix(name: &[u8], buffer: &mut [u8]) -> Option<usize> {
-    let (mut room, mut short) = ([0; MOST], [0; MOST_READ]);
-    let tag = tag_of_place(locale_place(name), &mut room, &mut short)?;
+    let mut room = [0; MOST_NAMED];
+    let tag = tag_of_name(name, &mut room)?;
     let (front, modifier) = front_and_modifier(name);
     let script = script_behind(front);
     let mut longer = [0; MOST_WITH_KEYWORD];
@@ -112,36 +125,12 @@ pub fn write_from_posix(name: &[u8], buffer: &mut [u8]) -> Option<usize> {
     Some(write_with_variant(tag, modifier_variant(modifier), buffer))
 }
 
-/// Returns the string before the codeset and the modifier, and the modifier.
-#[inline]
-fn front_and_modifier(name: &[u8]) -> (&[u8], &[u8]) {
-    let (front, _codeset) = split_at_either(name, b'.', b'@');
-    let (_, modifier) = split_at_byte(name, b'@');
-    (front, modifier)
-}
-
 /// Returns the script after `#`.
 #[inline]
 fn script_behind(front: &[u8]) -> Option<Script<'_>> {
     let (_, behind) = split_at_byte(front, b'#');
     let (script, _extensions) = split_at_byte(behind, b'_');
     script_of(script)
-}
-
-/// Returns the tag that a language and a territory are read as, written into `room` or `short`.
-fn tag_of_place<'a>(
-    place: &[u8],
-    room: &'a mut [u8; MOST],
-    short: &'a mut [u8; MOST_READ],
-) -> Option<LangTag<'a>> {
-    if place.len() > MOST {
-        return None;
-    }
-    let tag = LangTag::from_bytes(read_place(place, room, short)).ok()?;
-    if tag.eq_str("POSIX") {
-        return None;
-    }
-    Some(tag)
 }
 
 /// Writes a tag with a script into `room`, and returns it as a tag.

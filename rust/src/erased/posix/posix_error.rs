@@ -2,7 +2,6 @@
 
 //! Why a POSIX locale name has no tag.
 
-#[cfg(feature = "alloc")]
 use crate::shim::AllocError;
 use core::fmt;
 
@@ -13,7 +12,6 @@ use core::fmt;
 ///
 /// assert!(matches!(from_posix("POSIX"), Err(PosixError::NoTag("POSIX"))));
 /// ```
-#[cfg(feature = "alloc")]
 #[derive(Debug, Clone, PartialEq, Eq, Hash)]
 #[non_exhaustive]
 pub enum PosixError<'a> {
@@ -24,7 +22,6 @@ pub enum PosixError<'a> {
     Memory(AllocError),
 }
 
-#[cfg(feature = "alloc")]
 impl fmt::Display for PosixError<'_> {
     fn fmt(&self, f: &mut fmt::Formatter<'_>) -> fmt::Result {
         match self {
@@ -38,10 +35,8 @@ impl fmt::Display for PosixError<'_> {
     }
 }
 
-#[cfg(feature = "alloc")]
 impl core::error::Error for PosixError<'_> {}
 
-#[cfg(feature = "alloc")]
 impl<'a> From<AllocError> for PosixError<'a> {
     #[inline]
     fn from(error: AllocError) -> Self {

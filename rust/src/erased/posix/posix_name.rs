@@ -2,11 +2,11 @@
 
 //! The parts of a POSIX locale name, and how they are written.
 
-use crate::erased::output::write_pieces;
 use crate::erased::posix::posix_parts::{
     modifier_of_tag, named_language, region_text, variant_of_tag,
 };
 use crate::erased::tag::NormalLangTag;
+use crate::erased::text::write_pieces;
 
 /// The parts of a POSIX locale name, `language[_territory][_variant][@modifier]`. Each is empty if
 /// it is absent.

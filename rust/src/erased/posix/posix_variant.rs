@@ -2,12 +2,12 @@
 
 //! The variant `POSIX` of a locale name, which becomes the keyword `va-posix`.
 
-use crate::erased::output::write_pieces;
 use crate::erased::tag::{LangTag, NormalLangTag};
+use crate::erased::text::write_pieces;
 
-/// The greatest length of a language and a territory with the keyword, in bytes: `-u-va-posix` has
-/// five more than `-POSIX`.
-pub(crate) const MOST_WITH_KEYWORD: usize = 260;
+/// The greatest length of the string that a name is read as, with the keyword, in bytes:
+/// `-u-va-posix` has five more than `-POSIX`.
+pub(crate) const MOST_WITH_KEYWORD: usize = 265;
 
 /// Writes a tag whose only variant is `POSIX` into `room`, with the keyword `va-posix` instead, and
 /// returns it. Any other tag, and a tag with extensions, stays.

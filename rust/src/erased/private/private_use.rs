@@ -49,10 +49,12 @@ impl<T: fmt::Debug + AsRef<[u8]>> core::error::Error for InvalidPrivateUse<T> {}
 /// ```
 ///
 /// [RFC 5646 section 2.2.7]: https://www.rfc-editor.org/rfc/rfc5646#section-2.2.7
-#[derive(Clone, Copy, Debug, PartialEq, Eq, PartialOrd, Ord, Hash)]
+#[derive(Clone, Copy, PartialEq, Eq, PartialOrd, Ord, Hash)]
 pub struct PrivateUse<'a> {
     text: Caseless<&'a str>,
 }
+
+shown!(PrivateUse<'_>);
 
 impl<'a> PrivateUse<'a> {
     /// Parses a string as a private use part.
@@ -96,7 +98,7 @@ impl<'a> PrivateUse<'a> {
     /// ```
     #[inline]
     #[must_use]
-    pub fn as_str(&self) -> &'a str {
+    pub fn as_str(self) -> &'a str {
         self.text.0
     }
 
@@ -112,12 +114,12 @@ impl<'a> PrivateUse<'a> {
     /// ```
     #[inline]
     #[must_use]
-    pub fn as_bytes(&self) -> &'a [u8] {
+    pub fn as_bytes(self) -> &'a [u8] {
         self.as_str().as_bytes()
     }
 
-    /// Returns whether another string equals this string, ignoring the case of ASCII letters. It is
-    /// proved that comparisons and hashes also ignore case, and that a clone is the same value.
+    /// Returns whether another string equals this string, ignoring the case of ASCII letters.
+    /// Comparisons and hashes also ignore case, and a clone is the same value.
     ///
     /// ```
     /// # fn main() -> Result<(), Box<dyn std::error::Error>> {
@@ -129,7 +131,7 @@ impl<'a> PrivateUse<'a> {
     /// ```
     #[inline]
     #[must_use]
-    pub fn eq_str(&self, other: &str) -> bool {
+    pub fn eq_str(self, other: &str) -> bool {
         self.text == Caseless(other)
     }
 
@@ -149,7 +151,7 @@ impl<'a> PrivateUse<'a> {
     /// ```
     #[cfg(feature = "alloc")]
     #[inline]
-    pub fn try_to_owned(&self) -> Result<PrivateUseBuf, AllocError> {
+    pub fn try_to_owned(self) -> Result<PrivateUseBuf, AllocError> {
         let text = try_string(self.as_str())?;
         Ok(PrivateUseBuf {
             text: Caseless(text),
@@ -171,7 +173,7 @@ impl<'a> PrivateUse<'a> {
     /// ```
     #[inline]
     #[must_use]
-    pub fn iter(&self) -> PrivateUseIter<'a> {
+    pub fn iter(self) -> PrivateUseIter<'a> {
         PrivateUseIter::new(self.as_str())
     }
 }
@@ -224,10 +226,13 @@ impl fmt::Display for PrivateUse<'_> {
 /// # }
 /// ```
 #[cfg(feature = "alloc")]
-#[derive(Debug, PartialEq, Eq, PartialOrd, Ord, Hash)]
+#[derive(PartialEq, Eq, PartialOrd, Ord, Hash)]
 pub struct PrivateUseBuf {
     text: Caseless<String>,
 }
+
+#[cfg(feature = "alloc")]
+shown!(PrivateUseBuf);
 
 #[cfg(feature = "alloc")]
 impl PrivateUseBuf {
@@ -257,8 +262,7 @@ impl PrivateUseBuf {
         })
     }
 
-    /// Borrows the private use part. It is proved that comparisons and hashes of owned private use
-    /// parts ignore case.
+    /// Borrows the private use part. Comparisons and hashes of owned private use parts ignore case.
     ///
     /// ```
     /// # fn main() -> Result<(), Box<dyn std::error::Error>> {

@@ -48,10 +48,12 @@ impl<T: fmt::Debug + AsRef<[u8]>> core::error::Error for InvalidPrivateUseSubtag
 /// ```
 ///
 /// [RFC 5646 section 2.2.7]: https://www.rfc-editor.org/rfc/rfc5646#section-2.2.7
-#[derive(Clone, Copy, Debug, PartialEq, Eq, PartialOrd, Ord, Hash)]
+#[derive(Clone, Copy, PartialEq, Eq, PartialOrd, Ord, Hash)]
 pub struct PrivateUseSubtag<'a> {
     text: Caseless<&'a str>,
 }
+
+shown!(PrivateUseSubtag<'_>);
 
 impl<'a> PrivateUseSubtag<'a> {
     /// Parses a string as a private use subtag.
@@ -95,7 +97,7 @@ impl<'a> PrivateUseSubtag<'a> {
     /// ```
     #[inline]
     #[must_use]
-    pub fn as_str(&self) -> &'a str {
+    pub fn as_str(self) -> &'a str {
         self.text.0
     }
 
@@ -111,12 +113,12 @@ impl<'a> PrivateUseSubtag<'a> {
     /// ```
     #[inline]
     #[must_use]
-    pub fn as_bytes(&self) -> &'a [u8] {
+    pub fn as_bytes(self) -> &'a [u8] {
         self.as_str().as_bytes()
     }
 
-    /// Returns whether another string equals this string, ignoring the case of ASCII letters. It is
-    /// proved that comparisons and hashes also ignore case, and that a clone is the same value.
+    /// Returns whether another string equals this string, ignoring the case of ASCII letters.
+    /// Comparisons and hashes also ignore case, and a clone is the same value.
     ///
     /// ```
     /// # fn main() -> Result<(), Box<dyn std::error::Error>> {
@@ -128,7 +130,7 @@ impl<'a> PrivateUseSubtag<'a> {
     /// ```
     #[inline]
     #[must_use]
-    pub fn eq_str(&self, other: &str) -> bool {
+    pub fn eq_str(self, other: &str) -> bool {
         self.text == Caseless(other)
     }
 
@@ -148,7 +150,7 @@ impl<'a> PrivateUseSubtag<'a> {
     /// ```
     #[cfg(feature = "alloc")]
     #[inline]
-    pub fn try_to_owned(&self) -> Result<PrivateUseSubtagBuf, AllocError> {
+    pub fn try_to_owned(self) -> Result<PrivateUseSubtagBuf, AllocError> {
         let text = try_string(self.as_str())?;
         Ok(PrivateUseSubtagBuf {
             text: Caseless(text),
@@ -176,10 +178,13 @@ impl fmt::Display for PrivateUseSubtag<'_> {
 /// # }
 /// ```
 #[cfg(feature = "alloc")]
-#[derive(Debug, PartialEq, Eq, PartialOrd, Ord, Hash)]
+#[derive(PartialEq, Eq, PartialOrd, Ord, Hash)]
 pub struct PrivateUseSubtagBuf {
     text: Caseless<String>,
 }
+
+#[cfg(feature = "alloc")]
+shown!(PrivateUseSubtagBuf);
 
 #[cfg(feature = "alloc")]
 impl PrivateUseSubtagBuf {
@@ -209,8 +214,7 @@ impl PrivateUseSubtagBuf {
         })
     }
 
-    /// Borrows the subtag. It is proved that comparisons and hashes of owned private use subtags
-    /// ignore case.
+    /// Borrows the subtag. Comparisons and hashes of owned private use subtags ignore case.
     ///
     /// ```
     /// # fn main() -> Result<(), Box<dyn std::error::Error>> {

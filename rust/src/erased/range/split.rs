@@ -28,11 +28,17 @@ pub fn len_before(text: &[u8], mark: u8) -> usize {
     first_place(text, mark).unwrap_or(text.len())
 }
 
+/// Returns the number of bytes before the first `mark` or `other`, or of all bytes if there is
+/// none.
+#[inline]
+pub(crate) fn len_before_either(text: &[u8], mark: u8, other: u8) -> usize {
+    first_of_either(text, mark, other).unwrap_or(text.len())
+}
+
 /// Returns the index of the first `mark`, or `None` if there is none: `first_place(b"q=1", b'=')`
 /// is `Some(1)`.
 #[inline]
-#[must_use]
-pub fn first_place(text: &[u8], mark: u8) -> Option<usize> {
+pub(crate) fn first_place(text: &[u8], mark: u8) -> Option<usize> {
     text.iter().position(|byte| *byte == mark)
 }
 

@@ -2,6 +2,7 @@
 
 //! The language ranges of a header, read leniently.
 
+use crate::erased::range::plain_element::plain_element;
 use crate::erased::range::split::split_at_byte;
 use crate::erased::range::wanted_element::wanted_at;
 
@@ -86,6 +87,9 @@ impl<'a> Iterator for WantedRanges<'a> {
 pub fn split_wanted(header: &[u8]) -> Option<(WantedRange<'_>, &[u8])> {
     let mut left = header;
     while !left.is_empty() {
+        if let Some(found) = plain_element(left) {
+            return Some(found);
+        }
         let (item, rest) = split_at_byte(left, b',');
         if let Some(found) = wanted_at(item, rest) {
             return Some((found, rest));

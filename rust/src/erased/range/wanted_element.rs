@@ -3,12 +3,10 @@
 //! An element of a header, read leniently.
 
 use crate::erased::range::locale::locale_place;
-use crate::erased::range::range_text::is_first_subtag;
-use crate::erased::range::split::{first_place, split_at_byte, split_at_either};
+use crate::erased::range::split::{first_place, split_at_byte};
 use crate::erased::range::wanted::WantedRange;
 use crate::erased::range::weight::{are_digits, digit_at};
 use crate::erased::range::white_space::trimmed_place;
-use crate::erased::scan::is_private_subtag;
 
 /// Returns the range of an item of a header, with its weight. `behind` is what follows the comma
 /// after the item.
@@ -36,9 +34,8 @@ fn wanted_bytes(text: &[u8]) -> Option<&[u8]> {
 
 /// Returns whether a string is a basic language range if `_` is read as `-`.
 #[inline]
-fn is_wanted_range(text: &[u8]) -> bool {
-    let (first, _) = split_at_either(text, b'-', b'_');
-    is_star(text) || (is_first_subtag(first) && are_wanted_subtags(text))
+pub(crate) fn is_wanted_range(text: &[u8]) -> bool {
+    is_star(text) || are_wanted_subtags(text)
 }
 
 #[inline]
@@ -46,11 +43,33 @@ pub(crate) fn is_star(text: &[u8]) -> bool {
     matches!(text, [b'*'])
 }
 
-/// Returns whether each subtag is 1 to 8 letters or digits.
+/// Returns whether the first subtag is 1 to 8 letters, and each other subtag 1 to 8 letters or
+/// digits.
 #[inline]
 fn are_wanted_subtags(text: &[u8]) -> bool {
-    text.split(|byte| is_separator(*byte))
-        .all(|subtag| is_private_subtag(subtag))
+    let mut is_first = true;
+    let mut len = 0usize;
+    for byte in text {
+        if len < 8 && is_in_subtag(*byte, is_first) {
+            len += 1;
+        } else if len > 0 && is_separator(*byte) {
+            is_first = false;
+            len = 0;
+        } else {
+            return false;
+        }
+    }
+    len > 0
+}
+
+/// Returns whether a byte may be in the first subtag, or in another subtag.
+#[inline]
+fn is_in_subtag(byte: u8, is_first: bool) -> bool {
+    if is_first {
+        byte.is_ascii_alphabetic()
+    } else {
+        byte.is_ascii_alphanumeric()
+    }
 }
 
 /// Returns whether a byte separates subtags, if `_` is read as `-`.

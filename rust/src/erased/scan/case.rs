@@ -92,8 +92,8 @@ pub fn case_insensitive_hash<H: Hasher>(bytes: &[u8], hasher: &mut H) {
 /// of a string of at most eight bytes. `folded_number(b"FR")` is 26,226, which is 256 times `b'f'`
 /// plus `b'r'`.
 ///
-/// It is proved that two strings of letters and digits, such as subtags, have the same number if
-/// and only if the strings are equal, ignoring case.
+/// Two strings of letters and digits, such as subtags, have the same number if and only if the
+/// strings are equal, ignoring case.
 ///
 /// [RFC 5646 section 2.1.1]: https://www.rfc-editor.org/rfc/rfc5646#section-2.1.1
 #[inline]

@@ -8,8 +8,7 @@
 /// The language begins at 0. Every other part begins just after the hyphen that follows the
 /// previous part. In `en-Latn-x-a` the ends are 2, 7, 7, 7, 7 and 11, in the order of the fields.
 ///
-/// It is proved that two `Ends` are equal if and only if each field is, and that a clone is the
-/// same value.
+/// Two `Ends` are equal if and only if each field is, and a clone is the same value.
 ///
 /// ```
 /// use langtag::scan::{Metered, recognise};
@@ -31,4 +30,44 @@ pub struct Ends {
     pub extensions: usize,
     /// The length of the string, which is also the end of the private use part: 6 in `de-x-a`.
     pub whole: usize,
+}
+
+/// Where each part of a tag has ended so far, in the order of [`Ends`], or 0 if it has not ended.
+pub(crate) struct Marks {
+    /// The end of each part, or 0. Every byte that is read sets one element, so the loop need not
+    /// test whether the byte ended a part. The last element, which is never read, is set by the
+    /// bytes that end no part.
+    places: [usize; 6],
+}
+
+impl Marks {
+    /// Returns the marks before the first byte, when no part has ended.
+    #[inline(always)]
+    pub(crate) fn new() -> Self {
+        Marks { places: [0; 6] }
+    }
+
+    /// Sets the end of a part.
+    #[inline(always)]
+    pub(crate) fn set(&mut self, part: usize, index: usize) {
+        self.places[part] = index;
+    }
+
+    /// Returns the ends in a string of this length. An absent part ends where the previous part
+    /// ends.
+    #[inline(always)]
+    pub(crate) fn ends(&self, len: usize) -> Ends {
+        let language = self.places[0];
+        let script = self.places[1].max(language);
+        let region = self.places[2].max(script);
+        let variants = self.places[3].max(region);
+        Ends {
+            language,
+            script,
+            region,
+            variants,
+            extensions: self.places[4].max(variants),
+            whole: len,
+        }
+    }
 }

@@ -1,24 +1,46 @@
 // Made by rust/erase from crates/langtag_scan/src/lib.rt. Change that file, not this one.
 
 //! Language tags as bytes (RFC 5646 section 2.1): comparison ignoring case, tests for the classes
-//! of subtags, and the subtags of a string. `langtag_recogniser` decides whether bytes are a tag.
+//! of subtags, and the parser, which decides whether bytes are a tag.
 //!
 //! ```
-//! use langtag::scan::{Subtags, case_insensitive_eq, is_script};
+//! # fn main() -> Result<(), Box<dyn std::error::Error>> {
+//! use langtag::scan::{ByteSource, Metered, recognise, viable_len};
 //!
-//! assert!(is_script(b"Hant"));
-//! assert!(case_insensitive_eq(b"zh-TW", b"ZH-tw"));
-//! assert_eq!(Subtags::new("zh-Hant-TW").next_back(), Some("TW"));
+//! let mut source = Metered::new("fr-abc-bz-x-a");
+//! let ends = recognise(&mut source).and_then(|found| found.ends()).ok_or("no normal tag")?;
+//! assert_eq!( // no script, and the region is `bz`
+//!     (ends.language, ends.script, ends.region, ends.whole),
+//!     (6, 6, 9, 13)
+//! );
+//!
+//! let mut source = Metered::new("i-notexist");
+//! assert!(recognise(&mut source).is_none());
+//! assert_eq!(source.reads(), 4); // no tag begins with `i-no`
+//!
+//! assert_eq!(viable_len(b"zh_Hant"), 2); // no tag begins with `zh_`
+//! # Ok(())
+//! # }
 //! ```
 //!
-//! `Caseless` and `folded_number` serve the crates of this workspace that build the string types.
+//! `Caseless`, `folded_number` and `GRANDFATHERED_TEXTS` serve the crates of this workspace that
+//! build the string types.
 
 mod case;
 mod caseless;
 mod class;
 mod ends;
+mod finding;
+mod found;
+mod grandfathered;
+mod metered;
+mod recogniser;
 mod segment;
+mod source;
+pub(crate) mod state;
+mod states;
 mod subtags;
+mod viable;
 
 pub(crate) use case::folded_number;
 pub use case::{case_insensitive_cmp, case_insensitive_eq, case_insensitive_hash, into_smallcase};
@@ -28,5 +50,11 @@ pub use class::{
     is_region, is_script, is_singleton, is_variant,
 };
 pub use ends::Ends;
+pub use found::Found;
+pub use grandfathered::GRANDFATHERED_TEXTS;
+pub use metered::Metered;
+pub use recogniser::{recognise, recognise_normal};
 pub(crate) use segment::{segment_end, segment_start};
+pub use source::ByteSource;
 pub use subtags::Subtags;
+pub use viable::{viable_len, viable_len_with_hyphen};

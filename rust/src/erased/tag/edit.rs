@@ -2,19 +2,15 @@
 
 //! How a part of a tag's string is set, and where the parts of the new string end.
 
-#[cfg(feature = "alloc")]
-use crate::erased::edit::replace;
 use crate::erased::scan::Ends;
 use crate::erased::tag::lengths::Lengths;
 use crate::erased::tag::part::Part;
-#[cfg(feature = "alloc")]
+use crate::erased::text::replace;
 use crate::shim::AllocError;
-#[cfg(feature = "alloc")]
 use alloc::string::String;
 
 /// Sets or removes a part in the string of a normal tag whose parts end at these offsets. Returns
 /// where the parts of the new string end, without parsing it.
-#[cfg(feature = "alloc")]
 #[inline]
 pub(crate) fn set_part(text: &mut String, ends: Ends, part: Part<'_>) -> Result<Ends, AllocError> {
     let new = part.replacement(&ends);

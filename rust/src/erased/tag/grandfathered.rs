@@ -3,8 +3,7 @@
 //! The grandfathered tags (RFC 5646 section 2.2.8).
 
 use crate::erased::language::Language;
-use crate::erased::recogniser::GRANDFATHERED_TEXTS;
-use crate::erased::scan::case_insensitive_eq;
+use crate::erased::scan::{case_insensitive_eq, GRANDFATHERED_TEXTS};
 use crate::erased::tag::lang_tag::LangTag;
 use core::fmt;
 
@@ -140,9 +139,9 @@ pub const GRANDFATHERED: [GrandfatheredLangTag; 26] = [
 impl GrandfatheredLangTag {
     /// Returns the grandfathered tag that equals these bytes, ignoring case.
     ///
-    /// It is proved that no two grandfathered tags are equal, ignoring case, and that all are
-    /// language tags. It is also proved that they compare and hash by their indices, that a clone
-    /// is the same value, and that [`GRANDFATHERED`] has each tag at its index.
+    /// No two grandfathered tags are equal, ignoring case, and all are language tags. They compare
+    /// and hash by their indices, a clone is the same value, and [`GRANDFATHERED`] has each tag at
+    /// its index.
     ///
     /// # Errors
     ///
@@ -154,8 +153,8 @@ impl GrandfatheredLangTag {
     /// assert_eq!(GrandfatheredLangTag::new(b"I-AMI"), Ok(GrandfatheredLangTag::IAmi));
     /// ```
     #[inline]
-    pub fn new(bytes: &[u8]) -> Result<Self, &[u8]> {
-        match first_alike(&GRANDFATHERED, bytes) {
+    pub fn new<T: AsRef<[u8]>>(bytes: T) -> Result<Self, T> {
+        match first_alike(&GRANDFATHERED, bytes.as_ref()) {
             Some(index) => Ok(GrandfatheredLangTag::at(index)),
             None => Err(bytes),
         }
@@ -169,7 +168,7 @@ impl GrandfatheredLangTag {
 
     /// Returns the primary language subtag of a regular tag. An irregular tag has none.
     #[inline]
-    fn primary(&self) -> Option<&'static str> {
+    fn primary(self) -> Option<&'static str> {
         match self {
             GrandfatheredLangTag::ArtLojban => Some("art"),
             GrandfatheredLangTag::CelGaulish => Some("cel"),
@@ -193,7 +192,7 @@ impl GrandfatheredLangTag {
     /// ```
     #[inline]
     #[must_use]
-    pub fn language(&self) -> Option<Language<'static>> {
+    pub fn language(self) -> Option<Language<'static>> {
         let language = self.primary()?;
         Some(Language::from_checked(language))
     }
@@ -207,8 +206,8 @@ impl GrandfatheredLangTag {
     /// ```
     #[inline]
     #[must_use]
-    pub fn as_str(&self) -> &'static str {
-        GRANDFATHERED_TEXTS[*self as usize]
+    pub fn as_str(self) -> &'static str {
+        GRANDFATHERED_TEXTS[self as usize]
     }
 
     /// Returns the tag with the registered spelling.
@@ -220,7 +219,7 @@ impl GrandfatheredLangTag {
     /// ```
     #[inline]
     #[must_use]
-    pub fn as_lang_tag(&self) -> LangTag<'static> {
+    pub fn as_lang_tag(self) -> LangTag<'static> {
         LangTag::from_checked(self.as_str())
     }
 
@@ -233,7 +232,7 @@ impl GrandfatheredLangTag {
     /// ```
     #[inline]
     #[must_use]
-    pub fn as_bytes(&self) -> &'static [u8] {
+    pub fn as_bytes(self) -> &'static [u8] {
         self.as_str().as_bytes()
     }
 }

@@ -2,7 +2,6 @@
 
 //! Language tags of every kind: rule `Language-Tag` of RFC 5646 section 2.1.
 
-use crate::erased::case::{is_in_recommended_case, InRecommendedCase};
 use crate::erased::extension::Extensions;
 use crate::erased::language::Language;
 use crate::erased::place::{Region, Script, Variants};
@@ -17,6 +16,7 @@ use crate::erased::tag::private_use_lang_tag::PrivateUseLangTag;
 use crate::erased::tag::recognise_text::{recognise_bytes, recognise_text};
 use crate::erased::tag::recognised::Recognised;
 use crate::erased::tag::typed_lang_tag::TypedLangTag;
+use crate::erased::text::{is_in_recommended_case, InRecommendedCase};
 #[cfg(feature = "alloc")]
 use crate::shim::{try_string, AllocError};
 use core::fmt;
@@ -69,12 +69,14 @@ pub struct LangTag<'a> {
 by_text!(LangTag<'_>);
 
 impl<'a> LangTag<'a> {
-    /// Parses a string as a language tag. Case does not matter, and the string keeps its case. It
-    /// is proved that no string is of two kinds.
+    /// Parses a string as a language tag. Case does not matter, and the string keeps its case. No
+    /// string is of two kinds.
     ///
     /// # Errors
     ///
-    /// Returns the string if it is not a tag, such as `zh_Hant` or the empty string.
+    /// Returns the string if it is not a tag, such as `zh_Hant` or the empty string. The error
+    /// borrows the string. A function that drops the string and returns the error calls
+    /// `LangTag::new(text).map_err(InvalidLangTag::into_owned)?`.
     ///
     /// ```
     /// use langtag::LangTag;
@@ -150,7 +152,7 @@ impl<'a> LangTag<'a> {
     /// ```
     #[inline]
     #[must_use]
-    pub const fn as_str(&self) -> &'a str {
+    pub const fn as_str(self) -> &'a str {
         self.text.0
     }
 
@@ -166,7 +168,7 @@ impl<'a> LangTag<'a> {
     /// ```
     #[inline]
     #[must_use]
-    pub fn as_bytes(&self) -> &'a [u8] {
+    pub fn as_bytes(self) -> &'a [u8] {
         self.as_str().as_bytes()
     }
 
@@ -188,7 +190,7 @@ impl<'a> LangTag<'a> {
     /// ```
     #[inline]
     #[must_use]
-    pub fn subtags(&self) -> Subtags<'a> {
+    pub fn subtags(self) -> Subtags<'a> {
         Subtags::new(self.as_str())
     }
 
@@ -196,9 +198,8 @@ impl<'a> LangTag<'a> {
     /// that is equal is a tag of the same kind. If both are normal tags, their parts are equal,
     /// ignoring case, and are at the same offsets.
     ///
-    /// It is proved that comparisons and hashes of tags also ignore case, and that a clone is the
-    /// same tag. A tag sorts after every longer tag that begins with its text: `zh` sorts after
-    /// `zh-Latn`.
+    /// Comparisons and hashes of tags also ignore case, and a clone is the same tag. A tag sorts
+    /// after every longer tag that begins with its text: `zh` sorts after `zh-Latn`.
     ///
     /// ```
     /// # fn main() -> Result<(), Box<dyn std::error::Error>> {
@@ -211,13 +212,12 @@ impl<'a> LangTag<'a> {
     /// ```
     #[inline]
     #[must_use]
-    pub fn eq_str(&self, other: &str) -> bool {
+    pub fn eq_str(self, other: &str) -> bool {
         self.text == Caseless(other)
     }
 
-    /// Returns the kind of the tag. The regular grandfathered tags are normal. It is proved that
-    /// kinds compare and hash by their position in the declaration of [`Kind`], and that a clone is
-    /// the same kind.
+    /// Returns the kind of the tag. The regular grandfathered tags are normal. Kinds compare and
+    /// hash by their position in the declaration of [`Kind`], and a clone is the same kind.
     ///
     /// ```
     /// # fn main() -> Result<(), Box<dyn std::error::Error>> {
@@ -231,7 +231,7 @@ impl<'a> LangTag<'a> {
     /// ```
     #[inline]
     #[must_use]
-    pub fn kind(&self) -> Kind {
+    pub fn kind(self) -> Kind {
         self.as_typed().kind()
     }
 
@@ -249,7 +249,7 @@ impl<'a> LangTag<'a> {
     /// ```
     #[inline]
     #[must_use]
-    pub fn as_typed(&self) -> TypedLangTag<'a> {
+    pub fn as_typed(self) -> TypedLangTag<'a> {
         match self.found {
             Recognised::Normal(ends) => {
                 TypedLangTag::Normal(NormalLangTag::with_ends(self.text.0, ends))
@@ -275,7 +275,7 @@ impl<'a> LangTag<'a> {
     /// ```
     #[inline]
     #[must_use]
-    pub fn is_normal(&self) -> bool {
+    pub fn is_normal(self) -> bool {
         self.found.is_normal()
     }
 
@@ -292,7 +292,7 @@ impl<'a> LangTag<'a> {
     /// ```
     #[inline]
     #[must_use]
-    pub fn is_private_use(&self) -> bool {
+    pub fn is_private_use(self) -> bool {
         self.found.is_private_use()
     }
 
@@ -317,7 +317,7 @@ impl<'a> LangTag<'a> {
     /// [RFC 5646 section 2.2.8]: https://www.rfc-editor.org/rfc/rfc5646#section-2.2.8
     #[inline]
     #[must_use]
-    pub fn is_grandfathered(&self) -> bool {
+    pub fn is_grandfathered(self) -> bool {
         self.as_grandfathered().is_some()
     }
 
@@ -336,7 +336,7 @@ impl<'a> LangTag<'a> {
     /// ```
     #[inline]
     #[must_use]
-    pub fn as_normal(&self) -> Option<NormalLangTag<'a>> {
+    pub fn as_normal(self) -> Option<NormalLangTag<'a>> {
         let ends = self.found.ends()?;
         Some(NormalLangTag::with_ends(self.text.0, ends))
     }
@@ -356,7 +356,7 @@ impl<'a> LangTag<'a> {
     /// ```
     #[inline]
     #[must_use]
-    pub fn as_private_use(&self) -> Option<PrivateUseLangTag<'a>> {
+    pub fn as_private_use(self) -> Option<PrivateUseLangTag<'a>> {
         if !self.is_private_use() {
             return None;
         }
@@ -378,7 +378,7 @@ impl<'a> LangTag<'a> {
     /// ```
     #[inline]
     #[must_use]
-    pub fn as_grandfathered(&self) -> Option<GrandfatheredLangTag> {
+    pub fn as_grandfathered(self) -> Option<GrandfatheredLangTag> {
         GrandfatheredLangTag::new(self.as_bytes()).ok()
     }
 
@@ -399,7 +399,7 @@ impl<'a> LangTag<'a> {
     /// ```
     #[cfg(feature = "alloc")]
     #[inline]
-    pub fn try_to_owned(&self) -> Result<LangTagBuf, AllocError> {
+    pub fn try_to_owned(self) -> Result<LangTagBuf, AllocError> {
         let text = try_string(self.as_str())?;
         Ok(LangTagBuf::with_found(text, self.found))
     }
@@ -420,7 +420,7 @@ impl<'a> LangTag<'a> {
     /// [RFC 5646 section 2.1.1]: https://www.rfc-editor.org/rfc/rfc5646#section-2.1.1
     #[inline]
     #[must_use]
-    pub fn in_recommended_case(&self) -> InRecommendedCase<'a> {
+    pub fn in_recommended_case(self) -> InRecommendedCase<'a> {
         InRecommendedCase::from_checked(self.as_str())
     }
 
@@ -439,7 +439,7 @@ impl<'a> LangTag<'a> {
     /// [RFC 5646 section 2.1.1]: https://www.rfc-editor.org/rfc/rfc5646#section-2.1.1
     #[inline]
     #[must_use]
-    pub fn is_in_recommended_case(&self) -> bool {
+    pub fn is_in_recommended_case(self) -> bool {
         is_in_recommended_case(self.as_bytes())
     }
 
@@ -462,7 +462,7 @@ impl<'a> LangTag<'a> {
     /// [RFC 5646 section 2.1.1]: https://www.rfc-editor.org/rfc/rfc5646#section-2.1.1
     #[cfg(feature = "alloc")]
     #[inline]
-    pub fn try_to_recommended_case(&self) -> Result<LangTagBuf, AllocError> {
+    pub fn try_to_recommended_case(self) -> Result<LangTagBuf, AllocError> {
         let mut owned = self.try_to_owned()?;
         owned.make_recommended_case();
         Ok(owned)
@@ -486,7 +486,7 @@ impl<'a> LangTag<'a> {
     /// ```
     #[inline]
     #[must_use]
-    pub fn language(&self) -> Option<Language<'a>> {
+    pub fn language(self) -> Option<Language<'a>> {
         Some(self.as_normal()?.language())
     }
 
@@ -504,7 +504,7 @@ impl<'a> LangTag<'a> {
     /// ```
     #[inline]
     #[must_use]
-    pub fn script(&self) -> Option<Script<'a>> {
+    pub fn script(self) -> Option<Script<'a>> {
         self.as_normal()?.script()
     }
 
@@ -522,7 +522,7 @@ impl<'a> LangTag<'a> {
     /// ```
     #[inline]
     #[must_use]
-    pub fn region(&self) -> Option<Region<'a>> {
+    pub fn region(self) -> Option<Region<'a>> {
         self.as_normal()?.region()
     }
 
@@ -540,7 +540,7 @@ impl<'a> LangTag<'a> {
     /// ```
     #[inline]
     #[must_use]
-    pub fn variants(&self) -> Variants<'a> {
+    pub fn variants(self) -> Variants<'a> {
         let Some(tag) = self.as_normal() else {
             return Variants::EMPTY;
         };
@@ -561,7 +561,7 @@ impl<'a> LangTag<'a> {
     /// ```
     #[inline]
     #[must_use]
-    pub fn extensions(&self) -> Extensions<'a> {
+    pub fn extensions(self) -> Extensions<'a> {
         let Some(tag) = self.as_normal() else {
             return Extensions::EMPTY;
         };
@@ -584,7 +584,7 @@ impl<'a> LangTag<'a> {
     /// ```
     #[inline]
     #[must_use]
-    pub fn private_use(&self) -> Option<PrivateUse<'a>> {
+    pub fn private_use(self) -> Option<PrivateUse<'a>> {
         self.as_normal()?.private_use()
     }
 
@@ -603,9 +603,9 @@ impl<'a> LangTag<'a> {
     /// ```
     #[inline]
     #[must_use]
-    pub fn base(&self) -> LangTag<'a> {
+    pub fn base(self) -> LangTag<'a> {
         let Some(tag) = self.as_normal() else {
-            return *self;
+            return self;
         };
         tag.base().as_lang_tag()
     }
@@ -627,7 +627,7 @@ impl<'a> LangTag<'a> {
     /// ```
     #[inline]
     #[must_use]
-    pub fn private_use_subtags(&self) -> PrivateUseIter<'a> {
+    pub fn private_use_subtags(self) -> PrivateUseIter<'a> {
         let Some(tag) = self.as_normal() else {
             return PrivateUseIter::empty();
         };

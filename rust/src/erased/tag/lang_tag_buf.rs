@@ -2,26 +2,19 @@
 
 //! Language tags of every kind that own their text.
 
-#[cfg(feature = "alloc")]
-use crate::erased::edit::EditError;
 use crate::erased::extension::Extensions;
 use crate::erased::language::Language;
 use crate::erased::place::{Region, Script, Variants};
-use crate::erased::private::PrivateUse;
-#[cfg(feature = "alloc")]
-use crate::erased::private::PrivateUseBuf;
+use crate::erased::private::{PrivateUse, PrivateUseBuf};
 use crate::erased::scan::Caseless;
-#[cfg(feature = "alloc")]
 use crate::erased::tag::edit::set_part;
 use crate::erased::tag::lang_tag::{InvalidLangTag, LangTag};
-#[cfg(feature = "alloc")]
 use crate::erased::tag::normal_lang_tag_buf::NormalLangTagBuf;
 use crate::erased::tag::part::Part;
 use crate::erased::tag::recognise_text::recognise_text;
 use crate::erased::tag::recognised::Recognised;
-#[cfg(feature = "alloc")]
 use crate::erased::tag::recommended_case::put_recommended_case;
-#[cfg(feature = "alloc")]
+use crate::erased::text::EditError;
 use alloc::string::String;
 use core::fmt;
 
@@ -38,16 +31,13 @@ use core::fmt;
 /// # Ok(())
 /// # }
 /// ```
-#[cfg(feature = "alloc")]
 pub struct LangTagBuf {
     text: Caseless<String>,
     found: Recognised,
 }
 
-#[cfg(feature = "alloc")]
 by_text!(LangTagBuf);
 
-#[cfg(feature = "alloc")]
 impl LangTagBuf {
     /// Parses a `String` as a language tag and keeps it, without copying.
     ///
@@ -85,7 +75,7 @@ impl LangTagBuf {
 
     /// Borrows the tag, without parsing it again.
     ///
-    /// It is proved that comparisons and hashes of owned tags ignore case.
+    /// Comparisons and hashes of owned tags ignore case.
     ///
     /// ```
     /// # fn main() -> Result<(), Box<dyn std::error::Error>> {
@@ -183,7 +173,6 @@ impl LangTagBuf {
     }
 }
 
-#[cfg(feature = "alloc")]
 impl LangTagBuf {
     /// Sets the language, as [`NormalLangTagBuf::set_language`] does: with `zh-yue`, `sl-IT`
     /// becomes `zh-yue-IT`.
@@ -327,7 +316,6 @@ impl LangTagBuf {
     }
 }
 
-#[cfg(feature = "alloc")]
 impl LangTagBuf {
     /// Sets a part of a normal tag, or removes it.
     #[inline]
@@ -341,7 +329,6 @@ impl LangTagBuf {
     }
 }
 
-#[cfg(feature = "alloc")]
 impl From<NormalLangTagBuf> for LangTagBuf {
     #[inline]
     fn from(tag: NormalLangTagBuf) -> LangTagBuf {
@@ -349,7 +336,6 @@ impl From<NormalLangTagBuf> for LangTagBuf {
     }
 }
 
-#[cfg(feature = "alloc")]
 impl From<PrivateUseBuf> for LangTagBuf {
     #[inline]
     fn from(tag: PrivateUseBuf) -> LangTagBuf {
@@ -357,7 +343,6 @@ impl From<PrivateUseBuf> for LangTagBuf {
     }
 }
 
-#[cfg(feature = "alloc")]
 impl fmt::Display for LangTagBuf {
     #[inline]
     fn fmt(&self, f: &mut fmt::Formatter<'_>) -> fmt::Result {

@@ -43,29 +43,32 @@
 //! Each part has a borrowed and an owned type, such as [`Script`] and `ScriptBuf`. This crate
 //! exports all these types, and also the parser over bytes, [`recognise`].
 
+#[cfg(feature = "alloc")]
 mod edit;
 mod grandfathered;
 mod kind;
 mod lang_tag;
+#[cfg(feature = "alloc")]
 mod lang_tag_buf;
 mod lengths;
 mod normal_lang_tag;
+#[cfg(feature = "alloc")]
 mod normal_lang_tag_buf;
 mod part;
 mod private_use_lang_tag;
 mod push;
 mod recognise_text;
-mod recognised;
+pub(crate) mod recognised;
+#[cfg(feature = "alloc")]
 mod recommended_case;
+mod refusal;
 mod repeats;
+#[cfg(feature = "alloc")]
 mod text_of_parts;
 mod typed_lang_tag;
+#[cfg(feature = "alloc")]
 mod written;
 
-pub use crate::erased::case::{is_in_recommended_case, make_recommended_case, InRecommendedCase};
-#[cfg(feature = "alloc")]
-pub use crate::erased::edit::EditError;
-pub use crate::erased::edit::Replacement;
 pub use crate::erased::extension::{
     Extension, ExtensionIter, ExtensionSubtag, Extensions, ExtensionsIter, InvalidExtension,
     InvalidExtensionSubtag, InvalidExtensions, InvalidSingleton, Singleton,
@@ -91,16 +94,18 @@ pub use crate::erased::private::{
 };
 #[cfg(feature = "alloc")]
 pub use crate::erased::private::{PrivateUseBuf, PrivateUseSubtagBuf};
-pub use crate::erased::recogniser::{
-    recognise, recognise_normal, viable_len, ByteSource, Found, Metered,
-};
-pub use crate::erased::refusal::{Refusal, RefusalKind};
 pub use crate::erased::scan::{
     case_insensitive_cmp, case_insensitive_eq, case_insensitive_hash, into_smallcase, is_extended,
     is_extension_subtag, is_mark, is_primary, is_private_subtag, is_region, is_script,
-    is_singleton, is_variant, Ends, Subtags,
+    is_singleton, is_variant, recognise, recognise_normal, viable_len, ByteSource, Ends, Found,
+    Metered, Subtags,
 };
 pub(crate) use crate::erased::scan::{segment_end, segment_start};
+#[cfg(feature = "alloc")]
+pub use crate::erased::text::EditError;
+pub use crate::erased::text::{
+    is_in_recommended_case, make_recommended_case, InRecommendedCase, Replacement,
+};
 pub use grandfathered::{GrandfatheredLangTag, InvalidGrandfatheredTag, GRANDFATHERED};
 pub use kind::Kind;
 pub use lang_tag::{InvalidLangTag, LangTag};
@@ -113,6 +118,7 @@ pub use part::{put_part, Part};
 pub use private_use_lang_tag::PrivateUseLangTag;
 #[cfg(feature = "alloc")]
 pub use private_use_lang_tag::PrivateUseLangTagBuf;
+pub use refusal::{Refusal, RefusalKind};
 pub use typed_lang_tag::TypedLangTag;
 
 // For the crates above that write or make tags.

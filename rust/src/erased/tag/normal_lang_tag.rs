@@ -2,7 +2,6 @@
 
 //! Normal tags, which are made of parts: rule `langtag` of RFC 5646 section 2.1.
 
-use crate::erased::case::{is_in_recommended_case, InRecommendedCase};
 use crate::erased::extension::{Extensions, Singleton};
 use crate::erased::language::Language;
 use crate::erased::place::{first_repeated_variant, Region, Script, Variant, Variants};
@@ -14,6 +13,7 @@ use crate::erased::tag::normal_lang_tag_buf::NormalLangTagBuf;
 use crate::erased::tag::recognise_text::normal_ends;
 use crate::erased::tag::recognised::Recognised;
 use crate::erased::tag::repeats::first_repeated_singleton;
+use crate::erased::text::{is_in_recommended_case, InRecommendedCase};
 #[cfg(feature = "alloc")]
 use crate::shim::{try_string, AllocError};
 use core::fmt;
@@ -70,8 +70,8 @@ by_text!(NormalLangTag<'_>);
 impl<'a> NormalLangTag<'a> {
     /// Parses a string as a normal tag.
     ///
-    /// It is proved that a normal tag splits into its parts in only one way, and that the parts,
-    /// joined by hyphens, are the whole string.
+    /// A normal tag splits into its parts in only one way, and the parts, joined by hyphens, are
+    /// the whole string.
     ///
     /// # Errors
     ///
@@ -105,7 +105,7 @@ impl<'a> NormalLangTag<'a> {
     /// Makes a normal tag from a string whose parts are known to end at these offsets, without
     /// parsing the string again.
     #[inline]
-    pub(crate) const fn with_ends(text: &'a str, ends: Ends) -> NormalLangTag<'a> {
+    pub(crate) fn with_ends(text: &'a str, ends: Ends) -> NormalLangTag<'a> {
         NormalLangTag {
             text: Caseless(text),
             ends,
@@ -124,7 +124,7 @@ impl<'a> NormalLangTag<'a> {
     /// ```
     #[inline]
     #[must_use]
-    pub const fn as_str(&self) -> &'a str {
+    pub fn as_str(self) -> &'a str {
         self.text.0
     }
 
@@ -140,7 +140,7 @@ impl<'a> NormalLangTag<'a> {
     /// ```
     #[inline]
     #[must_use]
-    pub fn as_bytes(&self) -> &'a [u8] {
+    pub fn as_bytes(self) -> &'a [u8] {
         self.as_str().as_bytes()
     }
 
@@ -160,7 +160,7 @@ impl<'a> NormalLangTag<'a> {
     /// ```
     #[inline]
     #[must_use]
-    pub fn subtags(&self) -> Subtags<'a> {
+    pub fn subtags(self) -> Subtags<'a> {
         Subtags::new(self.as_str())
     }
 
@@ -168,9 +168,8 @@ impl<'a> NormalLangTag<'a> {
     /// that is equal is a normal tag, too. The parts of both are equal, ignoring case, and are at
     /// the same offsets.
     ///
-    /// It is proved that comparisons and hashes of normal tags also ignore case, and that a clone
-    /// is the same tag. A tag sorts after every longer tag that begins with its text: `sl` sorts
-    /// after `sl-IT`.
+    /// Comparisons and hashes of normal tags also ignore case, and a clone is the same tag. A tag
+    /// sorts after every longer tag that begins with its text: `sl` sorts after `sl-IT`.
     ///
     /// ```
     /// # fn main() -> Result<(), Box<dyn std::error::Error>> {
@@ -182,7 +181,7 @@ impl<'a> NormalLangTag<'a> {
     /// ```
     #[inline]
     #[must_use]
-    pub fn eq_str(&self, other: &str) -> bool {
+    pub fn eq_str(self, other: &str) -> bool {
         self.text == Caseless(other)
     }
 
@@ -198,7 +197,7 @@ impl<'a> NormalLangTag<'a> {
     /// ```
     #[inline]
     #[must_use]
-    pub const fn as_lang_tag(&self) -> LangTag<'a> {
+    pub fn as_lang_tag(self) -> LangTag<'a> {
         LangTag::with_found(self.as_str(), Recognised::Normal(self.ends))
     }
 
@@ -217,7 +216,7 @@ impl<'a> NormalLangTag<'a> {
     /// ```
     #[inline]
     #[must_use]
-    pub fn ends(&self) -> Ends {
+    pub fn ends(self) -> Ends {
         self.ends
     }
 
@@ -233,7 +232,7 @@ impl<'a> NormalLangTag<'a> {
     /// ```
     #[inline]
     #[must_use]
-    pub fn language(&self) -> Language<'a> {
+    pub fn language(self) -> Language<'a> {
         Language::from_checked(self.language_str())
     }
 
@@ -251,7 +250,7 @@ impl<'a> NormalLangTag<'a> {
     /// ```
     #[inline]
     #[must_use]
-    pub fn script(&self) -> Option<Script<'a>> {
+    pub fn script(self) -> Option<Script<'a>> {
         let script = self.part(self.ends.language, self.ends.script)?;
         Some(Script::from_checked(script))
     }
@@ -270,7 +269,7 @@ impl<'a> NormalLangTag<'a> {
     /// ```
     #[inline]
     #[must_use]
-    pub fn region(&self) -> Option<Region<'a>> {
+    pub fn region(self) -> Option<Region<'a>> {
         let region = self.part(self.ends.script, self.ends.region)?;
         Some(Region::from_checked(region))
     }
@@ -288,7 +287,7 @@ impl<'a> NormalLangTag<'a> {
     /// ```
     #[inline]
     #[must_use]
-    pub fn variants(&self) -> Variants<'a> {
+    pub fn variants(self) -> Variants<'a> {
         Variants::from_checked(self.part_or_empty(self.ends.region, self.ends.variants))
     }
 
@@ -306,7 +305,7 @@ impl<'a> NormalLangTag<'a> {
     /// ```
     #[inline]
     #[must_use]
-    pub fn extensions(&self) -> Extensions<'a> {
+    pub fn extensions(self) -> Extensions<'a> {
         Extensions::from_checked(self.part_or_empty(self.ends.variants, self.ends.extensions))
     }
 
@@ -325,7 +324,7 @@ impl<'a> NormalLangTag<'a> {
     /// ```
     #[inline]
     #[must_use]
-    pub fn private_use(&self) -> Option<PrivateUse<'a>> {
+    pub fn private_use(self) -> Option<PrivateUse<'a>> {
         let private_use = self.part(self.ends.extensions, self.ends.whole)?;
         Some(PrivateUse::from_checked(private_use))
     }
@@ -347,7 +346,7 @@ impl<'a> NormalLangTag<'a> {
     /// ```
     #[inline]
     #[must_use]
-    pub fn base(&self) -> NormalLangTag<'a> {
+    pub fn base(self) -> NormalLangTag<'a> {
         let whole = self.ends.variants;
         let ends = Ends {
             language: self.ends.language,
@@ -375,7 +374,7 @@ impl<'a> NormalLangTag<'a> {
     /// ```
     #[inline]
     #[must_use]
-    pub fn private_use_subtags(&self) -> PrivateUseIter<'a> {
+    pub fn private_use_subtags(self) -> PrivateUseIter<'a> {
         match self.private_use() {
             Some(private_use) => private_use.iter(),
             None => PrivateUseIter::empty(),
@@ -404,7 +403,7 @@ impl<'a> NormalLangTag<'a> {
     /// [RFC 5646 section 2.2.5]: https://www.rfc-editor.org/rfc/rfc5646#section-2.2.5
     #[inline]
     #[must_use]
-    pub fn repeated_variant(&self) -> Option<Variant<'a>> {
+    pub fn repeated_variant(self) -> Option<Variant<'a>> {
         let index = self.repeated_variant_index()?;
         self.variants().iter().nth(index)
     }
@@ -422,7 +421,7 @@ impl<'a> NormalLangTag<'a> {
     /// ```
     #[inline]
     #[must_use]
-    pub fn repeated_variant_index(&self) -> Option<usize> {
+    pub fn repeated_variant_index(self) -> Option<usize> {
         first_repeated_variant(self.variants())
     }
 
@@ -445,7 +444,7 @@ impl<'a> NormalLangTag<'a> {
     /// [RFC 5646 section 2.2.6]: https://www.rfc-editor.org/rfc/rfc5646#section-2.2.6
     #[inline]
     #[must_use]
-    pub fn repeated_singleton(&self) -> Option<Singleton> {
+    pub fn repeated_singleton(self) -> Option<Singleton> {
         let index = self.repeated_singleton_index()?;
         Some(self.extensions().iter().nth(index)?.singleton())
     }
@@ -464,7 +463,7 @@ impl<'a> NormalLangTag<'a> {
     /// ```
     #[inline]
     #[must_use]
-    pub fn repeated_singleton_index(&self) -> Option<usize> {
+    pub fn repeated_singleton_index(self) -> Option<usize> {
         first_repeated_singleton(self.extensions())
     }
 
@@ -485,7 +484,7 @@ impl<'a> NormalLangTag<'a> {
     /// ```
     #[cfg(feature = "alloc")]
     #[inline]
-    pub fn try_to_owned(&self) -> Result<NormalLangTagBuf, AllocError> {
+    pub fn try_to_owned(self) -> Result<NormalLangTagBuf, AllocError> {
         let text = try_string(self.as_str())?;
         Ok(NormalLangTagBuf::with_ends(text, self.ends))
     }
@@ -506,7 +505,7 @@ impl<'a> NormalLangTag<'a> {
     /// [RFC 5646 section 2.1.1]: https://www.rfc-editor.org/rfc/rfc5646#section-2.1.1
     #[inline]
     #[must_use]
-    pub fn in_recommended_case(&self) -> InRecommendedCase<'a> {
+    pub fn in_recommended_case(self) -> InRecommendedCase<'a> {
         InRecommendedCase::from_checked(self.as_str())
     }
 
@@ -525,7 +524,7 @@ impl<'a> NormalLangTag<'a> {
     /// [RFC 5646 section 2.1.1]: https://www.rfc-editor.org/rfc/rfc5646#section-2.1.1
     #[inline]
     #[must_use]
-    pub fn is_in_recommended_case(&self) -> bool {
+    pub fn is_in_recommended_case(self) -> bool {
         is_in_recommended_case(self.as_bytes())
     }
 
@@ -548,7 +547,7 @@ impl<'a> NormalLangTag<'a> {
     /// [RFC 5646 section 2.1.1]: https://www.rfc-editor.org/rfc/rfc5646#section-2.1.1
     #[cfg(feature = "alloc")]
     #[inline]
-    pub fn try_to_recommended_case(&self) -> Result<NormalLangTagBuf, AllocError> {
+    pub fn try_to_recommended_case(self) -> Result<NormalLangTagBuf, AllocError> {
         let mut owned = self.try_to_owned()?;
         owned.make_recommended_case();
         Ok(owned)
@@ -556,14 +555,14 @@ impl<'a> NormalLangTag<'a> {
 
     /// Returns the string of the language.
     #[inline]
-    fn language_str(&self) -> &'a str {
+    fn language_str(self) -> &'a str {
         &self.as_str()[..self.ends.language]
     }
 
     /// Returns the string of a part, which begins after the hyphen at `before` and ends at `end`.
     /// Returns `None` if both offsets are equal, since the part is then absent.
     #[inline]
-    fn part(&self, before: usize, end: usize) -> Option<&'a str> {
+    fn part(self, before: usize, end: usize) -> Option<&'a str> {
         if before == end {
             return None;
         }
@@ -573,7 +572,7 @@ impl<'a> NormalLangTag<'a> {
     /// Returns what [`part`](NormalLangTag::part) returns, or the empty string if there is no such
     /// part.
     #[inline]
-    fn part_or_empty(&self, before: usize, end: usize) -> &'a str {
+    fn part_or_empty(self, before: usize, end: usize) -> &'a str {
         self.part(before, end).unwrap_or("")
     }
 }

@@ -7,22 +7,16 @@ use crate::erased::language::Language;
 use crate::erased::place::{Region, Script, Variants};
 use crate::erased::private::PrivateUse;
 use crate::erased::scan::{Caseless, Ends};
-#[cfg(feature = "alloc")]
 use crate::erased::tag::edit::set_part;
-#[cfg(feature = "alloc")]
 use crate::erased::tag::lang_tag_buf::LangTagBuf;
 use crate::erased::tag::lengths::{length_with_hyphen, Lengths};
 use crate::erased::tag::normal_lang_tag::{InvalidNormalLangTag, NormalLangTag};
 use crate::erased::tag::part::Part;
 use crate::erased::tag::recognise_text::normal_ends;
 use crate::erased::tag::recognised::Recognised;
-#[cfg(feature = "alloc")]
 use crate::erased::tag::recommended_case::put_recommended_case;
-#[cfg(feature = "alloc")]
 use crate::erased::tag::text_of_parts::join_parts;
-#[cfg(feature = "alloc")]
 use crate::shim::AllocError;
-#[cfg(feature = "alloc")]
 use alloc::string::String;
 use core::fmt;
 
@@ -38,16 +32,13 @@ use core::fmt;
 /// # Ok(())
 /// # }
 /// ```
-#[cfg(feature = "alloc")]
 pub struct NormalLangTagBuf {
     text: Caseless<String>,
     ends: Ends,
 }
 
-#[cfg(feature = "alloc")]
 by_text!(NormalLangTagBuf);
 
-#[cfg(feature = "alloc")]
 impl NormalLangTagBuf {
     /// Parses a `String` as a normal tag and keeps it, without copying.
     ///
@@ -124,7 +115,7 @@ impl NormalLangTagBuf {
 
     /// Borrows the tag, without parsing it again.
     ///
-    /// It is proved that comparisons and hashes of owned normal tags ignore case.
+    /// Comparisons and hashes of owned normal tags ignore case.
     ///
     /// ```
     /// # fn main() -> Result<(), Box<dyn std::error::Error>> {
@@ -369,7 +360,6 @@ impl NormalLangTagBuf {
     }
 }
 
-#[cfg(feature = "alloc")]
 impl NormalLangTagBuf {
     /// Sets a part of the tag, or removes it.
     #[inline]
@@ -379,7 +369,6 @@ impl NormalLangTagBuf {
     }
 }
 
-#[cfg(feature = "alloc")]
 impl fmt::Display for NormalLangTagBuf {
     #[inline]
     fn fmt(&self, f: &mut fmt::Formatter<'_>) -> fmt::Result {

@@ -3,14 +3,13 @@
 //! The parts of a normal tag (RFC 5646 section 2.1), and how a new part is put into the string of a
 //! tag.
 
-use crate::erased::edit::Replacement;
 use crate::erased::extension::Extensions;
 use crate::erased::language::Language;
-use crate::erased::output::write_pieces;
 use crate::erased::place::{Region, Script, Variants};
 use crate::erased::private::PrivateUse;
 use crate::erased::scan::Ends;
 use crate::erased::tag::normal_lang_tag::NormalLangTag;
+use crate::erased::text::{write_pieces, Replacement};
 
 /// A part of a normal tag ([RFC 5646 section 2.1]), as an argument of [`put_part`].
 ///
@@ -48,8 +47,8 @@ pub enum Part<'a> {
 /// 2.2.7). It does not allocate. The caller joins the bytes before `start`, the hyphen, the part,
 /// and the bytes from `end` on.
 ///
-/// To put the region `AT` into `de-DE-1996`, replace the bytes from 2 to 5 by a hyphen and `AT`. It
-/// is proved that a clone of a part is the same part.
+/// To put the region `AT` into `de-DE-1996`, replace the bytes from 2 to 5 by a hyphen and `AT`. A
+/// clone of a part is the same part.
 ///
 /// ```
 /// # fn main() -> Result<(), Box<dyn std::error::Error>> {

@@ -2,8 +2,8 @@
 
 //! Parts of a tag that are appended to an output.
 
-use crate::erased::output::Output;
 use crate::erased::private::PrivateUse;
+use crate::erased::text::Output;
 
 /// Appends the private use part, if there is one.
 #[inline]

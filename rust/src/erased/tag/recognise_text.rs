@@ -2,8 +2,7 @@
 
 //! The only file in which this crate calls a recogniser.
 
-use crate::erased::recogniser::{recognise, Found, Metered};
-use crate::erased::scan::Ends;
+use crate::erased::scan::{recognise, Ends, Found, Metered};
 use crate::erased::tag::grandfathered::GrandfatheredLangTag;
 use crate::erased::tag::recognised::Recognised;
 

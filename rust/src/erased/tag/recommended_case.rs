@@ -2,13 +2,11 @@
 
 //! The string of a tag in its recommended case.
 
-use crate::erased::case::make_recommended_case;
-#[cfg(feature = "alloc")]
+use crate::erased::text::make_recommended_case;
 use alloc::string::String;
 use core::mem;
 
 /// Changes an ASCII text to its recommended case, in place.
-#[cfg(feature = "alloc")]
 #[inline]
 pub(crate) fn put_recommended_case(text: &mut String) {
     let empty = String::new();

@@ -2,14 +2,11 @@
 
 //! The string of a language, a script and a region.
 
-#[cfg(feature = "alloc")]
 use crate::shim::{try_string_with_capacity, AllocError, TryText};
-#[cfg(feature = "alloc")]
 use alloc::string::String;
 
 /// Returns a new string that consists of a language, a script and a region, joined by hyphens. It
 /// first allocates `room` bytes. An empty script or region is left out.
-#[cfg(feature = "alloc")]
 #[inline]
 pub(crate) fn join_parts(
     room: usize,
@@ -25,7 +22,6 @@ pub(crate) fn join_parts(
 }
 
 /// Appends a hyphen and a part to a string, or nothing if the part is empty.
-#[cfg(feature = "alloc")]
 #[inline]
 fn push_part(text: &mut String, part: &str) -> Result<(), AllocError> {
     if part.is_empty() {

@@ -49,7 +49,7 @@ impl<'a> TypedLangTag<'a> {
     /// ```
     #[inline]
     #[must_use]
-    pub fn language(&self) -> Option<Language<'a>> {
+    pub fn language(self) -> Option<Language<'a>> {
         match self {
             TypedLangTag::Normal(tag) => Some(tag.language()),
             TypedLangTag::PrivateUse(_) => None,
@@ -57,8 +57,8 @@ impl<'a> TypedLangTag<'a> {
         }
     }
 
-    /// Returns the kind of the tag. It is proved that typed tags are equal if they have the same
-    /// kind and their strings are equal, ignoring case, and that a clone is the same value.
+    /// Returns the kind of the tag. Typed tags are equal if they have the same kind and their
+    /// strings are equal, ignoring case, and a clone is the same value.
     ///
     /// ```
     /// # fn main() -> Result<(), Box<dyn std::error::Error>> {
@@ -70,7 +70,7 @@ impl<'a> TypedLangTag<'a> {
     /// ```
     #[inline]
     #[must_use]
-    pub fn kind(&self) -> Kind {
+    pub fn kind(self) -> Kind {
         match self {
             TypedLangTag::Normal(_) => Kind::Normal,
             TypedLangTag::PrivateUse(_) => Kind::PrivateUse,
@@ -92,7 +92,7 @@ impl<'a> TypedLangTag<'a> {
     /// ```
     #[inline]
     #[must_use]
-    pub fn is_normal(&self) -> bool {
+    pub fn is_normal(self) -> bool {
         self.kind().is_normal()
     }
 
@@ -109,7 +109,7 @@ impl<'a> TypedLangTag<'a> {
     /// ```
     #[inline]
     #[must_use]
-    pub fn is_private_use(&self) -> bool {
+    pub fn is_private_use(self) -> bool {
         self.kind().is_private_use()
     }
 
@@ -131,7 +131,7 @@ impl<'a> TypedLangTag<'a> {
     /// ```
     #[inline]
     #[must_use]
-    pub fn is_grandfathered(&self) -> bool {
+    pub fn is_grandfathered(self) -> bool {
         self.kind().is_grandfathered()
     }
 
@@ -148,9 +148,9 @@ impl<'a> TypedLangTag<'a> {
     /// ```
     #[inline]
     #[must_use]
-    pub fn as_normal(&self) -> Option<NormalLangTag<'a>> {
+    pub fn as_normal(self) -> Option<NormalLangTag<'a>> {
         match self {
-            TypedLangTag::Normal(tag) => Some(*tag),
+            TypedLangTag::Normal(tag) => Some(tag),
             _ => None,
         }
     }
@@ -169,9 +169,9 @@ impl<'a> TypedLangTag<'a> {
     /// ```
     #[inline]
     #[must_use]
-    pub fn as_private_use(&self) -> Option<PrivateUseLangTag<'a>> {
+    pub fn as_private_use(self) -> Option<PrivateUseLangTag<'a>> {
         match self {
-            TypedLangTag::PrivateUse(tag) => Some(*tag),
+            TypedLangTag::PrivateUse(tag) => Some(tag),
             _ => None,
         }
     }
@@ -190,9 +190,9 @@ impl<'a> TypedLangTag<'a> {
     /// ```
     #[inline]
     #[must_use]
-    pub fn as_grandfathered(&self) -> Option<GrandfatheredLangTag> {
+    pub fn as_grandfathered(self) -> Option<GrandfatheredLangTag> {
         match self {
-            TypedLangTag::Grandfathered(tag) => Some(*tag),
+            TypedLangTag::Grandfathered(tag) => Some(tag),
             _ => None,
         }
     }

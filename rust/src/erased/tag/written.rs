@@ -2,15 +2,11 @@
 
 //! Tags whose bytes were written.
 
-#[cfg(feature = "alloc")]
 use crate::erased::tag::lang_tag_buf::LangTagBuf;
-#[cfg(feature = "alloc")]
 use alloc::string::String;
-#[cfg(feature = "alloc")]
 use alloc::vec::Vec;
 
 /// Converts bytes that are known to be a tag into that tag.
-#[cfg(feature = "alloc")]
 #[inline]
 #[must_use]
 pub fn tag_of(bytes: Vec<u8>) -> LangTagBuf {

@@ -3,10 +3,10 @@
 //! The canonical form of a tag's extensions `u` and `t` (UTS #35, part 1, Annex C).
 
 use crate::erased::keyword::push_extensions;
-use crate::erased::output::{write_text, Output};
 use crate::erased::tag::{push_private_use, LangTag, NormalLangTag};
 #[cfg(feature = "alloc")]
 use crate::erased::tag::{tag_of, LangTagBuf};
+use crate::erased::text::{write_text, Output};
 #[cfg(feature = "alloc")]
 use crate::shim::{try_vec, AllocError};
 #[cfg(feature = "alloc")]

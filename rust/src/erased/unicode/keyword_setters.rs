@@ -5,8 +5,8 @@
 use crate::erased::keyword::{
     invalid_type, is_unicode_key, push_edited, KeywordEdit, KeywordError,
 };
-use crate::erased::output::Output;
 use crate::erased::tag::{push_private_use, LangTag, NormalLangTag};
+use crate::erased::text::Output;
 use crate::erased::unicode::form::push_head;
 
 /// Writes a tag with a value of a key of the extension `u` ([RFC 6067 section 2.1]) to a buffer,

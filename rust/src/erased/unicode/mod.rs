@@ -25,7 +25,9 @@ mod extension_text;
 mod form;
 mod keyword_setters;
 mod keywords_iter;
+#[cfg(feature = "alloc")]
 mod owned_keywords;
+#[cfg(feature = "alloc")]
 mod set_keyword_error;
 mod transform_extension;
 mod transformation;

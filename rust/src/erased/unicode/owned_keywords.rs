@@ -3,15 +3,10 @@
 //! Setting and removing keywords of a tag that owns its text (RFC 6067 section 2.1).
 
 use crate::erased::keyword::{KeywordEdit, KeywordError};
-use crate::erased::tag::NormalLangTag;
-#[cfg(feature = "alloc")]
-use crate::erased::tag::{tag_of, LangTagBuf};
+use crate::erased::tag::{tag_of, LangTagBuf, NormalLangTag};
 use crate::erased::unicode::keyword_setters::{keyword_error, put_parts};
-#[cfg(feature = "alloc")]
 use crate::erased::unicode::set_keyword_error::SetKeywordError;
-#[cfg(feature = "alloc")]
 use crate::shim::{try_vec, AllocError};
-#[cfg(feature = "alloc")]
 use alloc::vec::Vec;
 
 /// Sets the value of a key of the extension `u` ([RFC 6067 section 2.1]): with `buddhist` for `ca`,
@@ -29,8 +24,8 @@ use alloc::vec::Vec;
 ///
 /// ```
 /// # fn main() -> Result<(), Box<dyn std::error::Error>> {
-/// use langtag::LangTag;
-/// use langtag::unicode::set_keyword;
+/// use langtag::erased::tag::LangTag;
+/// use langtag::erased::unicode::set_keyword;
 ///
 /// let mut tag = LangTag::new("de-x-a")?.to_owned();
 /// set_keyword(&mut tag, "ca", "buddhist")?;
@@ -40,7 +35,6 @@ use alloc::vec::Vec;
 /// ```
 ///
 /// [RFC 6067 section 2.1]: https://www.rfc-editor.org/rfc/rfc6067#section-2.1
-#[cfg(feature = "alloc")]
 pub fn set_keyword(tag: &mut LangTagBuf, key: &str, value: &str) -> Result<(), SetKeywordError> {
     if let Some(error) = keyword_error(key, value) {
         return Err(SetKeywordError::Keyword(error));
@@ -62,8 +56,8 @@ pub fn set_keyword(tag: &mut LangTagBuf, key: &str, value: &str) -> Result<(), S
 ///
 /// ```
 /// # fn main() -> Result<(), Box<dyn std::error::Error>> {
-/// use langtag::LangTag;
-/// use langtag::unicode::remove_keyword;
+/// use langtag::erased::tag::LangTag;
+/// use langtag::erased::unicode::remove_keyword;
 ///
 /// let mut tag = LangTag::new("th-u-ca-gregory-nu-thai")?.to_owned();
 /// remove_keyword(&mut tag, "ca")?;
@@ -73,7 +67,6 @@ pub fn set_keyword(tag: &mut LangTagBuf, key: &str, value: &str) -> Result<(), S
 /// ```
 ///
 /// [RFC 6067 section 2.1]: https://www.rfc-editor.org/rfc/rfc6067#section-2.1
-#[cfg(feature = "alloc")]
 pub fn remove_keyword(tag: &mut LangTagBuf, key: &str) -> Result<(), SetKeywordError> {
     if let Some(error) = keyword_error(key, "") {
         return Err(SetKeywordError::Keyword(error));
@@ -82,7 +75,6 @@ pub fn remove_keyword(tag: &mut LangTagBuf, key: &str) -> Result<(), SetKeywordE
 }
 
 /// Applies an edit to a tag. The new string is complete before the old string is dropped.
-#[cfg(feature = "alloc")]
 fn apply(tag: &mut LangTagBuf, edit: KeywordEdit<'_>) -> Result<(), SetKeywordError> {
     let Some(normal) = tag.as_lang_tag().as_normal() else {
         return Err(SetKeywordError::Keyword(KeywordError::NotNormal));
@@ -92,7 +84,6 @@ fn apply(tag: &mut LangTagBuf, edit: KeywordEdit<'_>) -> Result<(), SetKeywordEr
 }
 
 /// Returns a normal tag with a keyword set or removed.
-#[cfg(feature = "alloc")]
 #[inline]
 fn edited(tag: NormalLangTag<'_>, edit: KeywordEdit<'_>) -> Result<LangTagBuf, AllocError> {
     Ok(tag_of(edited_bytes(tag, edit)?))
@@ -100,7 +91,6 @@ fn edited(tag: NormalLangTag<'_>, edit: KeywordEdit<'_>) -> Result<LangTagBuf, A
 
 /// Returns the bytes of a normal tag with a keyword set or removed. It allocates once, exactly the
 /// length of the string.
-#[cfg(feature = "alloc")]
 #[inline]
 fn edited_bytes(tag: NormalLangTag<'_>, edit: KeywordEdit<'_>) -> Result<Vec<u8>, AllocError> {
     let mut bytes = try_vec(0, put_parts(tag, edit, &mut []))?;

@@ -3,7 +3,6 @@
 //! Why a keyword of an owned tag could not be set.
 
 use crate::erased::keyword::KeywordError;
-#[cfg(feature = "alloc")]
 use crate::shim::AllocError;
 use core::fmt;
 
@@ -13,8 +12,8 @@ use core::fmt;
 ///
 /// ```
 /// # fn main() -> Result<(), Box<dyn std::error::Error>> {
-/// use langtag::LangTag;
-/// use langtag::unicode::{KeywordError, SetKeywordError, set_keyword};
+/// use langtag::erased::tag::LangTag;
+/// use langtag::erased::unicode::{KeywordError, SetKeywordError, set_keyword};
 ///
 /// let mut tag = LangTag::new("x-a")?.to_owned();
 /// assert_eq!(
@@ -24,7 +23,6 @@ use core::fmt;
 /// # Ok(())
 /// # }
 /// ```
-#[cfg(feature = "alloc")]
 #[derive(Clone, Copy, Debug, PartialEq, Eq, Hash)]
 #[non_exhaustive]
 pub enum SetKeywordError {
@@ -34,7 +32,6 @@ pub enum SetKeywordError {
     Memory(AllocError),
 }
 
-#[cfg(feature = "alloc")]
 impl fmt::Display for SetKeywordError {
     #[inline]
     fn fmt(&self, f: &mut fmt::Formatter<'_>) -> fmt::Result {
@@ -45,10 +42,8 @@ impl fmt::Display for SetKeywordError {
     }
 }
 
-#[cfg(feature = "alloc")]
 impl core::error::Error for SetKeywordError {}
 
-#[cfg(feature = "alloc")]
 impl From<AllocError> for SetKeywordError {
     #[inline]
     fn from(error: AllocError) -> Self {

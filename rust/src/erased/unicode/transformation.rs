@@ -52,7 +52,7 @@ impl<'a> Transformation<'a> {
     /// ```
     #[inline]
     #[must_use]
-    pub fn language(&self) -> Option<&'a str> {
+    pub fn language(self) -> Option<&'a str> {
         nonempty(before_key(nonempty(self.text), Keys::Transform))
     }
 
@@ -72,7 +72,7 @@ impl<'a> Transformation<'a> {
     /// ```
     #[inline]
     #[must_use]
-    pub fn field(&self, key: &str) -> Option<&'a str> {
+    pub fn field(self, key: &str) -> Option<&'a str> {
         value_in(self.text, Keys::Transform, key.as_bytes())
     }
 
@@ -92,7 +92,7 @@ impl<'a> Transformation<'a> {
     /// ```
     #[inline]
     #[must_use]
-    pub fn fields(&self) -> KeywordsIter<'a> {
+    pub fn fields(self) -> KeywordsIter<'a> {
         KeywordsIter::new(self.text, Keys::Transform)
     }
 }

@@ -25,6 +25,7 @@ use crate::erased::unicode::keywords_iter::KeywordsIter;
 /// [RFC 6067 section 2.1]: https://www.rfc-editor.org/rfc/rfc6067#section-2.1
 /// [RFC 6497 section 2.2]: https://www.rfc-editor.org/rfc/rfc6497#section-2.2
 #[derive(Clone, Copy, Debug, PartialEq, Eq, Hash)]
+#[non_exhaustive]
 pub struct KeyValue<'a> {
     /// The key, as it is written.
     pub key: &'a str,

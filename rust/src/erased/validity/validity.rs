@@ -15,8 +15,8 @@ use crate::erased::validity::invalid_subtag::InvalidSubtag;
 /// Checks whether a tag is valid by the registry ([RFC 5646 section 2.2.9]). All its subtags must
 /// be registered. It must have at most one extended language, and no variant or singleton may occur
 /// twice. Grandfathered and private-use tags are valid: `fr-FR`, `zh-min` and `x-qt` are `Ok`.
-/// Prefixes of variants do not matter. It is proved that errors are equal if their kinds and
-/// subtags are equal, and that a clone is the same value.
+/// Prefixes of variants do not matter. Errors are equal if their kinds and subtags are equal, and a
+/// clone is the same value.
 ///
 /// # Errors
 ///

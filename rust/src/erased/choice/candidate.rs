@@ -1,0 +1,135 @@
+// Made by rust/erase from crates/langtag_choice/src/candidate.rt. Change that file, not this one.
+
+//! A tag that may serve a range.
+
+use crate::erased::choice::likely_region::unlikely;
+use crate::erased::choice::nearness::kept;
+use crate::erased::choice::variants::{has_variants, lacking_variants};
+use crate::erased::cldr::{basic_len, TagFields};
+use core::cmp::Ordering;
+
+/// How well a tag serves a range, the best first: at a distance below 16, at a distance below 50,
+/// or because only lookup finds it.
+#[derive(Clone, Copy, PartialEq, Eq, PartialOrd, Ord)]
+pub(crate) enum Service {
+    Near,
+    Acceptable,
+    LookUp,
+}
+
+impl Service {
+    /// Returns how well a tag serves a range at a distance, which is 50 if only lookup finds the
+    /// tag.
+    #[inline]
+    pub(crate) fn at(distance: u8) -> Service {
+        if distance < 16 {
+            Service::Near
+        } else if distance < 50 {
+            Service::Acceptable
+        } else {
+            Service::LookUp
+        }
+    }
+
+    /// Returns the least distance at which a tag serves a range in this way.
+    #[inline]
+    pub(crate) fn least_distance(self) -> u8 {
+        match self {
+            Service::Near => 0,
+            Service::Acceptable => 16,
+            Service::LookUp => 50,
+        }
+    }
+}
+
+/// The part of a candidate that is compared first. The lesser of two ranks is better, and the first
+/// field in which they differ decides.
+#[derive(Clone, Copy, PartialEq, Eq, PartialOrd, Ord)]
+pub(crate) struct Rank {
+    pub(crate) service: Service,
+    /// 1 minus the weight of the range, in thousandths.
+    pub(crate) lack: u32,
+    /// The number of ranges before the range.
+    pub(crate) place: usize,
+    /// The distance of the tag, which is 50 if only lookup finds the tag.
+    pub(crate) distance: u8,
+}
+
+impl Rank {
+    /// Returns whether the range has more weight than another range, or the same weight and fewer
+    /// ranges before it. The other range is given by its own `lack` and `place`.
+    #[inline]
+    pub(crate) fn is_wanted_more(self, lack: u32, place: usize) -> bool {
+        self.lack < lack || (self.lack == lack && self.place < place)
+    }
+
+    /// Returns whether the range is the one with this `lack` and `place`.
+    #[inline]
+    pub(crate) fn is_for(self, lack: u32, place: usize) -> bool {
+        self.lack == lack && self.place == place
+    }
+}
+
+/// A tag that may serve a range, with the tag's index and matching form.
+#[derive(Clone, Copy)]
+pub(crate) struct Candidate<'a, 't> {
+    pub(crate) rank: Rank,
+    pub(crate) range: &'a [u8],
+    /// The number of variants of the range.
+    pub(crate) variants: usize,
+    pub(crate) tag: &'t [u8],
+    pub(crate) form: Option<TagFields<'t>>,
+    pub(crate) index: usize,
+}
+
+impl Candidate<'_, '_> {
+    /// Returns whether this candidate is better than another.
+    pub(crate) fn goes_before(&self, other: &Candidate<'_, '_>) -> bool {
+        match self.rank.cmp(&other.rank) {
+            Ordering::Less => true,
+            Ordering::Greater => false,
+            Ordering::Equal => self.breaks_tie(other),
+        }
+    }
+
+    /// Returns whether this candidate is better than another of the same rank. It compares how many
+    /// of the variants of the range the tags lack, then how much lookup removes from the range,
+    /// then how likely the region is, and then the index.
+    fn breaks_tie(&self, other: &Candidate<'_, '_>) -> bool {
+        let (lacking, others_lacking) = (self.lacking(), other.lacking());
+        if lacking != others_lacking {
+            return lacking < others_lacking;
+        }
+        let (lost, others_lost) = (self.lost(), other.lost());
+        if lost != others_lost {
+            return lost < others_lost;
+        }
+        let (unlikely, others) = (unlikely(self.form), unlikely(other.form));
+        if unlikely != others {
+            return unlikely < others;
+        }
+        self.index < other.index
+    }
+
+    /// Returns how many of the variants of the range the tag lacks.
+    #[inline]
+    fn lacking(&self) -> usize {
+        if self.variants == 0 || !has_variants(self.tag) {
+            return self.variants;
+        }
+        lacking_variants(self.range, self.tag)
+    }
+
+    /// Returns how many bytes lookup removes from the range to find the tag, or the length of the
+    /// range if lookup does not find the tag.
+    #[inline]
+    fn lost(&self) -> usize {
+        basic_len(self.range).saturating_sub(kept(self.range, self.tag))
+    }
+}
+
+/// Returns the index of the tag that was found.
+#[inline]
+pub(crate) fn index_of(found: Option<Candidate<'_, '_>>) -> Option<usize> {
+    Some(found?.index)
+}

@@ -1,0 +1,65 @@
+// Made by rust/erase from crates/langtag_choice/src/range_language.rt. Change that file, not this one.
+
+//! The language of a range, and the languages that are near it.
+
+use crate::erased::choice::first_letters::first_two;
+use crate::erased::choice::read_range::starts;
+use crate::erased::choice::rule_distance::language_rule_keys;
+use crate::erased::cldr::{language_number, TagFields};
+
+/// The language with which a range begins, and the keys of the rules for it as the desired
+/// language.
+#[derive(Clone, Copy)]
+pub(crate) struct RangeLanguage {
+    /// The first two letters of the language, in lowercase.
+    pub(crate) letters: (u8, u8),
+    pub(crate) number: u32,
+    keys: &'static [u32],
+}
+
+impl RangeLanguage {
+    /// Returns the language of a range with this matching form, or `None` if the range does not
+    /// begin with it.
+    pub(crate) fn of(range: &[u8], form: Option<TagFields<'_>>) -> Option<RangeLanguage> {
+        let language = form?.language;
+        if language.len() > 3 || !starts(range, language) {
+            return None;
+        }
+        let number = language_number(language);
+        Some(RangeLanguage {
+            letters: first_two(language)?,
+            number,
+            keys: rule_keys(number * 32768),
+        })
+    }
+
+    /// Returns whether another language, given by its number, is neither this language nor near it.
+    #[inline]
+    pub(crate) fn is_far(&self, other: u32) -> bool {
+        other != self.number && !has_key(self.keys, self.number * 32768 + other)
+    }
+}
+
+/// Returns whether a key is among a few keys. For so few, `contains` takes longer.
+#[inline]
+fn has_key(keys: &[u32], key: u32) -> bool {
+    keys.iter().any(|own| *own == key)
+}
+
+/// Returns the keys of the rules from a number on, as far as 32,768 numbers go.
+#[inline]
+fn rule_keys(from: u32) -> &'static [u32] {
+    let keys = language_rule_keys();
+    let start = place(keys, from);
+    let end = place(keys, from + 32768);
+    &keys[start..end]
+}
+
+/// Returns the index of the first number that is at least `least`, in a list of ascending numbers.
+#[inline]
+fn place(numbers: &[u32], least: u32) -> usize {
+    match numbers.binary_search(&least) {
+        Ok(index) => index,
+        Err(index) => index,
+    }
+}

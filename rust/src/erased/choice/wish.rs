@@ -1,0 +1,67 @@
+// Made by rust/erase from crates/langtag_choice/src/wish.rt. Change that file, not this one.
+
+//! A range that a tag can serve.
+
+use crate::erased::choice::first_letters::{first_two, is_short, language_of};
+use crate::erased::choice::range_language::RangeLanguage;
+use crate::erased::choice::read_range::is_star;
+use crate::erased::choice::variants::variant_count;
+use crate::erased::cldr::{matching_form, TagFields};
+use crate::erased::range::WantedRange;
+
+/// A range other than `*`, its weight, which is not 0, and the number of ranges before it. The
+/// matching form of the range is computed once for many tags, and so is its language if the range
+/// begins with it.
+#[derive(Clone, Copy)]
+pub(crate) struct Wish<'a> {
+    pub(crate) range: &'a [u8],
+    pub(crate) weight: u32,
+    pub(crate) place: usize,
+    pub(crate) form: Option<TagFields<'a>>,
+    pub(crate) language: Option<RangeLanguage>,
+    /// The number of variants of the range.
+    pub(crate) variants: usize,
+}
+
+impl<'a> Wish<'a> {
+    /// Reads the range with `place` ranges before it, or returns `None` if it is `*` or has the
+    /// weight 0.
+    pub(crate) fn new(wanted: WantedRange<'a>, place: usize) -> Option<Wish<'a>> {
+        if wanted.weight == 0 || is_star(wanted.bytes) {
+            return None;
+        }
+        let form = matching_form(wanted.bytes);
+        Some(Wish {
+            range: wanted.bytes,
+            weight: wanted.weight,
+            place,
+            form,
+            language: RangeLanguage::of(wanted.bytes, form),
+            variants: variant_count(wanted.bytes),
+        })
+    }
+
+    /// Returns whether the first letters of a tag show that it cannot serve the range: the tag has
+    /// a two-letter language with which the range does not begin, and which is not near the
+    /// language of the range.
+    pub(crate) fn is_far_from(&self, tag: &[u8]) -> bool {
+        let Some(letters) = first_two(tag) else {
+            return false;
+        };
+        match language_of(letters) {
+            Some(number) => self.is_far_from_language(letters, number) && is_short(tag),
+            None => false,
+        }
+    }
+
+    /// Returns whether a tag cannot serve the range, given by its first letters and the number of
+    /// its language: the range does not begin with these letters, and the language is not near the
+    /// language of the range.
+    #[inline]
+    pub(crate) fn is_far_from_language(&self, letters: (u8, u8), number: u32) -> bool {
+        match self.language {
+            Some(own) => own.is_far(number) && letters != own.letters,
+            None => false,
+        }
+    }
+}

@@ -1,0 +1,110 @@
+// Made by rust/erase from crates/langtag_parent/src/base.rt. Change that file, not this one.
+
+//! The language, the script and the region of a tag.
+
+use crate::erased::cldr::TagFields;
+use crate::erased::place::{Region, Script};
+use crate::erased::tag::NormalLangTag;
+
+/// A language with its extended subtags, a script and a region. The script and the region are empty
+/// if they are absent.
+#[derive(Clone, Copy, Debug)]
+pub(crate) struct Base<'a> {
+    pub language: &'a [u8],
+    pub script: &'a [u8],
+    pub region: &'a [u8],
+}
+
+impl<'a> Base<'a> {
+    /// Returns the language, the script and the region of a tag.
+    #[inline]
+    pub(crate) fn of(tag: NormalLangTag<'a>) -> Base<'a> {
+        Base {
+            language: tag.language().as_bytes(),
+            script: script_field(tag.script()),
+            region: region_field(tag.region()),
+        }
+    }
+
+    /// Returns fields of CLDR.
+    #[inline]
+    pub(crate) fn of_fields(fields: TagFields<'a>) -> Base<'a> {
+        Base {
+            language: fields.language,
+            script: fields.script,
+            region: fields.region,
+        }
+    }
+
+    /// Returns the fields as CLDR reads them, or `None` if CLDR has no such language, because it
+    /// has more than three bytes.
+    #[inline]
+    pub(crate) fn fields(self) -> Option<TagFields<'a>> {
+        if self.language.len() > 3 {
+            return None;
+        }
+        Some(TagFields {
+            language: self.language,
+            script: self.script,
+            region: self.region,
+        })
+    }
+
+    /// Returns the language alone.
+    #[inline]
+    pub(crate) fn language_alone(self) -> Base<'a> {
+        Base {
+            language: self.language,
+            script: b"",
+            region: b"",
+        }
+    }
+
+    /// Returns the language and the region.
+    #[inline]
+    pub(crate) fn without_script(self) -> Base<'a> {
+        Base {
+            language: self.language,
+            script: b"",
+            region: self.region,
+        }
+    }
+
+    /// Returns the language and the script.
+    #[inline]
+    pub(crate) fn without_region(self) -> Base<'a> {
+        Base {
+            language: self.language,
+            script: self.script,
+            region: b"",
+        }
+    }
+
+    /// Returns the fields with another script.
+    #[inline]
+    pub(crate) fn with_script(self, script: &'a [u8]) -> Base<'a> {
+        Base {
+            language: self.language,
+            script,
+            region: self.region,
+        }
+    }
+}
+
+/// Returns the string of a script, or the empty string if there is none.
+#[inline]
+fn script_field<'a>(script: Option<Script<'a>>) -> &'a [u8] {
+    match script {
+        Some(script) => script.as_bytes(),
+        None => b"",
+    }
+}
+
+/// Returns the string of a region, or the empty string if there is none.
+#[inline]
+fn region_field<'a>(region: Option<Region<'a>>) -> &'a [u8] {
+    match region {
+        Some(region) => region.as_bytes(),
+        None => b"",
+    }
+}

@@ -1,0 +1,60 @@
+// Made by rust/erase from crates/langtag_parent/src/scripts.rt. Change that file, not this one.
+
+//! The scripts in which a language is written.
+
+use crate::erased::cldr::{add_likely, TagFields};
+use crate::erased::parent::base::Base;
+use crate::erased::scan::case_insensitive_eq;
+
+/// Returns whether there is a script, and it is the one in which the language is usually written in
+/// the region.
+pub(crate) fn has_likely_script(base: Base<'_>) -> bool {
+    if base.script.is_empty() {
+        return false;
+    }
+    match likely_script(base.without_script()) {
+        Some(likely) => case_insensitive_eq(base.script, likely),
+        None => false,
+    }
+}
+
+/// Returns the fields without a script that is likely anyway.
+#[inline]
+pub(crate) fn short<'a>(base: Base<'a>) -> Base<'a> {
+    if has_likely_script(base) {
+        base.without_script()
+    } else {
+        base
+    }
+}
+
+/// Returns the likely script of fields without a script, if the language is usually written in
+/// another one.
+pub(crate) fn other_script<'a>(base: Base<'a>) -> Option<&'a [u8]> {
+    if !base.script.is_empty() {
+        return None;
+    }
+    let here = likely_script(base)?;
+    let alone = likely_script(base.language_alone())?;
+    if case_insensitive_eq(here, alone) {
+        None
+    } else {
+        Some(here)
+    }
+}
+
+/// Returns whether the script is the likely script of the language, or no likely script is known.
+#[inline]
+pub(crate) fn is_usual_script(base: Base<'_>) -> bool {
+    match likely_script(base.language_alone()) {
+        Some(alone) => case_insensitive_eq(base.script, alone),
+        None => true,
+    }
+}
+
+/// Returns the script in which a language is most likely written in a region, or everywhere if
+/// there is no region. Returns `None` if CLDR has no likely subtags of the language.
+#[inline]
+fn likely_script<'a>(base: Base<'a>) -> Option<&'a [u8]> {
+    Some(add_likely(base.fields()?)?.script)
+}

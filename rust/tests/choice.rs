@@ -1,0 +1,234 @@
+//! The choice for a reader: a prepared site chooses as the calls over its tags do, and all suitable tags are those that a program gets
+//! which removes each tag that was chosen, and asks again.
+#![cfg(all(feature = "alloc", feature = "data"))]
+use langtag::choice::{
+    best_for_accept_language, best_for_header, best_for_ranges, match_for_header, suitable_among,
+    suitable_for_header, suitable_for_ranges, write_suitable, Site,
+};
+use langtag::matching::AcceptLanguage;
+use langtag::{LangTag, LangTagBuf};
+use std::time::{Duration, Instant};
+
+/// Ranges, tags and other texts.
+const PIECES: &str = "\
+    en de-CH gsw zh-TW zh und * sr-Latn sh nb no en-GB pt es-MX fr_FR zh-*-Hant x-a i-klingon \
+    tlh iw cmn-Hans yue en-x-a de-DE-1996 und-DE und-Latn mo in ar-MA pt-AO en-AU bh bho tl fil \
+    tw ak yu yue-HK nn-NO ceb id ms jw ji zh-yue ger en-GB-oed de de-AT es-419 es pt-PT zh-Hant \
+    zh-Hans en-US da";
+
+/// Numbers that look random, the same in each run.
+struct Numbers(u64);
+
+impl Numbers {
+    fn below(&mut self, limit: usize) -> usize {
+        self.0 = self
+            .0
+            .wrapping_mul(6_364_136_223_846_793_005)
+            .wrapping_add(1);
+        (self.0 >> 33) as usize % limit
+    }
+
+    fn piece(&mut self) -> &'static str {
+        let pieces = PIECES.split_whitespace();
+        pieces.clone().nth(self.below(pieces.count())).unwrap()
+    }
+
+    fn element(&mut self) -> String {
+        let range = self.piece();
+        match self.below(4) {
+            0 => range.to_string(),
+            1 => format!("{range};q=0"),
+            _ => format!("{range};q=0.{}", self.below(10)),
+        }
+    }
+
+    fn list<T>(&mut self, most: usize, mut item: impl FnMut(&mut Self) -> T) -> Vec<T> {
+        (0..1 + self.below(most)).map(|_| item(self)).collect()
+    }
+}
+
+#[test]
+fn random_headers_choose_alike() {
+    let mut numbers = Numbers(7);
+    for _ in 0..20_000 {
+        let header = numbers.list(6, Numbers::element).join(",");
+        // Some entries, such as `fr_FR`, are not tags.
+        let tags = numbers.list(8, Numbers::piece);
+        let site = Site::new(&tags[..]);
+        let best = best_for_header(&header, &tags);
+        assert_eq!(
+            site.best_for_header(&header),
+            best.map(|index| &tags[index]),
+            "{header} {tags:?}"
+        );
+        let found = match_for_header(&header, &tags);
+        assert_eq!(site.match_for_header(&header), found, "{header} {tags:?}");
+        let accepted = AcceptLanguage::lenient(&header);
+        let best = best_for_accept_language(&accepted, &tags);
+        assert_eq!(
+            site.best_for_accept_language(&accepted),
+            best.map(|index| &tags[index])
+        );
+        let wishes = numbers.list(4, Numbers::piece);
+        let best = best_for_ranges(&wishes, &tags);
+        assert_eq!(
+            site.best_for_ranges(&wishes),
+            best.map(|index| &tags[index]),
+            "{wishes:?} {tags:?}"
+        );
+        assert_eq!(
+            best_for_header(&header, &site),
+            best_for_header(&header, &tags)
+        );
+    }
+}
+
+#[test]
+fn sites_of_each_kind_of_entry() {
+    let borrowed = [
+        LangTag::new("en").unwrap(),
+        LangTag::new("zh-Hant").unwrap(),
+    ];
+    let owned: Vec<LangTagBuf> = borrowed.iter().map(|tag| tag.to_owned()).collect();
+    let strings = ["en".to_string(), "zh-Hant".to_string()];
+    assert_eq!(
+        Site::new(&borrowed[..]).best_for_header("zh-TW"),
+        Some(&borrowed[1])
+    );
+    assert_eq!(
+        Site::new(&owned[..]).best_for_header("zh-TW"),
+        Some(&owned[1])
+    );
+    assert_eq!(
+        Site::new(&strings[..]).best_for_header(b"zh-TW"),
+        Some(&strings[1])
+    );
+    let none: [&str; 0] = [];
+    assert_eq!(Site::new(&none[..]).best_for_header("en"), None);
+    assert_eq!(Site::new(["not a tag"]).best_for_header("en"), None);
+    assert_eq!(Site::new(&borrowed[..]).tags(), borrowed);
+    assert_eq!(format!("{:?}", Site::new(["en"])), "Site([\"en\"])");
+}
+
+#[test]
+fn threads_share_a_site() {
+    let tags = ["en", "de", "zh-Hant"];
+    let site = Site::new(&tags[..]);
+    std::thread::scope(|scope| {
+        for _ in 0..4 {
+            scope.spawn(|| {
+                for (header, tag) in [("gsw", "de"), ("zh-TW", "zh-Hant"), ("en-AU", "en")] {
+                    assert_eq!(site.best_for_header(header), Some(&tag));
+                }
+            });
+        }
+    });
+}
+
+/// Removes each tag that is chosen, and asks again. Returns the indices in the whole list.
+fn removed_in_turn(tags: &[&str], best: impl Fn(&[&str]) -> Option<usize>) -> Vec<usize> {
+    let (mut left, mut indices) = (tags.to_vec(), (0..tags.len()).collect::<Vec<_>>());
+    let mut found = Vec::new();
+    while let Some(index) = best(&left) {
+        left.remove(index);
+        found.push(indices.remove(index));
+    }
+    found
+}
+
+#[test]
+fn random_tags_in_turn() {
+    let cases = std::env::var("LANGTAG_CASES").map_or(4_000_usize, |text| text.parse().unwrap());
+    let mut numbers = Numbers(11);
+    for case in 0..cases {
+        let header = numbers.list(6, Numbers::element).join(",");
+        let tags = numbers.list([6, 12, 80][case % 3], Numbers::piece);
+        let found = removed_in_turn(&tags, |left| best_for_header(&header, left));
+        assert_eq!(
+            suitable_for_header(&header, &tags),
+            found,
+            "{header} {tags:?}"
+        );
+        let most = numbers.below(6);
+        let mut some = vec![usize::MAX; most];
+        let written = write_suitable(header.as_bytes(), &tags, &mut some).len();
+        assert_eq!(some[..written], found[..most.min(found.len())]);
+        assert!(some[written..].iter().all(|index| *index == usize::MAX));
+        let site = Site::new(&tags[..]);
+        let names: Vec<&&str> = found.iter().map(|index| &tags[*index]).collect();
+        assert_eq!(site.suitable_for_header(&header), names);
+        let ranges = numbers.list(4, Numbers::piece);
+        let found = removed_in_turn(&tags, |left| best_for_ranges(&ranges, left));
+        assert_eq!(
+            suitable_for_ranges(&ranges, &tags),
+            found,
+            "{ranges:?} {tags:?}"
+        );
+        let names: Vec<&&str> = found.iter().map(|index| &tags[*index]).collect();
+        assert_eq!(site.suitable_for_ranges(&ranges), names);
+    }
+}
+
+#[test]
+fn same_tags_come_in_their_order() {
+    assert_eq!(
+        suitable_for_header("de", &["de", "en", "DE", "de"]),
+        [0, 2, 3]
+    );
+}
+
+#[test]
+fn none_and_one() {
+    let none: [&str; 0] = [];
+    assert!(suitable_for_header("de", &none).is_empty());
+    assert!(suitable_for_header("", &["de"]).is_empty());
+    assert!(suitable_for_header("ja", &["de", "en"]).is_empty());
+    assert!(write_suitable(&b"de"[..], &["de"], &mut []).is_empty());
+    assert_eq!(suitable_for_header("gsw", &["ja", "de"]), [1]);
+}
+
+#[test]
+fn refused_tags_are_left_out() {
+    let tags = ["de", "de-CH", "en", "fr"];
+    assert_eq!(suitable_for_header("de,en;q=0.5,de-CH;q=0", &tags), [0, 2]);
+    let mut many = vec!["en"; 70];
+    many.extend(["de-CH", "de"]);
+    assert_eq!(suitable_for_header("de,de-CH;q=0", &many), [71]);
+}
+
+#[test]
+fn a_parsed_header() {
+    let accepted = AcceptLanguage::lenient("nn;q=0.5, de");
+    assert_eq!(
+        suitable_among(accepted.ranges(), &["nb", "en", "de"]),
+        [2, 0]
+    );
+}
+
+/// Headers of 8,192 bytes and 1,000 tags: with weights in ascending order, and with 815 ranges of weight 0. If each answer repeated
+/// the whole choice, or if each tag read the whole header, this would take minutes even with optimization.
+#[test]
+fn a_long_header_and_many_tags() {
+    let pair = |n: usize| {
+        [n % 26, n / 26 % 26]
+            .map(|n| char::from(b'a' + n as u8))
+            .iter()
+            .collect::<String>()
+    };
+    let wanted = (0..546).map(|n| format!("{}-AB;q=0.{:03}", pair(n), n + 1));
+    let refused = (0..815).map(|n| format!("{}-QQ;q=0", pair(n)));
+    let refused = refused.chain(["en;q=0.1,de;q=0.2,fr;q=0.3,es;q=0.4,pt".to_owned()]);
+    let headers = [wanted.collect::<Vec<_>>(), refused.collect()].map(|found| found.join(","));
+    let languages = ["en", "de", "fr", "es", "pt", "it", "nl", "sv", "ar", "zh"];
+    let texts = (0..1000).map(|n| format!("{}-{}", languages[n % 10], pair(n / 10)));
+    let texts = texts.collect::<Vec<_>>();
+    let tags = texts
+        .iter()
+        .map(|tag| LangTag::new(tag).unwrap())
+        .collect::<Vec<_>>();
+    let begun = Instant::now();
+    for header in headers {
+        assert!(suitable_for_header(&header, &tags).len() > 490);
+    }
+    assert!(begun.elapsed() < Duration::from_secs(60));
+}
