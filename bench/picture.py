@@ -1,9 +1,9 @@
 #!/usr/bin/env python3
-"""Draws the times of one run: picture.py TIMES >times.svg. A line of TIMES has a list of tags, a parser, and the nanoseconds for a tag,
+"""Draws the times of one run: picture.py TIMES >times.svg. A line of TIMES has a list of tags, `/`, a parser, and the nanoseconds for a tag,
 or words in place of a number. The picture has ratios, since times of another machine or another run would differ. The text of a line that
 begins with # is shown below the picture.
 
-`bindings/bench/run` measures the times, and calls this program.
+`bench/run` measures the times, and calls this program.
 """
 from __future__ import annotations
 
@@ -97,9 +97,10 @@ def main(path: str) -> None:
         if line.startswith("#"):
             note = line.lstrip("# ")
             continue
-        name, parser, value = line.split("\t")
-        if parser in PARSERS:
-            times.setdefault(name, {})[parser] = value
+        case, value, *words = line.split()
+        name, _, parser = case.partition("/")
+        if name in LISTS and parser in PARSERS:
+            times.setdefault(name, {})[parser] = value if value[0].isdigit() else " ".join([value, *words])
     print(picture({name: ratios(found) for name, found in times.items()}, note), end="")
 
 
