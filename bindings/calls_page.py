@@ -1,5 +1,5 @@
 """Writes docs/CALLS.md and the table of README from bindings/calls.txt: a row for a task, and a column for a language. A name is linked to
-the first section of the language's page that shows it in code, or else to the file that declares it."""
+the first section of the language's page that shows it in code, if there is one."""
 from __future__ import annotations
 
 import pathlib
@@ -13,34 +13,43 @@ SHORT = 8  # the rows of README's table
 
 
 class Language(NamedTuple):
-    """A language: its name, its page, the file that declares its calls, and the files in which every name has to be."""
+    """A language: its name, its page, and the files in which every name has to be."""
 
     name: str
     page: str
-    declared: str
     names: str
 
 
 LANGUAGES = [
-    Language("Rust", "rust/README.md", "rust/api.txt", "rust/api.txt"),
-    Language("C", "docs/C.md", "bindings/include/langtag.h", "bindings/include/langtag.h"),
-    Language("C++", "docs/C.md", "bindings/include/langtag.hpp", "bindings/include/langtag.h bindings/include/langtag_names.hpp"),
-    Language("Python", "docs/PYTHON.md", "bindings/python/langtag/__init__.py", "bindings/python/langtag/_ctypes.py"),
-    Language("JavaScript", "docs/JAVASCRIPT.md", "bindings/js/index.d.ts", "bindings/js/index.d.ts"),
-    Language("PostgreSQL", "docs/POSTGRESQL.md", "bindings/postgresql/langtag.sql.in", "bindings/postgresql/langtag.sql.in"),
-    Language("SQLite", "docs/SQLITE.md", "bindings/sqlite/sqlite_langtag.c", "bindings/sqlite/sqlite_langtag.c"),
+    Language("Rust", "rust/README.md", "rust/api.txt"),
+    Language("C", "docs/C.md", "bindings/include/langtag.h"),
+    Language("C++", "docs/C.md", "bindings/include/langtag.hpp bindings/include/langtag.h bindings/include/langtag_names.hpp"),
+    Language("Python", "docs/PYTHON.md", "bindings/python/langtag/__init__.py bindings/python/langtag/_native.pyi"),
+    Language("JavaScript", "docs/JAVASCRIPT.md", "bindings/js/index.d.ts"),
+    Language("PostgreSQL", "docs/POSTGRESQL.md", "bindings/postgresql/langtag.sql.in"),
+    Language("SQLite", "docs/SQLITE.md", "bindings/sqlite/sqlite_langtag.c"),
+]
+# The tables of the page: their columns, and where every call is documented. A table of all columns would not fit into a page.
+TABLES = [
+    (0, 3, "Every call is documented: for Rust by `cargo doc --open`, for C in [langtag.h](../bindings/include/langtag.h), and for C++ in\n[langtag.hpp](../bindings/include/langtag.hpp)."),
+    (3, 5, "Every call is documented: for Python by `help(langtag)`, and for JavaScript in [index.d.ts](../bindings/js/index.d.ts)."),
+    (5, 7, "The pages of [PostgreSQL](POSTGRESQL.md#types-and-functions) and [SQLite](SQLITE.md#functions) list every function."),
 ]
 IN_README = ["Python", "JavaScript", "Rust", "C"]
-OF_THE_LANGUAGE = {"==", "<", "=", "Hash", "std::hash", "to_ascii_lowercase", "lower", "COLLATE NOCASE"}  # what the language itself has
+OF_THE_LANGUAGE = {"==", "<", "=", "Hash", "std::hash", "to_ascii_lowercase", "lower", "COLLATE langtag"}  # what the language itself has
 FILES = {SOURCE, PAGE, README, *(name for language in LANGUAGES for names in language[1:] for name in names.split())}
 
 HEAD = """\
 # Calls
 
-A row is a task, and a column has the names of a language. A link leads to the section of the language's page that shows the call, or to the
-file that declares it. `-` means that the language has no such call.
-
+A row is a task, and a column has the names of a language. A link leads to the section of the language's page that shows the call. `-` means
+that the language has no such call.
 """
+
+
+def relative(page: str) -> str:
+    """Returns the path of a page, as a link on a page of docs/ has it."""
+    return page.removeprefix("docs/") if page.startswith("docs/") else f"../{page}"
 
 
 def rows(root: pathlib.Path) -> list[list[str]]:
@@ -74,17 +83,17 @@ class Linker:
     def __init__(self, root: pathlib.Path, language: Language):
         self.language, self.root = language, root
         self.sections = sections((root / language.page).read_text(encoding="utf-8"))
-        self.known = "".join((root / name).read_text(encoding="utf-8") for name in {language.declared, *language.names.split()})
+        self.known = "".join((root / name).read_text(encoding="utf-8") for name in language.names.split())
 
-    def place(self, name: str) -> str:
-        """Returns the path of a name, and the section if it is in the page of the language."""
+    def linked(self, name: str) -> str:
+        """Returns a name with a link to the first section of the language's page that has it."""
         for anchor, code in self.sections:
             if re.search(pattern(name), code) and len(name) > 2:
-                return f"{self.language.page}#{anchor}"
-        return self.language.page if name in OF_THE_LANGUAGE else self.language.declared
+                return f"[`{name}`]({relative(self.language.page)}#{anchor})"
+        return f"`{name}`"
 
     def cell(self, text: str) -> str:
-        return ", ".join(f"[`{name}`]({pathlib.PurePosixPath('..') / self.place(name)})".replace("(../docs/", "(") for name in names_in(text)) or "-"
+        return ", ".join(map(self.linked, names_in(text))) or "-"
 
     def unknown(self, text: str) -> list[str]:
         return [name for name in names_in(text) if name not in OF_THE_LANGUAGE and not re.search(pattern(name), self.known)]
@@ -104,10 +113,15 @@ def short_table(all_rows: list[list[str]]) -> str:
 def pages(root: pathlib.Path) -> dict[str, str]:
     """Returns the text of docs/CALLS.md and of README."""
     all_rows, linkers = rows(root), [Linker(root, language) for language in LANGUAGES]
-    heads = [f"[{language.name}]({pathlib.PurePosixPath('..') / language.page})".replace("(../docs/", "(") for language in LANGUAGES]
+    heads = [f"[{language.name}]({relative(language.page)})" for language in LANGUAGES]
     lines = [[row[0], *(linker.cell(cell) for linker, cell in zip(linkers, row[1:]))] for row in all_rows]
+    parts = [HEAD]
+    for begin, end, documented in TABLES:
+        names = [language.name for language in LANGUAGES[begin:end]]
+        has = [[line[0], *line[begin + 1 : end + 1]] for line in lines if set(line[begin + 1 : end + 1]) != {"-"}]
+        parts.append(f"## {', '.join(names[:-1])} and {names[-1]}\n\n{documented}\n\n{table(['to', *heads[begin:end]], has)}")
     readme = (root / README).read_text(encoding="utf-8")
-    return {PAGE: HEAD + table(["to", *heads], lines),
+    return {PAGE: "\n".join(parts),
             README: re.sub(r"(?m)^to \|.*\n(?:.+\n)+", lambda _: short_table(all_rows), readme, count=1)}
 
 

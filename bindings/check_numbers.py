@@ -12,16 +12,15 @@ VERSIONS = [
     ("rust/c/Cargo.toml", r'^version = "([^"]+)"'),
     ("bindings/python/pyproject.toml", r'^version = "([^"]+)"'),
     ("bindings/python/langtag/__init__.py", r'^__version__ = "([^"]+)"'),
-    ("bindings/js/package.json", r'^  "version": "([^"]+)"'),
+    ("bindings/js/package.json", r'^  "version": "([^"]+)\+cargo"'),
 ]
 NUMBERS = [
     ("bindings/c/Makefile", r"\.so\.([0-9]+)"), ("bindings/c/langtag_verified.map", r"LANGTAG_VERIFIED_([0-9]+) "),
-    ("bindings/python/langtag/_library.py", r"\.so\.([0-9]+)"), ("bindings/python/backend.py", r"\.so\.([0-9]+)"),
 ]
 
 # The file with the registry's date, and the files that get the date from the library and so must not have a copy of it.
 DATED = "crates/langtag_fields/src/tables.rt"
-UNDATED = ["crates/langtag_c/src", "crates/langtag_span/src", "rows", "bindings/include", "bindings/python/langtag", "bindings/python/native"]
+UNDATED = ["crates/langtag_c/src", "rows", "bindings/include", "bindings/python/langtag", "bindings/python/native"]
 
 
 def registry_date(root: pathlib.Path) -> str:

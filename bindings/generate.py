@@ -5,10 +5,10 @@
     rust/c/src/exports.rs                     the functions that cargo exports to C
     bindings/c/langtag_verified.map           what the shared library exports
     bindings/c/functions.h                    lists of the functions, for programs that call each of them
-    bindings/python/langtag/_declarations.py  the functions and structs for ctypes
-    bindings/python/langtag/_calls.py         the functions in Python, over ctypes
-    bindings/python/native/calls.c            the same in C
+    bindings/python/native/calls.c            the functions for Python, in C
+    bindings/python/langtag/_native.pyi       their types
     bindings/js/calls.js                      the functions in JavaScript, over the memory of the WebAssembly module
+    bindings/python/langtag/help.txt          the help of the program, which is that of the program in Rust
     docs/CALLS.md, README.md                  the calls of each language, by task, from bindings/calls.txt
 
 It also compares the numbers that stand in several files (check_numbers.py).
@@ -135,45 +135,6 @@ def functions_for_c(it: Interface) -> str:
         list_for_c("The functions of one string that write another string to a buffer.", "LANGTAG_FORMS", forms)])
 
 
-# ---- bindings/python/langtag/_declarations.py
-
-PYTHON = f'''\
-"""The functions and structs of langtag.h, for ctypes. {WRITTEN}"""
-from __future__ import annotations
-
-from ctypes import POINTER, Structure, c_bool, c_char, c_char_p, c_int32, c_size_t, c_uint32, c_uint64
-from typing import Any
-'''
-
-
-def type_of_python(it: Interface, kind: str) -> str:
-    if kind in interface.OPAQUE:
-        return f"c_uint64 * {interface.OPAQUE[kind][1]}"
-    return kind if kind in it.structs else "None" if kind == "" else "c_" + interface.INTEGERS[kind].replace("_t", "").replace("size", "size_t")
-
-
-def parameter_of_python(it: Interface, parameter: Parameter) -> str:
-    if parameter.kind == "&[u8]":
-        return "c_char_p, c_size_t"
-    if parameter.kind == "&mut [u8]":
-        return "POINTER(c_char), c_size_t"
-    kind = type_of_python(it, parameter.target())
-    pointer = f"POINTER({kind})" if parameter.kind.startswith("&") else kind
-    return f"{pointer}, c_size_t" if parameter.is_slice() else pointer
-
-
-def python(it: Interface) -> str:
-    text = PYTHON
-    for struct in sorted(it.structs.values(), key=lambda struct: struct.name != "Span"):
-        fields = ", ".join(f'("{name}", {type_of_python(it, kind)})' for name, kind in struct.fields)
-        text += f"\n\nclass {struct.name}(Structure):\n    _fields_ = [{fields}]\n"
-    text += "\n\n# The types of the result and of the parameters of each function.\nFUNCTIONS: dict[str, tuple[Any, ...]] = {\n"
-    for function in it.functions:
-        kinds = [type_of_python(it, function.result), *(parameter_of_python(it, parameter) for parameter in function.parameters)]
-        text += f'    "{function.name}": ({", ".join(kinds)}{"," if len(kinds) == 1 else ""}),\n'
-    return text + "}\n"
-
-
 # ---- bindings/include/langtag.h
 
 
@@ -227,13 +188,14 @@ def wrong_template(it: Interface, template: str) -> list[str]:
     return [f"{interface.TEMPLATE}: {name}" for name in sorted({*interface.modules(template)} ^ ours)]
 
 
+# The help of the program in Rust, and its copy for the program in Python.
+HELP, COPY = "rust/src/bin/langtag/help.txt", "bindings/python/langtag/help.txt"
 FILES = {
     "rust/c/src/exports.rs": exports,
     "bindings/c/langtag_verified.map": script,
     "bindings/c/functions.h": functions_for_c,
-    "bindings/python/langtag/_declarations.py": python,
-    "bindings/python/langtag/_calls.py": lambda it: python_calls.in_python(it, WRITTEN),
     "bindings/python/native/calls.c": lambda it: python_calls.in_c(it, WRITTEN),
+    "bindings/python/langtag/_native.pyi": lambda it: python_calls.types(it, WRITTEN),
     "bindings/js/calls.js": lambda it: javascript(it, WRITTEN),
 }
 
@@ -244,7 +206,8 @@ def main(root: pathlib.Path, is_check: bool) -> int:
     if not it.functions or not it.structs:
         faults.append("crates/langtag_c has no functions, or no structs")
     faults += calls_page.faults(it, root) + check_numbers.wrong_numbers(root) + check_numbers.copied_dates(root)
-    for name, text in ({HEADER: header(it, template)} | {name: written(it) for name, written in FILES.items()} | calls_page.pages(root)).items():
+    files = {HEADER: header(it, template), COPY: (root / HELP).read_text(encoding="utf-8")} | {name: written(it) for name, written in FILES.items()}
+    for name, text in (files | calls_page.pages(root)).items():
         path = root / name
         if not is_check:
             path.write_text(text, encoding="utf-8")

@@ -1,4 +1,4 @@
-"""Reads the C interface: the functions of crates/langtag_c, and the structs of langtag_c and langtag_span.
+"""Reads the C interface: the functions of crates/langtag_c, and its structs.
 
 A slice is passed to C as a pointer and a length. The length is named after the slice, except for `bytes`. The contract shows how a
 function uses a reference to a struct or number: it reads the old value only if a clause other than `nothing` names it, and it leaves
@@ -160,14 +160,12 @@ def modules(template: str) -> list[str]:
 def read(root: pathlib.Path) -> Interface:
     """Reads the interface of the repository. The functions are in the order of the header, and those of a module that it lacks come last."""
     functions, structs = [], {}
-    for crate, inside in (("langtag_span", "spans"), ("langtag_c", "calls")):
-        for path in sorted((root / "crates" / crate / "src").glob("*.rt")):
-            text = path.read_text(encoding="utf-8")
-            source = re.sub(r"//[^\n]*", "", text)
-            functions += [function_of(path.stem, text, *found) for found in re.findall(DECLARATION, source, flags=re.S)]
-            for comment, name, body in re.findall(r"((?:///.*\n)+)#\[repr\(C\)\]\n(?:#.*\n)*pub struct (\w+) \{\n((?:.*\n)*?)\}", text):
-                place = f"crate::{inside}{'' if crate == 'langtag_span' else '::' + path.stem}::{name}"
-                notes = {field: note for note, field in re.findall(r"/// (.*)\n *pub (\w+)", body)}
-                structs[name] = Struct(name, path.stem if inside == "calls" else inside, place, pairs(re.sub(r"//.*", "", body)), lines_of(comment), notes)
+    for path in sorted((root / "crates/langtag_c/src").glob("*.rt")):
+        text = path.read_text(encoding="utf-8")
+        source = re.sub(r"//[^\n]*", "", text)
+        functions += [function_of(path.stem, text, *found) for found in re.findall(DECLARATION, source, flags=re.S)]
+        for comment, name, body in re.findall(r"((?:///.*\n)+)#\[repr\(C\)\]\n(?:#.*\n)*pub struct (\w+) \{\n((?:.*\n)*?)\}", text):
+            notes = {field: note for note, field in re.findall(r"/// (.*)\n *pub (\w+)", body)}
+            structs[name] = Struct(name, path.stem, f"crate::calls::{path.stem}::{name}", pairs(re.sub(r"//.*", "", body)), lines_of(comment), notes)
     places = {module: place for place, module in enumerate(modules((root / TEMPLATE).read_text(encoding="utf-8")))}
     return Interface(sorted(functions, key=lambda function: places.get(function.module, len(places))), structs)

@@ -1,7 +1,7 @@
-"""Writes the functions of langtag.h for Python twice, with the same parameters and results: in C, and over ctypes."""
+"""Writes the functions of langtag.h for Python, in C, and the file that tells their types to editors and mypy."""
 from __future__ import annotations
 
-from interface import INTEGERS, Call, Interface, calls
+from interface import Call, Interface, calls
 
 CONVENTIONS = """\
 The functions of langtag.h as functions of Python. {written}
@@ -14,13 +14,18 @@ with these exceptions:
 - If C writes numbers, the result is a tuple of C's result and these numbers. If C's result is only true or false, the result is a tuple of
   these numbers, or None.
 - If C removes one item after another, the result is the list of all items.
-- If C writes numbers to an array, the result is the list of these numbers.
+- If C writes numbers to an array, the result is the list of these numbers, and the last parameter is the length of the array.
 """
 
 
 def numbers(call: Call) -> list[tuple[str, str]]:
     """Returns the names and types of the numbers of the result, of which the first may be the result of C."""
     return ([] if call.function.result == "bool" else [("result", call.function.result)]) + call.numbers()
+
+
+def given(call: Call) -> list[tuple[str, str]]:
+    """Returns the names and kinds of the parameters in Python."""
+    return [*call.taken, *([("most", "usize")] if call.has_array else [])]
 
 
 def arguments(call: Call, forms: dict[str, str], out: str, *more: str) -> str:
@@ -38,7 +43,7 @@ OBJECTS = {"bool": "PyBool_FromLong", "u32": "PyLong_FromUnsignedLong", "usize":
            "u64": "PyLong_FromUnsignedLongLong"}
 CODES = {"u32": ("I", "(unsigned)"), "usize": ("n", "(Py_ssize_t)"), "u64": ("K", "")}
 DECLARED = {"text": ["Text {0} = {{NULL}};"], "list": ["List {0};", "{0}.spans = NULL;"], "site": ["Site site;"], "u32": ["unsigned {0};"],
-            "u64": ["unsigned long long {0};"]}
+            "u64": ["unsigned long long {0};"], "usize": ["Py_ssize_t {0};"]}
 READ = {"text": "!lt_text({0}_from, &{0})", "list": "!lt_{0}({0}_from, &{0})", "site": "!lt_site(site_from, &site)"}
 CLOSED = {"text": "Py_XDECREF({0}.owner);", "list": "lt_close(&{0});"}
 PASSED = {"text": "{0}.data, {0}.len", "list": "{0}.text, {0}.len, {0}.spans, {0}.count", "site": "site.text, site.len, site.tags, site.count"}
@@ -74,8 +79,8 @@ def body_in_c(call: Call) -> list[str]:
                 "answer = PyBytes_FromStringAndSize(len <= sizeof room ? room : NULL, (Py_ssize_t)len);", "if (answer && len > sizeof room) {",
                 *indented(["data = PyBytes_AsString(answer);", *again]), "}"]
     if call.has_array:
-        return ["size_t *found = PyMem_Malloc((tags.count + 1) * sizeof *found);", "if (found) {",
-                *indented([*made_in_c(call, "size_t count = ", "found", "tags.count"), "answer = lt_numbers(found, count);"]), "} else PyErr_NoMemory();", "PyMem_Free(found);"]
+        return ["size_t *found = PyMem_Malloc(((size_t)most + 1) * sizeof *found);", "if (found) {",
+                *indented([*made_in_c(call, "size_t count = ", "found", "(size_t)most"), "answer = lt_numbers(found, count);"]), "} else PyErr_NoMemory();", "PyMem_Free(found);"]
     if not kind:
         return [f"answer = lt_changed(&text, {call.function.name});"]
     if not call.written:
@@ -88,11 +93,12 @@ def function_in_c(call: Call) -> str:
     is_one = is_of_one_text(call)
     objects = [f"{name}_from" for name, kind in call.taken if kind in READ and not is_one]
     lines = [f"PyObject {''.join(f'*{name}, ' for name in objects)}*answer = NULL;"]
-    lines += [line.format(name) for name, kind in call.taken for line in DECLARED[kind]]
+    taken = given(call)
+    lines += [line.format(name) for name, kind in taken for line in DECLARED[kind]]
     lines += [f"{call.it.type_in_c(of.target())} {of.name};" for of in call.written]
     if call.taken and not is_one:
-        codes = "".join("O" if kind in READ else CODES[kind][0] for _, kind in call.taken)
-        lines.append(f'if (!PyArg_ParseTuple(arguments, "{codes}", {", ".join(f"&{name}_from" if kind in READ else f"&{name}" for name, kind in call.taken)})) return NULL;')
+        codes = "".join("O" if kind in READ else CODES[kind][0] for _, kind in taken)
+        lines.append(f'if (!PyArg_ParseTuple(arguments, "{codes}", {", ".join(f"&{name}_from" if kind in READ else f"&{name}" for name, kind in taken)})) return NULL;')
     body, read = body_in_c(call), " && ".join(READ[kind].format(name) for name, kind in call.taken if kind in READ)
     lines += [f"if ({read}) {{", *indented(body), "}"] if read else body
     lines += [CLOSED[kind].format(name) for name, kind in call.taken if kind in CLOSED] + ["return answer;"]
@@ -107,53 +113,70 @@ def in_c(it: Interface, written: str) -> str:
             f"PyMethodDef lt_functions[] = {{\n{table.replace('prepare, METH', 'lt_prepare, METH')}    {{NULL, NULL, 0, NULL}}}};\n")
 
 
-# ---- over ctypes: langtag/_calls.py
+# ---- their types: langtag/_native.pyi
 
 HEAD = '''\
 """{}"""
-from __future__ import annotations
-
-from ctypes import c_size_t, c_uint32
 from typing import Any
 
-from ._declarations import BestMatch, Parts, Repeated, Span
-from ._library import changed, library, numbers, ranges_in, site_in, tags_in, text_in, written
-from ._texts import Text, bytes_of
+from ._texts import Text
+
+class _Value:
+    @property
+    def _data(self) -> bytes: ...
+    def __lt__(self, other: object) -> bool: ...
+    def __le__(self, other: object) -> bool: ...
+    def __gt__(self, other: object) -> bool: ...
+    def __ge__(self, other: object) -> bool: ...
+
+class TagBase(_Value):
+    def __init__(self, text: Text | TagBase) -> None: ...
+    @property
+    def _kind(self) -> int: ...
+    @property
+    def language(self) -> str | None: ...
+    @property
+    def script(self) -> str | None: ...
+    @property
+    def region(self) -> str | None: ...
+    @property
+    def _variants(self) -> str | None: ...
+    @property
+    def _extensions(self) -> str | None: ...
+    @property
+    def private_use(self) -> str | None: ...
+    @property
+    def is_valid(self) -> bool: ...
+
+class RangeBase(_Value):
+    def __init__(self, text: Text | RangeBase | TagBase) -> None: ...
+    @property
+    def is_basic(self) -> bool: ...
+    def matches_basic(self, tag: TagBase | Text, /) -> bool: ...
+    def matches_extended(self, tag: TagBase | Text, /) -> bool: ...
+
+def prepare(tags: list[Any], /) -> tuple[bytes, bytes]: ...
 '''
 TYPES = {"text": "Text", "list": "list[Any]", "site": "tuple[bytes, bytes]"}
-CONVERTED = {"text": "*text_in({0})", "list": "*{0}_in({0})", "site": "*site_in(site)"}
 
 
-def body_in_python(call: Call) -> tuple[str, list[str]]:
-    """Returns the type of the result, and the lines of the function."""
-    name = f"library.{call.function.name}"
-    given = arguments(call, CONVERTED, "{0}")
-    of_type = "bool" if call.function.result == "bool" else "int"
-    said = [number if "." in number or number == "result" else f"{number}.value" for number, _ in numbers(call)]
-    made = "(" + ", ".join(said) + ("," if len(said) == 1 else "") + ")"
-    kind = f"tuple[{', '.join(['int'] * len(said))}]"
-    new = {of.name: f"c_{INTEGERS[of.target()].replace('_t', '').replace('size', 'size_t')}" if of.target() in INTEGERS else of.target() for of in call.state + call.written}
-    values = [f"{new[of.name]}({'0, len(text)' if of in call.state and of.target() == 'Span' else ''})" for of in call.state + call.written]
-    out = f"{', '.join(new)} = {', '.join(values)}"
+def result_in_python(call: Call) -> str:
+    """Returns the type of the result."""
+    kind = f"tuple[{', '.join(['int'] * len(numbers(call)))}]"
     if call.state:
-        return f"list[{kind}]", ["text = bytes_of(text)", out, f"results = iter(lambda: {of_type}({name}({given})), {of_type}())", f"return [{made} for result in results]"]
-    if call.has_buffer:
-        return "bytes", [f"return written({', '.join(filter(None, [name, given]))})"]
+        return f"list[{kind}]"
     if call.has_array:
-        return "list[int]", [f"return numbers({name}, len(tags), {given})"]
-    if not call.function.result:
-        return "bytes", [f"return changed({name}, text)"]
-    if call.written and call.function.result == "bool":
-        return f"{kind} | None", [out, f"return {made} if {name}({given}) else None"]
+        return "list[int]"
+    if call.has_buffer or not call.function.result:
+        return "bytes"
     if call.written:
-        return kind, [out, f"result = {name}({given})", f"return {made[1:-1]}"]
-    return of_type, [f"return {of_type}({name}({given}))"]
+        return f"{kind} | None" if call.function.result == "bool" else kind
+    return "bool" if call.function.result == "bool" else "int"
 
 
-def in_python(it: Interface, written: str) -> str:
+def types(it: Interface, written: str) -> str:
     text = HEAD.format(CONVENTIONS.format(written=written))
     for call in calls(it):
-        kind, lines = body_in_python(call)
-        taken = ", ".join(f"{name}: {TYPES.get(of, 'int')}" for name, of in call.taken)
-        text += f"\n\ndef {call.name()}({taken}) -> {kind}:\n" + "\n".join(indented(lines)) + "\n"
+        taken = ", ".join([*(f"{name}: {TYPES.get(of, 'int')}" for name, of in given(call)), *(["/"] if call.taken else [])])
+        text += f"def {call.name()}({taken}) -> {result_in_python(call)}: ...\n"
     return text

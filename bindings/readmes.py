@@ -12,16 +12,10 @@ DOCS = HERE.parent / "docs"
 # The page of each package.
 PAGES = {"c": "C.md", "python": "PYTHON.md", "js": "JAVASCRIPT.md", "postgresql": "POSTGRESQL.md", "sqlite": "SQLITE.md"}
 LICENCES = """
-## Licence
+## License
 
 Apache License 2.0 or MIT license, at your option. The CLDR data is under Unicode's license.
 """
-
-
-def description() -> str:
-    """Returns the sentence that describes all packages, as it is in their manifests."""
-    found = re.search(r'^description = "(.*)"', (HERE / "python/pyproject.toml").read_text(), re.M)
-    return found[1] if found else ""
 
 
 def named(link: re.Match[str]) -> str:

@@ -64,11 +64,13 @@ def record_of(archive: pathlib.Path) -> pathlib.Path:
     return archive.with_name(f"{archive.name}.proved")
 
 
-def record(archive: pathlib.Path) -> None:
-    """Writes the record of an archive that `rt lib` has just built."""
+def record(archive: pathlib.Path, sources_before: str) -> None:
+    """Writes the record of an archive that `rt lib` has just built. Ends without one if a source has changed since the proof began."""
+    if sum_of_sources() != sources_before:
+        sys.exit(f"a source was changed while it was proved: {archive} gets no record")
     prover = subprocess.run(["rt", "version"], check=True, capture_output=True, text=True).stdout.splitlines()[0]
     sum_of_archive = hashlib.sha256(archive.read_bytes()).hexdigest()
-    record_of(archive).write_text(f"archive {sum_of_archive}\nsources {sum_of_sources()}\n{prover}\n", encoding="utf-8")
+    record_of(archive).write_text(f"archive {sum_of_archive}\nsources {sources_before}\n{prover}\n", encoding="utf-8")
 
 
 def prover_of(archive: pathlib.Path) -> str | None:
@@ -89,11 +91,12 @@ def build(target: Target) -> None:
         if BUILT.is_file() and target is not NATIVE:
             BUILT.replace(aside)
         try:
+            before = sum_of_sources()
             subprocess.run(["rt", "lib", "--jobs", "1", "--target", target.name], cwd=CRATE, check=True, stdout=sys.stderr)
             if target is not NATIVE:
                 target.archive.parent.mkdir(exist_ok=True)
                 BUILT.replace(target.archive)
-            record(target.archive)
+            record(target.archive, before)
         finally:
             if aside.is_file():
                 aside.replace(BUILT)

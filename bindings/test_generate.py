@@ -18,15 +18,15 @@ import interface
 
 ROOT = pathlib.Path(sys.argv[1] if sys.argv[1:] else pathlib.Path(__file__).parent.parent).resolve()
 HEADER, TEMPLATE, MODULE = generate.HEADER, interface.TEMPLATE, "bindings/python/langtag/__init__.py"
-CRATE, SPANS = "crates/langtag_c/src", "crates/langtag_span/src"
+CRATE = "crates/langtag_c/src"
 DATE = check_numbers.registry_date(ROOT)
-FILES = {HEADER, TEMPLATE, MODULE, check_numbers.DATED, "rows/table.txt", *generate.FILES, *calls_page.FILES, *(name for name, _ in check_numbers.VERSIONS + check_numbers.NUMBERS)}
+FILES = {HEADER, TEMPLATE, MODULE, generate.HELP, generate.COPY, check_numbers.DATED, "rows/table.txt", *generate.FILES, *calls_page.FILES, *(name for name, _ in check_numbers.VERSIONS + check_numbers.NUMBERS)}
 
 # A file, a text in it, the text that replaces it, and what the message has to name.
 PLANTED = [
     (HEADER, "size_t langtag_viable_len(", "uint32_t langtag_viable_len(", HEADER),
     (HEADER, "langtag_span script; ", "langtag_span region; ", HEADER),
-    (TEMPLATE, "@spans ", "@", "spans"),
+    (TEMPLATE, "@span ", "@", "span"),
     (TEMPLATE, "@grandfathered", "@grandfatherd", "grandfatherd"),
     (HEADER, "__attribute__((pure,", "__attribute__((const,", "LANGTAG_PURE"),
     (HEADER, "0 en-GB-oed    1 i-ami ", "1 en-GB-oed    0 i-ami ", "grandfathered"),
@@ -40,7 +40,7 @@ PLANTED = [
     (check_numbers.DATED, "pub const FILE_DATE", "pub const DATE", "the registry's date"),
     (CRATE, "fn langtag_eq(a: &[u8], b: &[u8])", "fn langtag_eq(b: &[u8], a: &[u8])", HEADER),
     (CRATE, "pub singleton: Span", "pub singletons: Span", HEADER),
-    (SPANS, "pub len: usize", "pub length: usize", HEADER),
+    (CRATE, "pub len: usize", "pub length: usize", HEADER),
     # The contract says what is written: exports.rs follows it.
     (CRATE, "ensures nothing { result ≡ false → language.new ≡ language.old }", "", "exports.rs"),
     *((name, "hash", "hush", name) for name in generate.FILES),
@@ -73,8 +73,7 @@ class Planted(unittest.TestCase):
                 for name in FILES:
                     (copy / name).parent.mkdir(parents=True, exist_ok=True)
                     shutil.copy(ROOT / name, copy / name)
-                for name in (CRATE, SPANS):
-                    shutil.copytree(ROOT / name, copy / name)
+                shutil.copytree(ROOT / CRATE, copy / CRATE)
                 plant(copy / where, old, new)
                 status, said = outcome(copy)
                 self.assertEqual(status, 1)

@@ -37,6 +37,7 @@
     EACH(minimized) \
     EACH(cldr_version) \
     EACH(parent) \
+    EACH(nth_parent) \
     EACH(is_right_to_left) \
     EACH(distance) \
     EACH(best_for_header) \

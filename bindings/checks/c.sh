@@ -21,8 +21,8 @@ answers_of_c() {
 }
 check "C: answers to random calls, for Rust, Python and JavaScript" answers_of_c
 
-# Compares C's answers about tags of the registry's subtags with those of registry/oracle.py.
-oracle() { python3 "$root/registry/oracle.py" "$root/registry/language-subtag-registry" "$@"; }
+# Compares C's answers about tags of the registry's subtags with those of data/registry/oracle.py.
+oracle() { python3 "$root/data/registry/oracle.py" "$root/data/registry/language-subtag-registry" "$@"; }
 in_its_words() {
     paste - - | sed -E 's/^validity \| \S+ \| none\t.* -$/refused/; s/^validity \| \S+ \| valid\tcanonical \| \S+ \| /valid canonical=/
         s/^validity \| \S+ \| (\S+) [0-9]+ (\S+)\tcanonical \| \S+ \| /invalid \1=\2 canonical=/'
@@ -41,7 +41,7 @@ as_an_oracle() {
     told_by_c <"$work/asked" >"$2" || return 1
     "$1" rows --compare "$2" <"$work/asked"
 }
-likely=$root/likely unicode=$root/unicode/oracle.py
+likely=$root/data/likely unicode=$root/data/unicode/oracle.py
 check "C: 100,000 rows of likely subtags and choices, by a plain reading of the data" \
     as_an_oracle "$likely/oracle.py" "$work/told_of_likely" "$likely/questions.py" rows
 check "C: 48,000 rows of extensions and Unicode locale identifiers, by a plain reading of the data" \

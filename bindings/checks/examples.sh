@@ -20,20 +20,21 @@ check "C++ and Flask: what a viewer and a reader pick" example_in_cc player test
 python3 -c 'import flask' 2>/dev/null || not_run "Python: the Flask site" "Flask is not there"
 
 count_tags() { python3 examples/count_tags.py | diff - <(wanted_counts); }
-wanted_counts() { env -i PATH="$PATH" PYTHONPATH="$PYTHONPATH" LANGTAG_LIBRARY="$LANGTAG_LIBRARY" python3 -S examples/count_tags.py; }
+wanted_counts() { env -i PATH="$PATH" PYTHONPATH="$PYTHONPATH" python3 -S examples/count_tags.py; }
 # The messages of the catalogue for a tag: that of a parent, of the tag itself, of the default.
 catalogues() {
     local asked=("pt-AO bus" "de-ch-1996 bike" "de-CH hello" "zh-TW bike" "zh-TW hello" "fr train")
     for it in "${asked[@]}"; do python3 examples/catalogue.py $it; done | diff <(printf '%s\n' autocarro Velo Hallo 腳踏車 Hello train) -
 }
 check "the example of a catalogue asks the parents of a tag" catalogues
+check "gettext reads the messages of the parents of a locale" env -C examples python3 -m unittest test_gettext
 check "the example counts a million rows by pandas, where it is there, as without" count_tags
 
 sqlite_extension() {
     make -s -C sqlite CFLAGS="$strict" LANGTAG_ARCHIVE="$work/usr/lib/liblangtag_verified.a" LANGTAG_INCLUDE="$work/usr/include" || return 1
     ! nm -D --defined-only sqlite/sqlite_langtag.so | grep ' T langtag_' && mv sqlite/sqlite_langtag.so "$work/built"
 }
-sqlite_version() { sqlite3 :memory: ".load $work/built/sqlite_langtag" "SELECT langtag_version()" | diff - <(python3 -m langtag --version); }
+sqlite_version() { sqlite3 :memory: ".load $work/built/sqlite_langtag" "SELECT langtag_version()" | diff - <(python3 -m langtag --version | head -1); }
 if ! lacks "SQLite: the extension" 'has sqlite3' "there is no sqlite3" 'has_header sqlite3ext.h' "the headers of SQLite are not installed"; then
     check "SQLite: the extension builds" sqlite_extension
     check "SQLite: SQL says the versions of the program" sqlite_version

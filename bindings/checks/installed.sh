@@ -1,17 +1,15 @@
 # Uses the library from an empty folder: with only the archive and the header, and after an installation.
 wanted() { printf 'language zh\nscript Hant\nregion TW\n'; }
 
+# The C module of Python is in the copy of the sources, for each check that runs Python.
 module_alone() {
-    mkdir "$work/python-alone" && cd "$work/python-alone" && cp "$archive" liblangtag_c.a || return 1
-    cp -r "$here/python/langtag" "$here/examples/parts.py" . || return 1
-    cc -shared -Wl,--whole-archive liblangtag_c.a -Wl,--no-whole-archive -o liblangtag_verified.so.1 || return 1
-    env -u LANGTAG_LIBRARY python3 parts.py zh-Hant-TW | diff - <(wanted)
+    CFLAGS=-Werror python/native/compile "$archive" python/langtag/_native.abi3.so python3 || return 1
+    cp -r python/langtag examples/parts.py "$work/empty" && cd "$work/empty" && python3 parts.py zh-Hant-TW | diff - <(wanted)
 }
-check "Python: the archive and the module alone" module_alone
+check "Python: the C module builds without a warning, and needs no other file than the package's" module_alone
 
 check "C: make install" with_make install PREFIX="$work/usr" BUILD="$work/c"
 PKG_CONFIG_PATH=$work/usr/lib/pkgconfig
-LANGTAG_LIBRARY=$work/usr/lib/liblangtag_verified.so.1
 
 flags() {
     if has pkg-config; then

@@ -12,7 +12,7 @@ why_without_archive() {
 }
 without_archive=$(why_without_archive)
 # Without the archive, everything runs over the module that cargo builds.
-js_build() { if [ -z "$without_archive" ]; then js/build "$wasm_archive"; else "$here/js/build" --cargo "$PWD/js"; fi; }
+js_build() { if [ -z "$without_archive" ]; then "$here/js/build" "$wasm_archive" "$PWD/js"; else "$here/js/build" --cargo "$PWD/js"; fi; }
 if [ -n "$without_archive" ]; then
     js_build >"$work/log" 2>&1 || { not_run "JavaScript: everything" "$without_archive; $(tail -1 "$work/log")" && return 0; }
     not_run "JavaScript: the proved module" "$without_archive"

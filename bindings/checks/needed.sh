@@ -11,3 +11,5 @@ mkdir "$work/bin"
 printf '#!/bin/sh\nexec "%s" "$@"\n' "$(python3 -c 'import sys; print(sys.executable)')" >"$work/bin/python3"
 chmod +x "$work/bin/python3"
 PATH=$work/bin:$PATH
+[ -f "$(python3 -c 'import sysconfig; print(sysconfig.get_paths()["include"])')/Python.h" ] ||
+    give_up "there is no Python.h for python3 (in Debian: apt-get install python3-dev)"

@@ -26,7 +26,7 @@ postgresql_released() {
 postgresql_regress() { make -s -C "$pg_folder/first" installcheck PG_CONFIG="$pg_config" || { cat "$pg_folder/first/regression.diffs"; return 1; }; }
 # What SQL says of the library in the extension, and what it has to say of the archive that was given.
 postgresql_says() { psql -X -q -At -c "CREATE EXTENSION IF NOT EXISTS langtag; SELECT langtag_proved(), langtag_version()" postgres; }
-postgresql_proved() { postgresql_says | diff - <(echo "$([ -n "$prover" ] && echo t || echo f)|$(cd python && python3 -m langtag --version)"); }
+postgresql_proved() { postgresql_says | diff - <(echo "$([ -n "$prover" ] && echo t || echo f)|$(cd python && python3 -m langtag --version | head -1)"); }
 
 # Installs from the clone of checks/clone.sh, by cargo. The second `make install` is that of root, who may have no cargo.
 postgresql_clone() {
@@ -40,7 +40,7 @@ postgresql_later() { later "$here/postgresql" "$here/include" "$work/lib/liblang
 in_postgresql() { cd postgresql/test && LANGTAG_ANSWERS=$work/answers_about_tags python3 -m unittest "$1"; }
 postgresql_wrong() {
     env PG_CONFIG="$pg_config" DESTDIR="$pg_folder/server" LANGTAG_ARCHIVE="$work/lib/liblangtag_c.a" LANGTAG_INCLUDE="$here/include" \
-        python3 wrong_wrappers.py "$work/usr/lib" PostgreSQL
+        python3 wrong_wrappers.py --record "$root" "$work/usr/lib" PostgreSQL
 }
 
 if ! place "$(mktemp -d)" >"$work/log" 2>&1 || ! begin hub || ! begin shard_a || ! begin shard_b; then

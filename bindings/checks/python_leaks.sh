@@ -1,29 +1,28 @@
 # Looks for leaks of the C module in three ways: references, in a debug Python if there is one, blocks with valgrind, and sanitizers. A
-# lost reference and a block that is not freed are planted, and have to be found. leaks_of NAME CFLAGS PYTHON COMMAND..: builds the
+# lost reference and a block that is not freed are planted, and have to be found. leaks_of NAME CFLAGS COMMAND..: builds the
 # module in a copy of its own, and runs the command there.
 leaks_of() {
-    local folder=$work/bindings/leaks-$1 flags=$2 python=$3
-    shift 3
+    local folder=$work/bindings/leaks-$1 flags=$2
+    shift 2
     rm -rf "$folder" && cp -r python "$folder" && cd "$folder" || return 1
     if [ -n "${PLANT:-}" ]; then sed -i "$PLANT" native/*.c; fi
-    INCLUDE=$here/include CFLAGS=$flags native/compile "$archive" langtag/_native.abi3.so "$python" || return 1
-    env -u LANGTAG_LIBRARY "$@"
+    INCLUDE=$here/include CFLAGS=$flags native/compile "$archive" langtag/_native.abi3.so python3 && "$@"
 }
 lost='s/^    Py_XDECREF(text.owner);$//'
 unfreed='s/^    if (list->text != list->little) PyMem_Free(list->text);$//'
 unreleased='s/^    Py_XDECREF(item);$//'
 
-by_references() { leaks_of references "${debug:+-DPy_DEBUG}" "$header" "${debug:-$real}" leaks.py; }
+by_references() { leaks_of references "${debug:+-DPy_DEBUG}" "${debug:-$real}" leaks.py; }
 # The sources of the module, as valgrind names them.
 sources=$(cd "$here/python/native" && printf '%s|' *.c)
 by_blocks() {
-    PYTHONMALLOC=malloc leaks_of valgrind -g "$header" valgrind --leak-check=full --show-leak-kinds=definite --log-file=valgrind.log \
+    PYTHONMALLOC=malloc leaks_of valgrind -g valgrind --leak-check=full --show-leak-kinds=definite --log-file=valgrind.log \
         "$real" leaks.py 3 && ! grep -E "\\((${sources%|}):" "$work/bindings/leaks-valgrind/valgrind.log"
 }
 by_sanitizers() {
     local runtime
     runtime="$(cc -print-file-name=libasan.so) $(cc -print-file-name=libubsan.so)"
-    ASAN_OPTIONS=detect_leaks=0 LD_PRELOAD= leaks_of sanitized "-g -fsanitize=address,undefined -fno-sanitize-recover" "$header" \
+    ASAN_OPTIONS=detect_leaks=0 LD_PRELOAD= leaks_of sanitized "-g -fsanitize=address,undefined -fno-sanitize-recover" \
         env LD_PRELOAD="$runtime" ASAN_OPTIONS=detect_leaks=0 "$real" leaks.py 20
 }
 # seen PLANT WORDS COMMAND..: the command has to fail, and to print the words.
@@ -38,7 +37,7 @@ debug=
 for python in python3.11-dbg python3-dbg python3.12-dbg python3.13-dbg; do
     if "$python" -c 'import sys; sys.gettotalrefcount()' 2>/dev/null; then debug=$python; break; fi
 done
-real=$("$header" -c 'import sys; print(sys.executable)')
+real=$(python3 -c 'import sys; print(sys.executable)')
 check "Python: no reference is kept" by_references
 check "Python: a lost reference is seen" seen "$lost" "edit: .* references more" by_references
 check "Python: a keyword that is not released is seen" seen "$unreleased" "keywords: .* references more" by_references

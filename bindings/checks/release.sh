@@ -4,7 +4,7 @@
 COMMIT=$(git -C "$root" rev-parse HEAD 2>/dev/null || echo "not known") # for `bindings/release` in a copy without git, and for `proves`
 
 releases() {
-    (cd "$root" && cp --parents CHANGELOG.md LICENSE-APACHE LICENSE-MIT likely/LICENSE-UNICODE "$work") || return 1
+    (cd "$root" && cp --parents CHANGELOG.md LICENSE-APACHE LICENSE-MIT LICENSE-UNICODE "$work") || return 1
     cp -r "$root/docs" "$work" || return 1
     tar -C "$root" -c --exclude=out --exclude=must-fail crates crates.txt | tar -x -C "$work" || return 1
     local targets=()
@@ -20,7 +20,7 @@ proves() {
     local said=$work/proved-txt prover
     prover=$(python3 "$here/targets.py" proved "$2" 2>/dev/null) || prover=
     (cd "$work/dist" && tar -xzOf $1 --wildcards '*/PROVED.txt') >"$said" || return 1
-    grep -x "commit $COMMIT" "$said" && grep -x "registry $(sed -n '1s/File-Date: //p' "$root/registry/language-subtag-registry")" "$said" || return 1
+    grep -x "commit $COMMIT" "$said" && grep -x "registry $(sed -n '1s/File-Date: //p' "$root/data/registry/language-subtag-registry")" "$said" || return 1
     grep -x "cldr $(sed -n 's/^CLDR_VERSION = //p' postgresql/cldr_version.mk)" "$said" && grep -xE '[0-9]+ functions in [0-9]+ crates' "$said" || return 1
     grep -A1 -x "target $3" "$said" | grep -x "$(sha256sum <"$2" | cut -c1-64)  liblangtag_c.a" || return 1
     if [ -n "$prover" ]; then
@@ -31,16 +31,96 @@ proves() {
 }
 check "release: two runs give the same bytes, with the archive's sum" releases
 
-# An archive whose record is wrong counts as not proved: one other byte in the archive, or in a source.
+# named PACKAGE: prints what the name of a package says.
+named() { if [[ $1 == *+cargo* ]]; then echo "not proved"; else echo proved; fi; }
+# labels_of PACKAGE: prints `proved` or `not proved` for each label in a package: LANGTAG_PROVED of C, PROVED of Python and JavaScript, the
+# descriptions in metadata, and PROVED.txt.
+labels_of() {
+    local room
+    room=$(mktemp -d -p "$work") || return 1
+    case $1 in
+        *.deb) dpkg-deb -R "$1" "$room" ;;
+        *.whl | *.zip) python3 -m zipfile -e "$1" "$room" ;;
+        *.html) cp "$1" "$room" ;;
+        *) tar -xzf "$1" -C "$room" ;;
+    esac || return 1
+    grep -rIhE '^(#define LANGTAG_PROVED [01]$|(export )?(const )?PROVED = ([Tt]rue|[Ff]alse)|Summary: |  "description": | (It is not|The library .* was) proved|(not )?proved( by .*)?$)' "$room" |
+        sed -E 's/.*(not proved|[Ff]alse;?|LANGTAG_PROVED 0)[".,]*$/not proved/; t; s/.*/proved/'
+    rm -rf "$room"
+}
+# Each label in a package says the same of its archive, and so does the package's name. The crate has no archive and one name.
+labelled() {
+    local package of said
+    for package in "$work"/dist/*; do
+        of=$archive
+        case $package in *aarch64*) of=$aarch64_archive ;; *.tgz | *.html) of=$wasm_archive ;; esac
+        if python3 "$here/targets.py" proved "$of" >/dev/null 2>&1; then said=proved; else said="not proved"; fi
+        labels_of "$package" | sort -u | diff <(echo "$said") - || { echo "$package" && return 1; }
+        [[ $package == *.crate ]] || named "$package" | grep -x "$said" || { echo "$package" && return 1; }
+    done
+}
+check "release: each label in each package says what the record of its archive shows" labelled
+
+# forged ARCHIVE: writes a record for an archive, as if it had been proved from the sources of the copy.
+forged() {
+    printf 'archive %s\nsources %s\nrattle-kit\n' "$(sha256sum <"$1" | cut -c1-64)" "$(python3 -c 'import targets; print(targets.sum_of_sources())')" >"$1.proved"
+}
+# An archive whose record is wrong counts as not proved: after an edit of a source, or of the archive.
 only_by_record() {
-    cp "$archive" "$work/forged.a" && printf 'archive %s\nsources %s\nrattle-kit\n' "$(sha256sum <"$archive" | cut -c1-64)" \
-        "$(python3 -c 'import targets; print(targets.sum_of_sources())')" >"$work/forged.a.proved" || return 1
-    python3 targets.py proved "$work/forged.a" | grep -x rattle-kit || return 1
-    printf '\n' >>"$work/crates/langtag_scan/specs/Tag.antt" && ! python3 targets.py proved "$work/forged.a" || return 1
-    cp "$root/crates/langtag_scan/specs/Tag.antt" "$work/crates/langtag_scan/specs" && python3 targets.py proved "$work/forged.a" || return 1
+    local source
+    cp "$archive" "$work/forged.a" && forged "$work/forged.a" && python3 targets.py proved "$work/forged.a" | grep -x rattle-kit || return 1
+    for source in crates.txt crates/langtag_scan/src/lib.rt crates/langtag_scan/specs/Tag.antt $(cd "$root" && ls crates/langtag_scan/proofs/*.antt | head -1); do
+        printf '\n' >>"$work/$source" && ! python3 targets.py proved "$work/forged.a" || return 1
+        cp "$root/$source" "$work/$source" && python3 targets.py proved "$work/forged.a" || return 1
+    done
     printf ' ' >>"$work/forged.a" && ! python3 targets.py proved "$work/forged.a"
 }
+# A source that changes while `rt lib` proves it leaves the archive without a record. Here `rt` is a script.
+only_as_proved() {
+    mkdir -p "$work/rt" "$work/crates/langtag_c/out" || return 1
+    printf '%s\n' '#!/bin/sh' 'case $1 in version) echo rattle-kit ;; lib) echo >out/liblangtag_c.a; $EDIT ;; esac' >"$work/rt/rt" && chmod +x "$work/rt/rt" || return 1
+    ! EDIT="touch src/during.rt" PATH=$work/rt:$PATH python3 targets.py archive x86_64-unknown-linux-gnu || return 1
+    rm "$work/crates/langtag_c/src/during.rt" && ! python3 targets.py proved "$work/crates/langtag_c/out/liblangtag_c.a" || return 1
+    EDIT=true PATH=$work/rt:$PATH python3 targets.py archive x86_64-unknown-linux-gnu && python3 targets.py proved "$work/crates/langtag_c/out/liblangtag_c.a"
+}
+# What is made from another archive than the proved one does not count as proved: by make after a proved one, by pip from an sdist, and by a
+# module that was not linked from the archive.
+only_what_is_proved() {
+    local built=$work/crates/langtag_c/out/liblangtag_c.a said
+    unset LANGTAG_ARCHIVE
+    echo 'int surplus;' | cc -x c -c -o "$work/surplus.o" - && cp "$archive" "$work/other.a" && ar r "$work/other.a" "$work/surplus.o" || return 1
+    cp "$archive" "$built" && forged "$built" || return 1
+    for said in "1" "0 ARCHIVE=$work/other.a" "1 ARCHIVE=$built" "1"; do
+        make -s -C c install BUILD="$work/labelled" PREFIX="$work/labelled" ${said:1} && grep -x "#define LANGTAG_PROVED ${said%% *}" "$work/labelled/include/langtag.h" || return 1
+    done
+    for said in "1" "0 LANGTAG_ARCHIVE=$work/other.a" "1 LANGTAG_ARCHIVE=$built"; do
+        has sqlite3 && has_header sqlite3ext.h || break
+        make -s -B -C sqlite ${said:1} && sqlite3 :memory: ".load sqlite/sqlite_langtag" "SELECT langtag_proved()" | grep -x "${said%% *}" || return 1
+    done
+    mkdir "$work/of-sdist" && (cd python && LANGTAG_ARCHIVE=$built python3 -c 'import backend, sys; backend.build_sdist(sys.argv[1])' "$work/of-sdist") || return 1
+    cd "$work/of-sdist" && tar -xzf langtag_verified-*.tar.gz && cd langtag_verified-*/ && wheel_says proved || return 1
+    cp "$work/other.a" liblangtag_c.a && wheel_says "not proved" && LANGTAG_ARCHIVE=$built wheel_says proved && cd "$work/bindings" || return 1
+    # Any file serves as a module, since `wasm-opt` here is a script that copies it.
+    mkdir "$work/lowered" && printf '%s\n' '#!/bin/sh' 'cp "$3" "$5"' >"$work/lowered/wasm-opt" && chmod +x "$work/lowered/wasm-opt" && cp -r js "$work/js-labelled" || return 1
+    module_says "not proved" && cat <(module_sum) "$built.proved" >"$work/other.a.proved" && module_says proved && cp "$work/other.a.proved" "$work/right" || return 1
+    sed '/^module/s/ / 0/' "$work/right" >"$work/other.a.proved" && module_says "not proved" || return 1
+    sed '/^archive/s/ / 0/' "$work/right" >"$work/other.a.proved" && module_says "not proved"
+}
+# module_says LABEL: the package that js/build makes of the proved archive and of another module has this label.
+module_says() {
+    PATH=$work/lowered:$PATH LANGTAG_WASM_MODULE=$work/other.a js/build "$work/crates/langtag_c/out/liblangtag_c.a" "$work/js-labelled" && tar -C "$work" -czf "$work/js.tgz" js-labelled/{module.js,package.json,PROVED.txt} &&
+        [ "$(labels_of "$work/js.tgz" | uniq -c)" = "$(printf '%7d %s' 3 "$1")" ] && named "$(grep '"version"' "$work/js-labelled/package.json")" | grep -x "$1"
+}
+module_sum() { echo "module $(sha256sum <"$work/other.a" | cut -c1-64)"; }
+# wheel_says LABEL: the wheel that the sdist in this folder makes has this label, a version that goes with it, and the sum of its archive.
+wheel_says() {
+    rm -rf wheels && mkdir wheels && python3 -c 'import backend; backend.build_wheel("wheels")' && [ "$(labels_of wheels/*.whl | sort -u)" = "$1" ] || return 1
+    named "$(ls wheels)" | grep -x "$1" && python3 -m zipfile -e wheels/*.whl wheels || return 1
+    grep "^$(sha256sum <"${LANGTAG_ARCHIVE:-liblangtag_c.a}" | cut -c1-64)  liblangtag_c.a" wheels/*/PROVED.txt
+}
 check "release: only the record of these sources shows that an archive is proved" only_by_record
+check "release: a source that changes during its proof leaves no record" only_as_proved
+check "release: what is made from another archive is not labelled as proved" only_what_is_proved
 
 # The name has the processor, so that the tarballs for both processors can be unpacked in one folder.
 own_folders() {
@@ -83,7 +163,7 @@ away() {
     folder=$(mktemp -d -p "$work") && cp examples/parts.* "$root/rust/examples/parts.rs" "$folder" || return 1
     $hide bash -c 'set -e; cd "$1"; hide=$2 root=$3 copy=$4; shift 4
         if [ -n "$hide" ]; then mount -t tmpfs none "$root"; mount -t tmpfs none "$copy"; fi
-        unset LANGTAG_ARCHIVE LANGTAG_LIBRARY LANGTAG_ANSWERS PKG_CONFIG_PATH; eval "$1"' away \
+        unset LANGTAG_ARCHIVE LANGTAG_ANSWERS PKG_CONFIG_PATH; eval "$1"' away \
         "$folder" "$hide" "$root" "$work/bindings" "$1" | diff - <(wanted)
 }
 by_cmake() {
@@ -130,24 +210,14 @@ python_package() {
     [ -d "$venv" ] || "$1" -m venv "$venv" || return 1
     away "cp -r $venv v; $2 v/bin/python parts.py zh-Hant-TW"
 }
-# wheel_released PYTHON NATIVE: pip takes the wheel with the C module if there is one.
-wheel_released() {
-    python_package "$1" 'v/bin/python -m pip install -q --no-index --find-links ../dist --only-binary :all: langtag-verified;
-        v/bin/python -c "import langtag; assert langtag._backend.__name__ == \"langtag.'"$2"'\"";'
-}
-fallback_released() { python_package "$1" 'v/bin/python -m pip install -q --no-index ../dist/*-py3-none-*x86_64.whl;'; }
+wheel_released() { python_package "$1" 'v/bin/python -m pip install -q --no-index --find-links ../dist --only-binary :all: langtag-verified;'; }
 sdist_released() {
     python_package "$1" "\"$1\" -m pip wheel -q --no-deps --no-index -w w ../dist/langtag_verified-*.tar.gz;
         v/bin/python -m pip install -q --no-index w/*.whl;"
 }
 for python in python3 python3.9 python3.12 python3.13; do
     if "$python" -c 'import venv, ensurepip' >/dev/null 2>&1; then
-        if ls "$work"/dist/*-abi3-*.whl >/dev/null 2>&1; then
-            check "release: the wheel by $python, with the C module" wheel_released "$python" _native
-            check "release: the wheel for other Pythons by $python" fallback_released "$python"
-        else
-            check "release: the wheel by $python" wheel_released "$python" _ctypes
-        fi
+        check "release: the wheel by $python" wheel_released "$python"
     fi
 done
 for python in python3 /usr/bin/python3; do
@@ -166,7 +236,8 @@ released_aarch64() {
 }
 wheel_of_aarch64() {
     python3 -m pip install -q --no-index --no-deps --target "$work/foreign" --platform manylinux_2_17_aarch64 --only-binary=:all: "$work"/dist/*_aarch64.whl &&
-        readelf -h "$work/foreign/langtag/liblangtag_verified.so.1" | grep 'Machine:.*AArch64'
+        readelf -h "$work/foreign/langtag/_native.abi3.so" | grep 'Machine:.*AArch64' &&
+        ! readelf --version-info "$work/foreign/langtag/_native.abi3.so" | grep -oE 'GLIBC_[0-9.]+' | grep -vx 'GLIBC_2.17'
 }
 if ! lacks "release: aarch64" '[ -n "${aarch64_archive:-}" ]' "there is no archive for it" '[ -z "${missing:-}" ]' "${missing#*qemu: }"; then
     check "release: C for aarch64 by the tarball, under qemu" released_aarch64

@@ -33,6 +33,8 @@ def catalogue(text: str) -> collections.ChainMap[str, str]:
 
 
 def main() -> None:
+    if len(sys.argv) != 3:
+        sys.exit("catalogue.py TAG KEY")
     text, key = sys.argv[1:]
     print(catalogue(text)[key])
 

@@ -1,5 +1,5 @@
-"""Chooses the language of a Django site by the distances of CLDR. Django's own choice knows only prefixes: it does not find `zh-hant` for
-`zh-TW`, or `de` for `gsw`. In the settings, name this middleware before Django's:
+"""Chooses the language of a Django site by the distances of CLDR. Django's own choice shortens a tag and has a short list of fallbacks. So
+it finds `zh-hant` for `zh-TW`, but not `de` for `gsw`, or `da` for `nb`. In the settings, name this middleware before Django's:
 
     MIDDLEWARE = [.., "mysite.django_middleware.best_language", "django.middleware.locale.LocaleMiddleware", ..]
 

@@ -1,6 +1,6 @@
 """Tests the examples in which a user picks a language. PROGRAM names the program built from player.cc.
-Without Flask, its test is left out, and the output says so. The middleware for Django is called with its settings and with a request that
-has only headers, so Django need not be there."""
+Without Flask or Django, its test is left out, and the output says so. The middleware for Django is also called with its settings and with a
+request that has only headers, so that much is tested without Django."""
 import importlib
 import os
 import subprocess
@@ -13,6 +13,10 @@ try:
     import flask_site
 except ImportError:
     flask_site = None
+try:
+    import django
+except ImportError:
+    django = None
 
 # The viewer's languages, the tracks, and the tracks that are picked.
 TRACKS = [
@@ -55,3 +59,23 @@ class Sites(unittest.TestCase):
         for header, code in [("zh-TW, en;q=0.9", "zh-hant"), ("gsw", "de"), ("de_CH", "de"), ("tlh, *;q=0.1", "en"), ("ja", "en"), ("", "en"), (None, "en")]:
             request = types.SimpleNamespace(META={} if header is None else {"HTTP_ACCEPT_LANGUAGE": header})
             self.assertEqual(middleware(request), code)
+
+    @unittest.skipUnless(django, "Django is not there")
+    def test_with_django(self):
+        """What Django chooses alone, and with the middleware before its own."""
+        from django.conf import settings
+        from django.http import HttpResponse
+        from django.test import Client, RequestFactory
+        from django.urls import path
+        from django.utils import translation
+
+        urls = types.ModuleType("urls")
+        urls.urlpatterns = [path("", lambda _: HttpResponse(translation.get_language()))]
+        settings.configure(
+            LANGUAGES=[(code, code) for code in ("en", "zh-hans", "zh-hant", "de", "da", "pt-br")], LANGUAGE_CODE="en", USE_I18N=True, ROOT_URLCONF=urls,
+            MIDDLEWARE=["django_middleware.best_language", "django.middleware.locale.LocaleMiddleware"], ALLOWED_HOSTS=["*"])
+        django.setup()
+        for header, alone, chosen in [("zh-TW", "zh-hant", "zh-hant"), ("gsw", "en", "de"), ("nb", "en", "da"), ("pt-PT", "pt-br", "pt-br"), ("de_CH", "en", "de")]:
+            self.assertEqual(translation.get_language_from_request(RequestFactory().get("/", HTTP_ACCEPT_LANGUAGE=header)), alone)
+            got = Client().get("/", HTTP_ACCEPT_LANGUAGE=header)
+            self.assertEqual((got.content.decode(), got["Content-Language"], got["Vary"]), (chosen, chosen, "Accept-Language"))

@@ -54,7 +54,7 @@ class Subtitles(unittest.TestCase):
         self.assertEqual(self.run_program("set", "zh-Hans", "script", ""), (0, "", ""))
         changed = TRACKS.replace("sr ", "sr-Latn ").replace("zh-Hans ", "zh ")
         self.assertEqual(self.path.read_text(encoding="utf-8"), changed)
-        self.assertEqual(self.run_program("set", "de", "script", "Latin"), (1, "", "subtitles: de can't have the part Latin\n"))
+        self.assertEqual(self.run_program("set", "de", "script", "Latin"), (1, "", "subtitles: invalid script `Latin`\n"))
         self.assertEqual(self.path.read_text(encoding="utf-8"), changed)
 
     def test_tidy(self):

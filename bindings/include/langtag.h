@@ -7,13 +7,13 @@
  *     if (langtag_parse(text, strlen(text), &parts) != LANGTAG_NONE)
  *         printf("%.*s\n", (int)parts.script.len, text + parts.script.start); // Hant
  *
- * It is proved that each function, for every input, ends, returns and writes what its comment says, and touches only
- * the memory of its arguments. No function allocates, keeps state between calls, calls back, prints, exits or sets
- * errno. So the functions may be called from several threads at once, and from signal handlers. Time grows linearly
- * with the length of the strings, except for langtag_repeats, langtag_extensions_form, langtag_is_locale,
- * langtag_locale_form, and the calls that take a list of tags. langtag_next_keyword and langtag_next_field read the
- * string from its start in each call. So a walk reads it once for each different key, of which there are at most 1,296.
- * A walk over all of them takes up to 5 s for 1 MB, while langtag_keyword takes 3 ms for one key.
+ * For every input, each function ends, returns and writes what its comment says, and touches only the memory of its
+ * arguments. This is proved if LANGTAG_PROVED is 1. No function allocates, keeps state between calls, calls back,
+ * prints, exits or sets errno. So the functions may be called from several threads at once, and from signal handlers.
+ * Time grows linearly with the length of the strings, except for langtag_repeats, langtag_extensions_form,
+ * langtag_is_locale, langtag_locale_form, and the calls that take a list of tags. langtag_next_keyword and
+ * langtag_next_field read the string from its start in each call. So a walk reads it once for each different key, of
+ * which there are at most 1,296.
  *
  * Only langtag_validity, langtag_canonical, langtag_is_canonical and langtag_locale_form use the IANA registry.
  *
@@ -29,7 +29,8 @@
  *      langtag_recommend) does not overlap the memory of any other argument. Strings that are only read may overlap.
  *   5. An x86-64 processor has SSE4.2 (x86-64-v2). Any aarch64 processor is supported. Calls follow the C calling
  *      convention of the platform. 4 KiB of the stack is free for each call, and 16 KiB for langtag_repeats,
- *      langtag_extensions_form, langtag_is_locale and langtag_locale_form.
+ *      langtag_extensions_form, langtag_is_locale, langtag_locale_form, langtag_best_for_header, langtag_match_for_header,
+ *      langtag_site_best_for_header, langtag_site_match_for_header, langtag_suitable_for_header and langtag_suitable_for_ranges.
  *
  * Offsets and lengths are in bytes, and offsets count from the start of the string. Case is that of ASCII letters only.
  */
@@ -437,8 +438,9 @@ enum langtag_validity_answer {
  *     printf("%.*s\n", (int)invalid.len, "qt-FR" + invalid.start); // qt
  *
  * A tag is valid if it is grandfathered, or if its language, extended language, script, region and variants are
- * registered, it has at most one extended language, and no variant or singleton is repeated. The registry is that of
- * langtag_registry_date. Deprecated subtags are valid. Whether a variant follows one of its prefixes is not checked.
+ * registered, it has at most one extended language, and no variant or singleton is repeated. It uses the registry whose
+ * date langtag_registry_date returns. Deprecated subtags are valid. Whether a variant follows one of its prefixes is
+ * not checked.
  */
 uint32_t langtag_validity(const char *bytes, size_t len, langtag_span *invalid);
 
@@ -462,8 +464,8 @@ size_t langtag_suggestion(uint32_t fault, const char *subtag, size_t subtag_len,
 
 /*
  * Writes the canonical form of a tag to `buffer` (RFC 5646 section 4.5), and returns its length: iw becomes he, zh-yue
- * becomes yue, art-lojban becomes jbo, en-b-ccc-a-aaa becomes en-a-aaa-b-ccc. The registry is that of
- * langtag_registry_date.
+ * becomes yue, art-lojban becomes jbo, en-b-ccc-a-aaa becomes en-a-aaa-b-ccc. It uses the registry whose
+ * date langtag_registry_date returns.
  *
  *     char buffer[64];
  *     size_t len = langtag_canonical("en-BU", 5, buffer, sizeof buffer);
@@ -528,24 +530,33 @@ size_t langtag_cldr_version(char *buffer, size_t buffer_len);
 
 /*
  * Writes the parent of a tag in CLDR to `buffer` (UTS #35, part 1, Parent Locales), and returns its length: pt-PT for
- * pt-AO, zh-Hant for zh-TW. If a catalogue has no string for a tag, it looks for the parent of the tag next. The data
- * are those of langtag_cldr_version. As with langtag_canonical, nothing is written if the buffer is too short.
- *
- *     char tags[2][64] = {"pt-AO"};
- *     size_t len = 5;
- *     for (int at = 0; len > 0 && len <= sizeof tags[at]; at = !at) {
- *         printf("%.*s ", (int)len, tags[at]); // pt-AO pt-PT pt
- *         len = langtag_parent(tags[at], len, tags[!at], sizeof tags[!at]);
- *     }
- *
- * A parent is written in the same script, so zh-Hant has none: zh is Simplified. Extensions and private use are
- * removed first, then each variant, the last one first, then the region. A script is only removed if it is the likely
- * script of the language. The tag should be in its canonical form, as CLDR does not list deprecated or extended
- * languages. Case is ignored.
+ * pt-AO, zh-Hant for zh-TW. If a catalogue has no string for a tag, it looks for the parent of the tag next, and then
+ * for the other tags of langtag_nth_parent, which says more. As with langtag_canonical, nothing is written if the
+ * buffer is too short.
  *
  * Returns 0 and writes nothing if the tag has no parent, such as pt and x-a, or if the string is not a tag.
  */
 size_t langtag_parent(const char *bytes, size_t len, char *buffer, size_t buffer_len);
+
+/*
+ * Writes the tag at an index of the chain of a tag and its parents in CLDR to `buffer`, and returns its length. At 0 is
+ * the tag itself, and at 1 its parent. A catalogue looks for a string in this order. The data are those of
+ * langtag_cldr_version. As with langtag_canonical, nothing is written if the buffer is too short.
+ *
+ *     char tag[64];
+ *     size_t len;
+ *     for (uint32_t at = 0; (len = langtag_nth_parent("pt-Latn-AO", 10, at, tag, sizeof tag)) > 0 && len <= sizeof tag; at++)
+ *         printf("%.*s ", (int)len, tag); // pt-Latn-AO pt-AO pt-PT pt
+ *
+ * All tags of a chain are written in the same script, so zh-Hant has no parent: zh is Simplified. A script that is
+ * likely anyway goes first. Extensions and private use are removed next, then each variant, the last one first, and
+ * then the region. The variants come back with each parent: ca-ES-valencia, ca-ES, ca-valencia, ca. A script is only
+ * removed if it is the likely script of the language. The tag should be in its canonical form, as CLDR does not list
+ * deprecated or extended languages. Case is ignored.
+ *
+ * Returns 0 and writes nothing if the chain has no more tags, or if the string is not a tag.
+ */
+size_t langtag_nth_parent(const char *bytes, size_t len, uint32_t index, char *buffer, size_t buffer_len);
 
 /*
  * Returns whether a tag is written from right to left, by its script or, if it has none, by its likely script: true
@@ -581,9 +592,10 @@ LANGTAG_PURE uint32_t langtag_distance(const char *desired, size_t desired_len, 
  * Ranges are tried in order of weight. The first range with a tag at a distance below 16 wins, and its nearest tag is
  * chosen (langtag_distance). If there is no such range, the limit is 50, and after that, lookup is tried (RFC 4647
  * section 3.4). A tag whose longest matching range has the weight 0 is not chosen. A range "*" chooses nothing, so the
- * program's default is used. Among tags at the same distance, the best is the tag for which lookup removes the fewest
- * subtags from the range, then a tag with the most likely region of its language, then one of CLDR's paradigm locales,
- * such as es-419, then the first in the list. So list the tags in the order that you prefer.
+ * program's default is used. Among tags at the same distance, the best has the most variants of the range. If several have
+ * as many, it is the tag for which lookup removes the fewest subtags from the range, then a tag with the most likely region
+ * of its language, then one of CLDR's paradigm locales, such as es-419, then the first in the list. So list the tags in the
+ * order that you prefer.
  *
  * Malformed elements are read leniently: _ is read as a hyphen, everything after ., @ or _# is dropped, and a weight
  * that is not a number counts as 1.
@@ -597,7 +609,7 @@ LANGTAG_PURE size_t langtag_best_for_header(const char *header, size_t header_le
 /*
  * Returns the index of the best tag for a list of language ranges, in order of preference, or `tags_len` if none is
  * suitable. The ranges are spans of one string, and the tags are spans of another. The choice is that of
- * langtag_best_for_header if all ranges have the same weight.
+ * langtag_best_for_header if all ranges have the same weight. Only a header skips extended ranges, such as de-*.
  *
  * A range is read as in a header: zh_TW.UTF-8 is read as zh-TW, and sr_RS@latin as sr-RS. Call langtag_from_posix
  * first for the names in LANG and LANGUAGE. An extended range is read without its *: zh-*-Hant is read as zh-Hant. A
@@ -639,8 +651,8 @@ size_t langtag_match_for_header(const char *header, size_t header_len, const cha
  *     size_t found[4], count = langtag_suitable_for_header(header, strlen(header), have, strlen(have), tags, 4, found, 4);
  *     for (size_t i = 0; i < count; i++) printf("%zu ", found[i]); // 2 3 1
  *
- * The rest of the array stays unchanged. The time is that of langtag_best_for_header for each index, and of a
- * comparison with each earlier index for each tag, so `found_len` limits the time.
+ * The rest of the array stays unchanged. The time is that of a choice for every 16 indices, and of a comparison with
+ * each earlier index for each tag, so `found_len` limits the time.
  */
 size_t langtag_suitable_for_header(const char *header, size_t header_len, const char *bytes, size_t len,
                                    const langtag_span *tags, size_t tags_len, size_t *found, size_t found_len);
@@ -706,15 +718,18 @@ size_t langtag_site_match_for_header(const char *header, size_t header_len, cons
  * pt_BR.UTF-8 becomes pt-BR, sr_RS@latin becomes sr-Latn-RS, ca_ES@valencia becomes ca-ES-valencia, and zh_TW_#Hant,
  * as Java prints it, becomes zh-Hant-TW. As with langtag_canonical, nothing is written if the buffer is too short.
  * Names as Android and .NET write them are read, too: zh-rTW becomes zh-TW, b+sr+Latn becomes sr-Latn, zh-CHT becomes
- * zh-Hant, and sr-SP-Latn becomes sr-Latn-RS.
+ * zh-Hant, and sr-SP-Latn becomes sr-Latn-RS. An empty language or region is read as in Java and ICU: _US becomes und-US.
  *
  * The codeset is dropped. The modifiers latin, cyrillic, devanagari, iqtelif, valencia, tarask, ijekavian,
- * ijekavianlatin and the codes of scripts are used, ignoring case. Other modifiers are dropped. If the only variant is
+ * ijekavianlatin and the codes of scripts are used, ignoring case. Extensions come from Java's names and from the keywords
+ * of ICU and Apple: de_DE_#u-co-phonebk and de_DE@collation=phonebook become de-DE-u-co-phonebk. Other modifiers are
+ * dropped, and so are keywords if one of them cannot be read. If the only variant is
  * POSIX, ignoring case, and there are no extensions, it becomes the keyword va-posix: en_US_POSIX becomes
  * en-US-u-va-posix.
  *
  * Returns 0 and writes nothing if language and territory do not form a tag (C), are POSIX, or have more than 255
- * bytes.
+ * bytes, or 260 with extensions. Also if what follows # is no script and no extension, or if extensions would come after an
+ * extension or private use.
  */
 size_t langtag_from_posix(const char *name, size_t name_len, char *buffer, size_t buffer_len);
 

@@ -66,6 +66,9 @@ enum class fault : std::uint32_t {
     repeated_singleton = LANGTAG_INVALID_REPEATED_SINGLETON
 };
 
+/* Returns a string as messages show it: in backticks, with escapes, and only its first characters if it is longer. */
+inline std::string quoted(std::string_view text, std::size_t most = 80);
+
 /* A subtag that makes a tag invalid, and the offset in the string at which it begins. */
 struct invalid_subtag {
     langtag::fault fault;
@@ -116,13 +119,14 @@ struct key_value {
 /* A temporary string. Functions that keep a view have a deleted overload for it. */
 template <class Allocator> using temporary_string = const std::basic_string<char, std::char_traits<char>, Allocator> &&;
 
-/* Returns what a call writes for a string. The call writes into a buffer on the stack, and again if the buffer was too short. */
-inline std::string written_by(std::size_t (*write)(const char *, std::size_t, char *, std::size_t), std::string_view text) {
+/* Returns what a call writes for a string and other arguments. The call writes into a buffer on the stack, and again if the buffer was
+ * too short. */
+template <class Write, class... Given> std::string written_by(Write write, std::string_view text, Given... given) {
     char room[128];
-    const std::size_t len = write(langtag_bytes(text.data()), text.size(), room, sizeof room);
+    const std::size_t len = write(langtag_bytes(text.data()), text.size(), given..., room, sizeof room);
     if (len <= sizeof room) return std::string(room, len);
     std::string made(len, '\0');
-    write(text.data(), text.size(), &made[0], made.size());
+    write(text.data(), text.size(), given..., &made[0], made.size());
     return made;
 }
 
@@ -193,8 +197,7 @@ public:
     /* Returns the string of the tag with one part changed; an empty string removes the part. Returns std::nullopt if the tag is not a
      * normal tag, or the string is not such a part. */
     std::optional<std::string> with(langtag::part which, std::string_view given) const {
-        return edited(text_.size() + given.size() + 1, langtag_with_part, static_cast<std::uint32_t>(which), langtag_bytes(given.data()),
-                      given.size());
+        return unless_empty(written(langtag_with_part, static_cast<std::uint32_t>(which), langtag_bytes(given.data()), given.size()));
     }
 
     /* Changes several parts, one after another: tag.with({{part::script, "Latn"}, {part::region, "RS"}}). */
@@ -210,14 +213,13 @@ public:
     /* Returns the string of the tag with a value of a key of the extension u: tag.with_keyword("ca", "buddhist"). An empty value means
      * true. Returns std::nullopt if the tag is not a normal tag, or the key or the value cannot be in a keyword. */
     std::optional<std::string> with_keyword(std::string_view key, std::string_view value) const {
-        return edited(text_.size() + key.size() + value.size() + 4, langtag_with_keyword, langtag_bytes(key.data()), key.size(),
-                      langtag_bytes(value.data()), value.size());
+        return unless_empty(written(langtag_with_keyword, langtag_bytes(key.data()), key.size(), langtag_bytes(value.data()), value.size()));
     }
 
     /* Returns the string of the tag without a key of the extension u. Returns std::nullopt if the tag is not a normal tag, or the key
      * cannot be in a keyword. */
     std::optional<std::string> without_keyword(std::string_view key) const {
-        return edited(text_.size(), langtag_without_keyword, langtag_bytes(key.data()), key.size());
+        return unless_empty(written(langtag_without_keyword, langtag_bytes(key.data()), key.size()));
     }
 
     /* Returns the tag without extensions and private use: de-CH for de-CH-u-co-phonebk-x-a. A private-use tag and an irregular tag are
@@ -259,10 +261,11 @@ public:
      * std::nullopt if there is none, such as for pt. A parent is written in the same script, so zh-Hant has none. */
     std::optional<std::string> parent() const { return unless_empty(written(langtag_parent)); }
 
-    /* Returns the tag, its parent, the parent of its parent, and so on: pt-AO, pt-PT and pt for pt-AO. */
+    /* Returns the tag and its parents, in which order to search a catalogue: pt-AO, pt-PT and pt for pt-AO. The comment of
+     * langtag_nth_parent in langtag.h says more. */
     std::vector<std::string> parents() const {
         std::vector<std::string> found;
-        for (std::string next(text_); !next.empty(); next = written_by(langtag_parent, found.back())) found.push_back(std::move(next));
+        for (std::string next(text_); !next.empty(); next = written(langtag_nth_parent, static_cast<std::uint32_t>(found.size()))) found.push_back(std::move(next));
         return found;
     }
 
@@ -280,15 +283,7 @@ private:
     tag(std::string_view text, langtag::kind kind, const langtag_parts &parts) noexcept
         : text_(text), kind_(kind), parts_(parts) {}
 
-    std::string written(std::size_t (*write)(const char *, std::size_t, char *, std::size_t)) const { return written_by(write, text_); }
-
-    /* Returns the string that a call writes, in at most `room` bytes, or std::nullopt if it writes none. It is proved that no result of
-     * these calls is longer (clause `bounded` of langtag_with_part, langtag_with_keyword and langtag_without_keyword). */
-    template <class Write, class... Given> std::optional<std::string> edited(std::size_t room, Write write, Given... given) const {
-        std::string made(room, '\0');
-        made.resize(write(text_.data(), text_.size(), given..., &made[0], made.size()));
-        return unless_empty(std::move(made));
-    }
+    template <class Write, class... Given> std::string written(Write write, Given... given) const { return written_by(write, text_, given...); }
 
     /* No bounds are checked: langtag_parse guarantees that each span is within the string. */
     std::string_view cut(langtag_span span) const noexcept { return {text_.data() + span.start, span.len}; }
@@ -412,6 +407,8 @@ public:
         if (!read) return std::nullopt;
         return owned_tag(std::move(text), read->kind_, read->parts_);
     }
+    static std::optional<owned_tag> parse(std::string_view text) { return parse(std::string(text)); }
+    static std::optional<owned_tag> parse(const char *text) { return parse(std::string(text)); }
     explicit owned_tag(const tag &tag) : owned_tag(std::string(tag.text_), tag.kind_, tag.parts_) {}
 
     const std::string &text() const noexcept { return text_; }
@@ -448,11 +445,19 @@ public:
      * std::invalid_argument if `set` would return false. */
     owned_tag with(part which, std::string_view given) const {
         owned_tag made = *this;
-        if (!made.set(which, given)) throw std::invalid_argument(text_ + " can't have the part " + std::string(given));
+        if (!made.set(which, given)) throw std::invalid_argument(why_not(which, given));
         return made;
     }
 
 private:
+    /* Returns why `set` returned false. An empty string removes each part but the language. */
+    std::string why_not(part which, std::string_view given) const {
+        static const char *const names[] = {"language", "script", "region", "variants", "extensions", "private use"};
+        if (kind_ != langtag::kind::normal) return "not a normal language tag";
+        if (given.empty()) return "the language cannot be removed";
+        return std::string("invalid ") + names[static_cast<std::uint32_t>(which)] + " " + quoted(given);
+    }
+
     owned_tag(std::string text, langtag::kind kind, const langtag_parts &parts) noexcept
         : text_(std::move(text)), kind_(kind), parts_(parts) {}
 
@@ -526,10 +531,12 @@ public:
         return langtag::matched(at(index), index, header, match);
     }
 
-    /* Returns the suitable tags for a header or for a list of ranges, best first. */
-    std::vector<tag> suitable(std::string_view header) const { return all(langtag_suitable_for_header, langtag_bytes(header.data()), header.size()); }
-    std::vector<tag> suitable(const listed_tags &ranges) const {
-        return all(langtag_suitable_for_ranges, ranges.text_.data(), ranges.text_.size(), ranges.spans_.data(), ranges.given_.size());
+    /* Returns the suitable tags for a header or for a list of ranges, best first, and at most so many. */
+    std::vector<tag> suitable(std::string_view header, std::size_t most) const {
+        return all(most, langtag_suitable_for_header, langtag_bytes(header.data()), header.size());
+    }
+    std::vector<tag> suitable(const listed_tags &ranges, std::size_t most) const {
+        return all(most, langtag_suitable_for_ranges, ranges.text_.data(), ranges.text_.size(), ranges.spans_.data(), ranges.given_.size());
     }
 
 private:
@@ -538,9 +545,10 @@ private:
     }
 
     /* Returns the tags whose indices a call writes. */
-    template <class Suit, class... Wanted> std::vector<tag> all(Suit suit, Wanted... wanted) const {
-        std::vector<std::size_t> found(given_.size() + 1); /* so that data() is not null */
-        found.resize(suit(wanted..., text_.data(), text_.size(), spans_.data(), given_.size(), found.data(), given_.size()));
+    template <class Suit, class... Wanted> std::vector<tag> all(std::size_t most, Suit suit, Wanted... wanted) const {
+        const std::size_t room = std::min(most, given_.size());
+        std::vector<std::size_t> found(room + 1); /* so that data() is not null */
+        found.resize(suit(wanted..., text_.data(), text_.size(), spans_.data(), given_.size(), found.data(), room));
         std::vector<tag> tags;
         for (const std::size_t index : found) tags.push_back(*at(index)); /* a suitable entry is a tag */
         return tags;
@@ -597,13 +605,22 @@ struct character {
         if (code == '\n') return "\\n";
         if (code == '\r') return "\\r";
         if (code == '\\' || code == '`') return {'\\', static_cast<char>(code)};
-        const bool is_control = code < 0x20 || (code >= 0x7F && code < 0xA0);
-        const bool is_invisible = (code >= 0x200B && code <= 0x200F) || (code >= 0x2028 && code <= 0x202E) ||
-                                  (code >= 0x2060 && code <= 0x206F) || code == 0xFEFF;
-        return is_control || is_invisible ? "\\u{" + hexadecimal() + "}" : "";
+        return is_invisible() ? "\\u{" + hexadecimal() + "}" : "";
     }
 
 private:
+    /* Returns whether the character is a control character, is invisible, or changes the direction of the string: Unicode's categories Cc,
+     * Cf, Zl, Zp and Zs (except for the space), and the property Default_Ignorable_Code_Point. All languages have this list. */
+    bool is_invisible() const {
+        static constexpr std::uint32_t ranges[][2] = {
+            {0, 0x1f}, {0x7f, 0xa0}, {0xad, 0xad}, {0x34f, 0x34f}, {0x600, 0x605}, {0x61c, 0x61c}, {0x6dd, 0x6dd}, {0x70f, 0x70f},
+            {0x890, 0x891}, {0x8e2, 0x8e2}, {0x115f, 0x1160}, {0x1680, 0x1680}, {0x17b4, 0x17b5}, {0x180b, 0x180f}, {0x2000, 0x200f},
+            {0x2028, 0x202f}, {0x205f, 0x206f}, {0x3000, 0x3000}, {0x3164, 0x3164}, {0xfe00, 0xfe0f}, {0xfeff, 0xfeff}, {0xffa0, 0xffa0},
+            {0xfff0, 0xfffb}, {0x110bd, 0x110bd}, {0x110cd, 0x110cd}, {0x13430, 0x1343f}, {0x1bca0, 0x1bca3}, {0x1d173, 0x1d17a},
+            {0xe0000, 0xe0fff}};
+        return std::any_of(std::begin(ranges), std::end(ranges), [this](const auto &it) { return it[0] <= code && code <= it[1]; });
+    }
+
     std::string hexadecimal() const {
         std::string made;
         for (std::uint32_t rest = code; rest > 0 || made.empty(); rest /= 16) made.insert(made.begin(), "0123456789abcdef"[rest % 16]);
@@ -611,8 +628,7 @@ private:
     }
 };
 
-/* Returns a string as messages show it: in backticks, with escapes, and only its first characters if it is longer. */
-inline std::string quoted(std::string_view text, std::size_t most = 80) {
+inline std::string quoted(std::string_view text, std::size_t most) {
     std::string made = "`";
     for (std::size_t count = 0; !text.empty() && count < most; count++) {
         const character one = character::first(text);
@@ -782,20 +798,23 @@ std::optional<tag> best_for_ranges(const Ranges &ranges, Tags &&tags) {
     return listed_tags(tags).chosen_for(listed_tags(ranges));
 }
 
+/* The number of suitable tags that a call returns if it is not given another most. */
+inline constexpr std::size_t all_suitable = static_cast<std::size_t>(-1);
+
 /* Returns all suitable tags for a header, best first: the tag that best_for_header chooses, the tag that it chooses among the other
- * tags, and so on. A player offers its tracks in this order. */
+ * tags, and so on. If `most` is given, it returns so many of the best. A player offers its tracks in this order. */
 template <class Tags = texts, std::enable_if_t<stays<Tags>, int> = 0>
-std::vector<tag> suitable_for_header(std::string_view header, Tags &&tags) {
-    return listed_tags(tags).suitable(header);
+std::vector<tag> suitable_for_header(std::string_view header, Tags &&tags, std::size_t most = all_suitable) {
+    return listed_tags(tags).suitable(header, most);
 }
-inline std::vector<tag> suitable_for_header(std::string_view header, const std::vector<tag> &tags) {
-    return suitable_for_header<const std::vector<tag> &>(header, tags);
+inline std::vector<tag> suitable_for_header(std::string_view header, const std::vector<tag> &tags, std::size_t most = all_suitable) {
+    return suitable_for_header<const std::vector<tag> &>(header, tags, most);
 }
 
 /* Returns all suitable tags for a list of ranges, in order of preference, as suitable_for_header does for a header. */
 template <class Ranges = texts, class Tags = texts, std::enable_if_t<stays<Tags>, int> = 0>
-std::vector<tag> suitable_for_ranges(const Ranges &ranges, Tags &&tags) {
-    return listed_tags(tags).suitable(listed_tags(ranges));
+std::vector<tag> suitable_for_ranges(const Ranges &ranges, Tags &&tags, std::size_t most = all_suitable) {
+    return listed_tags(tags).suitable(listed_tags(ranges), most);
 }
 
 /* The tags of a site that are known before the requests. What a choice needs of each tag is computed once, so a choice among
@@ -851,7 +870,23 @@ public:
     }
     template <class Ranges = texts> std::optional<tag> best_for_ranges(const Ranges &) const && = delete;
 
+    /* Return all suitable tags, best first, as the functions with these names do. */
+    std::vector<tag> suitable_for_header(std::string_view header, std::size_t most = all_suitable) const & {
+        return listed_tags(texts_of()).suitable(header, most);
+    }
+    std::vector<tag> suitable_for_header(std::string_view, std::size_t = 0) const && = delete;
+    template <class Ranges = texts> std::vector<tag> suitable_for_ranges(const Ranges &ranges, std::size_t most = all_suitable) const & {
+        return listed_tags(texts_of()).suitable(listed_tags(ranges), most);
+    }
+    template <class Ranges = texts> std::vector<tag> suitable_for_ranges(const Ranges &, std::size_t = 0) const && = delete;
+
 private:
+    std::vector<std::string_view> texts_of() const {
+        std::vector<std::string_view> found;
+        for (const langtag_prepared_tag &it : tags_) found.push_back(std::string_view(text_).substr(it.tag.start, it.tag.len));
+        return found;
+    }
+
     std::optional<tag> at(std::size_t index) const { return index < tags_.size() ? (*this)[index] : std::nullopt; }
 
     std::string text_;
@@ -909,7 +944,7 @@ public:
     }
 
     /* Returns the best tag for the ranges by language distance, as best_for_ranges does. Malformed elements and ranges of weight 0 are
-     * not among the ranges, so de-CH;q=0 does not exclude de-CH here, although best_for_header excludes it. */
+     * not among the ranges. So de_CH is not repaired and de-CH;q=0 excludes nothing. best_for_header does both. */
     template <class Tags = texts, std::enable_if_t<stays<Tags>, int> = 0> std::optional<tag> best(Tags &&tags) const {
         std::vector<range> wanted;
         for (const weighted_range &it : ranges()) wanted.push_back(it.range);
@@ -933,8 +968,8 @@ inline std::uint32_t distance(const tag &desired, const tag &supported) noexcept
     return langtag_distance(a.data(), a.size(), b.data(), b.size());
 }
 
-/* Returns the tag for a POSIX locale name: pt_BR.UTF-8 becomes pt-BR, and en_US_POSIX becomes en-US-u-va-posix. Names as Java, Android
- * and .NET write them are read, too: zh-rTW becomes zh-TW. Returns std::nullopt if there is none, such as for the locales C and POSIX. */
+/* Returns the tag for a POSIX locale name: pt_BR.UTF-8 becomes pt-BR, and en_US_POSIX becomes en-US-u-va-posix. Names as Java,
+ * Android, .NET, ICU and Apple's systems write them are read, too: zh-rTW becomes zh-TW. Returns std::nullopt if there is none, such as for the locales C and POSIX. */
 inline std::optional<std::string> from_posix(std::string_view name) { return unless_empty(written_by(langtag_from_posix, name)); }
 
 /* Returns the modifier that from_posix drops because it is not known: foo in de_DE@foo. Returns std::nullopt if there is none. */

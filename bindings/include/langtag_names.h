@@ -2,7 +2,7 @@
  * Names of tags from Unicode's CLDR, for the wrappers of the C library: langtag_names.hpp, PostgreSQL and SQLite. The functions do not
  * allocate. They are not proved: tests compare them with the other languages.
  *
- * Each function takes a tag in canonical form and in the recommended case, so call langtag_canonical and langtag_recommend first.
+ * Each function takes the form of a tag that langtag_name_form writes, in the recommended case, so call langtag_recommend next.
  */
 #ifndef LANGTAG_NAMES_H
 #define LANGTAG_NAMES_H
@@ -10,6 +10,13 @@
 #include "langtag.h"
 #include "langtag_names_data.h"
 #include <string.h>
+
+/* Writes the form of a tag whose subtags have the names, as langtag_canonical writes its form: the locale form, "de" for "ger", or the
+ * canonical form if there is no locale form. */
+static inline size_t langtag_name_form(const char *tag, size_t len, char *buffer, size_t buffer_len) {
+    const size_t form_len = langtag_locale_form(tag, len, buffer, buffer_len);
+    return form_len > 0 ? form_len : langtag_canonical(tag, len, buffer, buffer_len);
+}
 
 /* A string that is written to a buffer. Bytes that do not fit are counted. */
 typedef struct langtag_name {
@@ -56,27 +63,42 @@ static inline void langtag_name_subtag(langtag_name *to, bool *is_first, const c
     langtag_name_detail(to, is_first, name ? name : bytes + subtag.start, name ? strlen(name) : subtag.len);
 }
 
-/* Compares two subtags of a string in alphabetical order. Equal subtags are in the order in which they stand. */
-static inline int langtag_name_order(const char *bytes, langtag_span a, langtag_span b) {
+/* Returns whether a subtag of a string comes before another one in alphabetical order. */
+static inline bool langtag_name_is_before(const char *bytes, langtag_span a, langtag_span b) {
     const int order = memcmp(bytes + a.start, bytes + b.start, a.len < b.len ? a.len : b.len);
-    if (order != 0) return order;
-    if (a.len != b.len) return a.len < b.len ? -1 : 1;
-    return a.start < b.start ? -1 : a.start > b.start;
+    return order < 0 || (order == 0 && a.len < b.len);
 }
 
-/* Adds the variants in alphabetical order. Each pass finds the next one, so the time is quadratic in their number. */
-static inline void langtag_name_variants(langtag_name *to, bool *is_first, const char *form, size_t len, langtag_span variants) {
-    langtag_span last = {0, 0}, next, variant;
-    do {
-        langtag_span rest = variants;
-        next.len = 0;
-        while (langtag_next_subtag(form, len, &rest, &variant)) {
-            const bool is_later = last.len == 0 || langtag_name_order(form, last, variant) < 0;
-            if (is_later && (next.len == 0 || langtag_name_order(form, variant, next) < 0)) next = variant;
-        }
-        langtag_name_subtag(to, is_first, form, next);
-        last = next;
-    } while (next.len > 0);
+/* Returns the offset of the first hyphen at or after an offset, or `len` if there is none. */
+static inline size_t langtag_name_hyphen(const char *subtags, size_t at, size_t len) {
+    while (at < len && subtags[at] != '-') at++;
+    return at;
+}
+
+/* Puts subtags with hyphens between them in alphabetical order, by merging two sorted halves. `room` has `len` bytes. */
+static inline void langtag_name_sort(char *subtags, size_t len, char *room) {
+    const size_t middle = langtag_name_hyphen(subtags, len / 2, len), half = middle < len ? middle : langtag_name_hyphen(subtags, 0, len);
+    langtag_span rest[2] = {{0, half}, {half + 1, 0}}, next[2];
+    size_t made = 0;
+    if (half == len) return;
+    rest[1].len = len - half - 1;
+    langtag_name_sort(subtags, half, room);
+    langtag_name_sort(subtags + half + 1, len - half - 1, room);
+    for (int k = 0; k < 2; k++) langtag_next_subtag(subtags, len, &rest[k], &next[k]);
+    while (made < len) {
+        const int k = next[0].len == 0 || (next[1].len > 0 && langtag_name_is_before(subtags, next[1], next[0]));
+        memcpy(room + made, subtags + next[k].start, next[k].len);
+        made += next[k].len;
+        if (made < len) room[made++] = '-';
+        if (!langtag_next_subtag(subtags, len, &rest[k], &next[k])) next[k].len = 0;
+    }
+    memcpy(subtags, room, len);
+}
+
+/* Puts the variants of a tag in alphabetical order, as `describe` shows them. `room` has `len` bytes. */
+static inline void langtag_name_sort_variants(char *form, size_t len, char *room) {
+    langtag_parts parts;
+    if (langtag_parse(form, len, &parts) != LANGTAG_NONE) langtag_name_sort(form + parts.variants.start, parts.variants.len, room);
 }
 
 /* Adds each extension as it stands, but only the first with the same singleton. */
@@ -92,6 +114,7 @@ static inline void langtag_name_extensions(langtag_name *to, bool *is_first, con
 /*
  * Writes an English name of a tag, and returns its length: "Portuguese (Brazil)" for pt-BR. As with snprintf, the result may be greater
  * than `buffer_len`. The name is then cut off. A string that is not a tag, a private-use tag and an irregular tag are written as they are.
+ * Call langtag_name_sort_variants first.
  */
 static inline size_t langtag_name_describe(const char *form, size_t len, char *buffer, size_t buffer_len) {
     langtag_name to = {buffer, buffer_len, 0};
@@ -106,7 +129,8 @@ static inline size_t langtag_name_describe(const char *form, size_t len, char *b
     langtag_name_put(&to, language ? language : form, language ? strlen(language) : parts.language.len);
     langtag_name_subtag(&to, &is_first, form, parts.script);
     langtag_name_subtag(&to, &is_first, form, parts.region);
-    langtag_name_variants(&to, &is_first, form, len, parts.variants);
+    for (langtag_span rest = parts.variants, variant; langtag_next_subtag(form, len, &rest, &variant);)
+        langtag_name_subtag(&to, &is_first, form, variant);
     langtag_name_extensions(&to, &is_first, form, len, parts.extensions);
     if (parts.private_use.len > 0) langtag_name_detail(&to, &is_first, form + parts.private_use.start, parts.private_use.len);
     if (!is_first) langtag_name_put(&to, ")", 1);

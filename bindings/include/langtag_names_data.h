@@ -1,4 +1,4 @@
-/* The names of Unicode's CLDR 48.2 (the notice: likely/LICENSE-UNICODE). Written by names/generate.py. Do not edit. */
+/* The names of Unicode's CLDR 48.2 (the notice: LICENSE-UNICODE). Written by data/names/generate.py. Do not edit. */
 #ifndef LANGTAG_NAMES_DATA_H
 #define LANGTAG_NAMES_DATA_H
 
@@ -1378,7 +1378,7 @@ static const char *const langtag_own_names[] = {
     "ksb Kishambaa",
     "ksf rikpa",
     "ksh Kölsch",
-    "ku kurmancî",
+    "ku kurdî (kurmancî)",
     "kw kernewek",
     "kxv kuvi",
     "kxv-Deva कुवि",

@@ -314,6 +314,16 @@ export function parent(text, room = text.length + 32) {
     return parent(text, length);
 }
 
+/** Returns the written string. */
+export function nthParent(text, index, room = text.length + 32) {
+    const at0 = open(text.length + room);
+    const at1 = write(text, at0);
+    const length = count(module.calls.langtag_nth_parent(module.begin, size(text.length), index, size(at1), size(room)));
+    if (length <= room) return close(read(at1, length));
+    close();
+    return nthParent(text, index, length);
+}
+
 export function isRightToLeft(text) {
     const at0 = open(text.length);
     write(text, at0);

@@ -1,6 +1,7 @@
 /* Written by tsc from index.ts. Do not edit. */
 /**
- * Language tags and language ranges by BCP 47 (RFC 5646, RFC 4647), over code that is proved to accept exactly the tags of the grammar.
+ * Parses, compares, edits and matches language tags (BCP 47: RFC 5646, RFC 4647), and picks the best language for an Accept-Language
+ * header. `PROVED` is true only if the module in this package was linked from the archive that Rattle's prover built.
  *
  *     const tag = LanguageTag.parse("zh-yue-Hant-HK-u-co-pinyin-x-mine");
  *     [tag.primaryLanguage, tag.script, tag.region];                              // ["zh", "Hant", "HK"]
@@ -8,8 +9,8 @@
  *     tag.equals("ZH-YUE-hant-hk-U-CO-pinyin-x-MINE");                            // true
  *     bestForHeader("zh-TW,zh;q=0.9,en;q=0.8", ["en", "zh-Hans", "zh-Hant"]);     // "zh-Hant"
  *
- * Offsets and lengths count UTF-16 code units, as in JavaScript's strings. Only `isValid`, `invalidSubtag`, `isCanonical`, `canonical` and
- * `localeForm` use the IANA registry. Functions that take a tag or a range also accept a string. An invalid string throws `InvalidTag` or
+ * Offsets and lengths count UTF-16 code units, as in JavaScript's strings. Only `isValid`, `invalidSubtag`, `isCanonical`, `canonical`,
+ * `localeForm`, `describe` and `autonym` use the IANA registry. Functions that take a tag or a range also accept a string. An invalid string throws `InvalidTag` or
  * `InvalidRange`, and any other value throws a `TypeError`.
  */
 /** A string, or an object with a `text`, such as a tag or a range, also from another copy of this module or from `structuredClone`. */
@@ -148,8 +149,8 @@ export declare class LanguageTag {
         language: string;
     }): LanguageTag;
     /**
-     * Returns the tag for a POSIX locale name, or undefined if there is none: pt_BR.UTF-8 becomes pt-BR. Names as Java, Android and .NET
-     * write them are read, too: zh-rTW becomes zh-TW. A modifier that is not known is dropped; `unknownModifier` returns it.
+     * Returns the tag for a POSIX locale name, or undefined if there is none: pt_BR.UTF-8 becomes pt-BR. Names as Java, Android, .NET, ICU
+     * and Apple's systems write them are read, too: zh-rTW becomes zh-TW. A modifier that is not known is dropped; `unknownModifier` returns it.
      */
     static fromPosix(name: string): LanguageTag | undefined;
     /**
@@ -227,7 +228,10 @@ export declare class LanguageTag {
      * zh-TW. A parent is written in the same script, so zh-Hant has none: zh is Simplified.
      */
     get parent(): LanguageTag | undefined;
-    /** The tag, its parent, the parent of its parent, and so on, in which order to search a catalogue: pt-AO, pt-PT and pt. */
+    /**
+     * The tag and its parents, in which order to search a catalogue: pt-Latn-AO, pt-AO, pt-PT and pt. A script that is likely anyway goes
+     * first, then extensions and private use, then the variants one by one, and then the region. The variants come back with each parent.
+     */
     get parents(): LanguageTag[];
     /** Whether the tag is a Unicode locale identifier (UTS #35), as Intl requires: false for zh-yue, i-klingon and x-a. */
     get isLocale(): boolean;
@@ -304,7 +308,7 @@ export declare class AcceptLanguage {
     lookUp<Tag extends Text, Otherwise>(tags: Iterable<Tag>, otherwise: Otherwise): Tag | Otherwise;
     /**
      * Returns the best tag for the ranges by language distance, as bestForRanges does, or the last argument. Malformed elements and ranges
-     * of weight 0 are not among the ranges, so de-CH;q=0 does not exclude de-CH here, although bestForHeader excludes it.
+     * of weight 0 are not among the ranges. So de_CH is not repaired and de-CH;q=0 excludes nothing. bestForHeader does both.
      */
     best<Tag extends Text>(tags: Iterable<Tag>): Tag | undefined;
     best<Tag extends Text, Otherwise>(tags: Iterable<Tag>, otherwise: Otherwise): Tag | Otherwise;
@@ -348,17 +352,17 @@ export declare function bestForHeader<Tag extends Text, Otherwise>(header: Heade
 export declare function matchForHeader<Tag extends Text>(header: Header, tags: Iterable<Tag>): BestMatch<Tag> | undefined;
 /**
  * Returns all suitable tags for a header, best first: the tag that bestForHeader chooses, the tag that it chooses among the other tags, and
- * so on. A catalogue looks for a message in this order.
+ * so on. A catalogue looks for a message in this order. If `most` is given, it returns so many of the best.
  *
  *     suitableForHeader("de-CH,fr;q=0.7", ["en", "fr", "de", "de-AT"]); // ["de", "de-AT", "fr"]
  */
-export declare function suitableForHeader<Tag extends Text>(header: Header, tags: Iterable<Tag>): Tag[];
+export declare function suitableForHeader<Tag extends Text>(header: Header, tags: Iterable<Tag>, most?: number): Tag[];
 /**
  * Returns all suitable tags for a list of ranges in order of preference, best first, as suitableForHeader does for a header.
  *
  *     suitableForRanges(["de_CH", "fr"], ["en", "fr", "de"]); // ["de", "fr"]
  */
-export declare function suitableForRanges<Tag extends Text>(ranges: Iterable<Text>, tags: Iterable<Tag>): Tag[];
+export declare function suitableForRanges<Tag extends Text>(ranges: Iterable<Text>, tags: Iterable<Tag>, most?: number): Tag[];
 /** Returns the length of the longest prefix with which some tag begins: 3 for "i-no". */
 export declare function viableLength(text: Text): number;
 /** Returns the length of the shortest prefix with which no tag begins, or of the whole string if there is none: 4 for "i-no". */
@@ -374,8 +378,8 @@ export declare function bestForRanges<Tag extends Text>(ranges: Iterable<Text>, 
 export declare function bestForRanges<Tag extends Text, Otherwise>(ranges: Iterable<Text>, tags: Iterable<Tag>, otherwise: Otherwise): Tag | Otherwise;
 /**
  * The tags of a site that are known before the requests, such as the languages of its translations. What a choice needs of each tag is
- * computed once, so a choice takes less time than with a list. The methods return what `bestForHeader`, `matchForHeader` and
- * `bestForRanges` return for the same tags. A site does not change.
+ * computed once, so a choice takes less time than with a list. The methods return what the functions of the same names return for the same
+ * tags. A site does not change.
  *
  *     const site = new Site(["en", "zh-Hans", "zh-Hant"]);
  *     site.bestForHeader("zh-TW,zh;q=0.9,en;q=0.8"); // "zh-Hant"
@@ -394,11 +398,15 @@ export declare class Site<Tag extends Text = Text> {
     /** Returns the best tag for a list of ranges in order of preference, or the last argument. */
     bestForRanges(ranges: Iterable<Text>): Tag | undefined;
     bestForRanges<Otherwise>(ranges: Iterable<Text>, otherwise: Otherwise): Tag | Otherwise;
+    /** Returns all suitable tags for a header, best first, or the `most` best, as the function suitableForHeader does. */
+    suitableForHeader(header: Header, most?: number): Tag[];
+    /** Returns all suitable tags for a list of ranges, best first, or the `most` best, as the function suitableForRanges does. */
+    suitableForRanges(ranges: Iterable<Text>, most?: number): Tag[];
 }
 /**
- * Returns an English name of a tag, made of CLDR's names for the subtags of its canonical form: "Portuguese (Brazil)" for pt-BR. A subtag
- * for which CLDR has no name is shown as it is, and so are extensions and private use. The variants are in alphabetical order. For names
- * in other languages, use `Intl.DisplayNames`.
+ * Returns an English name of a tag, made of CLDR's names for the subtags of its locale form, or of its canonical form if it has none:
+ * "Portuguese (Brazil)" for pt-BR. A subtag for which CLDR has no name is shown as it is, and so are extensions and private use. The
+ * variants are in alphabetical order. For names in other languages, use `Intl.DisplayNames`.
  */
 export declare function describe(tag: Text): string;
 /**

@@ -1,6 +1,7 @@
 /* Written by tsc from index.ts. Do not edit. */
 /**
- * Language tags and language ranges by BCP 47 (RFC 5646, RFC 4647), over code that is proved to accept exactly the tags of the grammar.
+ * Parses, compares, edits and matches language tags (BCP 47: RFC 5646, RFC 4647), and picks the best language for an Accept-Language
+ * header. `PROVED` is true only if the module in this package was linked from the archive that Rattle's prover built.
  *
  *     const tag = LanguageTag.parse("zh-yue-Hant-HK-u-co-pinyin-x-mine");
  *     [tag.primaryLanguage, tag.script, tag.region];                              // ["zh", "Hant", "HK"]
@@ -8,8 +9,8 @@
  *     tag.equals("ZH-YUE-hant-hk-U-CO-pinyin-x-MINE");                            // true
  *     bestForHeader("zh-TW,zh;q=0.9,en;q=0.8", ["en", "zh-Hans", "zh-Hant"]);     // "zh-Hant"
  *
- * Offsets and lengths count UTF-16 code units, as in JavaScript's strings. Only `isValid`, `invalidSubtag`, `isCanonical`, `canonical` and
- * `localeForm` use the IANA registry. Functions that take a tag or a range also accept a string. An invalid string throws `InvalidTag` or
+ * Offsets and lengths count UTF-16 code units, as in JavaScript's strings. Only `isValid`, `invalidSubtag`, `isCanonical`, `canonical`,
+ * `localeForm`, `describe` and `autonym` use the IANA registry. Functions that take a tag or a range also accept a string. An invalid string throws `InvalidTag` or
  * `InvalidRange`, and any other value throws a `TypeError`.
  */
 import * as calls from "./calls.js";
@@ -39,13 +40,25 @@ const PARTS = ["language", "script", "region", "variants", "extensions", "privat
 const FAULTS = [
     "language", "extlang", "second-extlang", "script", "region", "variant", "repeated-variant", "repeated-singleton",
 ];
-const ESCAPED = /[\0-\x1f\\`\x7f-\x9f\u200b-\u200f\u2028-\u202e\u2060-\u206f\ufeff]|\p{Surrogate}/gu;
+// The characters that messages escape: those that are control characters, are invisible, or change the direction of the string. They are
+// Unicode's categories Cc, Cf, Zl, Zp and Zs (except for the space), and the property Default_Ignorable_Code_Point. All languages have this
+// list. Surrogates are escaped, too.
+const ESCAPED = /[\\`\0-\x1f\x7f-\xa0\xad\u034f\u0600-\u0605\u061c\u06dd\u070f\u0890-\u0891\u08e2\u115f-\u1160\u1680\u17b4-\u17b5\u180b-\u180f\u2000-\u200f\u2028-\u202f\u205f-\u206f\u3000\u3164\ufe00-\ufe0f\ufeff\uffa0\ufff0-\ufffb\u{110bd}\u{110cd}\u{13430}-\u{1343f}\u{1bca0}-\u{1bca3}\u{1d173}-\u{1d17a}\u{e0000}-\u{e0fff}]|\p{Surrogate}/gu;
 const ESCAPES = { "\t": "\\t", "\n": "\\n", "\r": "\\r", "\\": "\\\\", "`": "\\`" };
 /** Returns a string as a message shows it: in backticks, with escapes, and only its first 80 characters if it is long. */
 function quoted(text) {
     const characters = [...text.slice(0, 161)]; // at least 81 characters, if there are so many
     const shown = characters.slice(0, 80).join("").replace(ESCAPED, (it) => ESCAPES[it] ?? `\\u{${it.codePointAt(0).toString(16)}}`);
     return `\`${shown}${characters.length > 80 ? "..." : ""}\``;
+}
+/** Returns a string without the spaces and tabs around it. */
+function withoutSpaces(text) {
+    let start = 0, end = text.length;
+    while (start < end && " \t".includes(text[start]))
+        start++;
+    while (start < end && " \t".includes(text[end - 1]))
+        end--;
+    return text.slice(start, end);
 }
 /** Returns the type of a value as an error message names it. */
 const typeName = (value) => (value === null ? "null" : typeof value);
@@ -96,7 +109,8 @@ export class EditError extends RangeError {
         const message = text === undefined ? "not a normal language tag" :
             part === "key" ? `${quoted(text)} is not a key of the extension u` :
                 part === "value" ? `${quoted(text)} is not a value of a key: a subtag needs three to eight letters or digits` :
-                    `invalid ${part === "privateUse" ? "private use" : part} ${quoted(text)}`;
+                    part === "language" && text === "" ? "the language cannot be removed" :
+                        `invalid ${part === "privateUse" ? "private use" : part} ${quoted(text)}`;
         super(message);
         Object.assign(this, { part, text });
     }
@@ -105,7 +119,8 @@ export class EditError extends RangeError {
  * is malformed. */
 export class AcceptLanguageError extends RangeError {
     constructor(header, index, offset, part) {
-        super(`element ${index} has a bad ${part}`);
+        const end = header.indexOf(",", offset), element = withoutSpaces(header.slice(offset, end < 0 ? header.length : end));
+        super(`element ${index + 1} at offset ${offset} has a bad ${part}: ${quoted(element)}`);
         Object.assign(this, { header, index, offset, part });
     }
 }
@@ -189,8 +204,8 @@ export class LanguageTag {
         return new LanguageTag("und").with(parts);
     }
     /**
-     * Returns the tag for a POSIX locale name, or undefined if there is none: pt_BR.UTF-8 becomes pt-BR. Names as Java, Android and .NET
-     * write them are read, too: zh-rTW becomes zh-TW. A modifier that is not known is dropped; `unknownModifier` returns it.
+     * Returns the tag for a POSIX locale name, or undefined if there is none: pt_BR.UTF-8 becomes pt-BR. Names as Java, Android, .NET, ICU
+     * and Apple's systems write them are read, too: zh-rTW becomes zh-TW. A modifier that is not known is dropped; `unknownModifier` returns it.
      */
     static fromPosix(name) {
         const made = calls.fromPosix(textOf(name));
@@ -371,11 +386,14 @@ export class LanguageTag {
         const parent = calls.parent(this.text);
         return parent === "" ? undefined : new LanguageTag(parent);
     }
-    /** The tag, its parent, the parent of its parent, and so on, in which order to search a catalogue: pt-AO, pt-PT and pt. */
+    /**
+     * The tag and its parents, in which order to search a catalogue: pt-Latn-AO, pt-AO, pt-PT and pt. A script that is likely anyway goes
+     * first, then extensions and private use, then the variants one by one, and then the region. The variants come back with each parent.
+     */
     get parents() {
-        const found = [];
-        for (let tag = this; tag !== undefined; tag = tag.parent)
-            found.push(tag);
+        const found = [this];
+        for (let text; (text = calls.nthParent(this.text, found.length)) !== "";)
+            found.push(new LanguageTag(text));
         return found;
     }
     /** Whether the tag is a Unicode locale identifier (UTS #35), as Intl requires: false for zh-yue, i-klingon and x-a. */
@@ -596,26 +614,26 @@ export function matchForHeader(header, tags) {
     return index < list.length ? { index, tag: list[index], distance, range: text.slice(start, start + length) } : undefined;
 }
 /** Returns the tags of a list that a call names by their indices. */
-function suitable(choose, wanted, tags) {
+function suitable(choose, wanted, tags, most) {
     const list = [...several(tags, "tags")];
-    return choose(wanted, list.map((tag) => tagOf(tag).text), list.length).map((index) => list[index]);
+    return choose(wanted, list.map((tag) => tagOf(tag).text), Math.max(0, Math.min(most, list.length))).map((index) => list[index]);
 }
 /**
  * Returns all suitable tags for a header, best first: the tag that bestForHeader chooses, the tag that it chooses among the other tags, and
- * so on. A catalogue looks for a message in this order.
+ * so on. A catalogue looks for a message in this order. If `most` is given, it returns so many of the best.
  *
  *     suitableForHeader("de-CH,fr;q=0.7", ["en", "fr", "de", "de-AT"]); // ["de", "de-AT", "fr"]
  */
-export function suitableForHeader(header, tags) {
-    return suitable(calls.suitableForHeader, headerText(header), tags);
+export function suitableForHeader(header, tags, most = Infinity) {
+    return suitable(calls.suitableForHeader, headerText(header), tags, most);
 }
 /**
  * Returns all suitable tags for a list of ranges in order of preference, best first, as suitableForHeader does for a header.
  *
  *     suitableForRanges(["de_CH", "fr"], ["en", "fr", "de"]); // ["de", "fr"]
  */
-export function suitableForRanges(ranges, tags) {
-    return suitable(calls.suitableForRanges, rangeTexts(ranges), tags);
+export function suitableForRanges(ranges, tags, most = Infinity) {
+    return suitable(calls.suitableForRanges, rangeTexts(ranges), tags, most);
 }
 /** Returns the length of the longest prefix with which some tag begins: 3 for "i-no". */
 export function viableLength(text) {
@@ -633,8 +651,8 @@ function rangeTexts(ranges) {
 }
 /**
  * The tags of a site that are known before the requests, such as the languages of its translations. What a choice needs of each tag is
- * computed once, so a choice takes less time than with a list. The methods return what `bestForHeader`, `matchForHeader` and
- * `bestForRanges` return for the same tags. A site does not change.
+ * computed once, so a choice takes less time than with a list. The methods return what the functions of the same names return for the same
+ * tags. A site does not change.
  *
  *     const site = new Site(["en", "zh-Hans", "zh-Hant"]);
  *     site.bestForHeader("zh-TW,zh;q=0.9,en;q=0.8"); // "zh-Hant"
@@ -658,6 +676,14 @@ export class Site {
     bestForRanges(ranges, otherwise) {
         return this.#at(calls.siteBestForRanges(rangeTexts(ranges), this.#prepared), otherwise);
     }
+    /** Returns all suitable tags for a header, best first, or the `most` best, as the function suitableForHeader does. */
+    suitableForHeader(header, most = Infinity) {
+        return suitableForHeader(header, this.tags, most);
+    }
+    /** Returns all suitable tags for a list of ranges, best first, or the `most` best, as the function suitableForRanges does. */
+    suitableForRanges(ranges, most = Infinity) {
+        return suitableForRanges(ranges, this.tags, most);
+    }
     #at(index, otherwise) {
         return index < this.tags.length ? this.tags[index] : otherwise;
     }
@@ -671,13 +697,18 @@ function namesIn(lines) {
     };
 }
 const englishName = namesIn(NAMES), ownName = namesIn(AUTONYMS); // the keys are subtags, or tags, in the recommended case
+/** Returns the form of a tag whose subtags have the names: de for ger. */
+function named(tag) {
+    const read = tagOf(tag);
+    return (read.localeForm() ?? read.canonical()).toRecommended();
+}
 /**
- * Returns an English name of a tag, made of CLDR's names for the subtags of its canonical form: "Portuguese (Brazil)" for pt-BR. A subtag
- * for which CLDR has no name is shown as it is, and so are extensions and private use. The variants are in alphabetical order. For names
- * in other languages, use `Intl.DisplayNames`.
+ * Returns an English name of a tag, made of CLDR's names for the subtags of its locale form, or of its canonical form if it has none:
+ * "Portuguese (Brazil)" for pt-BR. A subtag for which CLDR has no name is shown as it is, and so are extensions and private use. The
+ * variants are in alphabetical order. For names in other languages, use `Intl.DisplayNames`.
  */
 export function describe(tag) {
-    const form = tagOf(tag).canonical().toRecommended();
+    const form = named(tag);
     if (form.language === undefined)
         return form.text;
     const name = (subtag) => englishName(subtag) ?? subtag;
@@ -692,7 +723,7 @@ export function describe(tag) {
  * the likely script of the language in the region. If there is no name in that script, it returns undefined.
  */
 export function autonym(tag) {
-    const form = tagOf(tag).canonical().toRecommended();
+    const form = named(tag);
     if (form.language === undefined)
         return undefined;
     const { script } = form.base.maximize();

@@ -32,8 +32,10 @@ export const size = IS_WIDE ? BigInt : (number) => number;
 /** Returns a size that the module returned. */
 export const count = IS_WIDE ? Number : (number) => number >>> 0;
 
-/** Returns the bytes of a string in base64. A loop takes a twentieth of the time of Uint8Array.from with a function. */
+/** Returns the bytes of a string in base64. Where neither function is there, a loop takes a twentieth of the time of Uint8Array.from. */
 function decoded(text) {
+    if (Uint8Array.fromBase64) return Uint8Array.fromBase64(text);
+    if (globalThis.Buffer) return globalThis.Buffer.from(text, "base64");
     const characters = atob(text), made = new Uint8Array(characters.length);
     for (let index = 0; index < made.length; index++) made[index] = characters.charCodeAt(index);
     return made;

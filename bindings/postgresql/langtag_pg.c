@@ -16,6 +16,7 @@
 
 #include "access/htup_details.h"
 #include "access/stratnum.h"
+#include "catalog/namespace.h"
 #include "catalog/pg_am_d.h"
 #include "catalog/pg_type_d.h"
 #include "common/hashfn.h"
@@ -74,13 +75,45 @@ static struct varlena *value_of(const char *bytes, size_t len) {
 
 /* ---- what is refused ---- */
 
-/* Appends a character, or its escape. Control characters are escaped, and characters that are invisible or change the direction. */
+/* Returns whether a character is a control character, is invisible, or changes the direction of the string: Unicode's categories Cc, Cf,
+ * Zl, Zp and Zs (except for the space), and the property Default_Ignorable_Code_Point. All languages have this list. */
+static bool is_invisible(pg_wchar code) {
+    static const pg_wchar ranges[][2] = {
+        {0, 0x1f}, {0x7f, 0xa0}, {0xad, 0xad}, {0x34f, 0x34f}, {0x600, 0x605}, {0x61c, 0x61c}, {0x6dd, 0x6dd}, {0x70f, 0x70f},
+        {0x890, 0x891}, {0x8e2, 0x8e2}, {0x115f, 0x1160}, {0x1680, 0x1680}, {0x17b4, 0x17b5}, {0x180b, 0x180f}, {0x2000, 0x200f},
+        {0x2028, 0x202f}, {0x205f, 0x206f}, {0x3000, 0x3000}, {0x3164, 0x3164}, {0xfe00, 0xfe0f}, {0xfeff, 0xfeff}, {0xffa0, 0xffa0},
+        {0xfff0, 0xfffb}, {0x110bd, 0x110bd}, {0x110cd, 0x110cd}, {0x13430, 0x1343f}, {0x1bca0, 0x1bca3}, {0x1d173, 0x1d17a},
+        {0xe0000, 0xe0fff}};
+    for (int k = 0; k < lengthof(ranges); k++)
+        if (ranges[k][0] <= code && code <= ranges[k][1]) return true;
+    return false;
+}
+
+/* Returns a text in another encoding, or NULL if that encoding lacks one of its characters. */
+static char *converted(const char *text, size_t len, int from, int to) {
+    const int room = (int)len * MAX_CONVERSION_GROWTH + 1;
+    char *made = palloc(room);
+    Oid convert = FindDefaultConversionProc(from, to);
+    if (from == to) return pnstrdup(text, len);
+    if (!OidIsValid(convert) || pg_do_encoding_conversion_buf(convert, from, to, (unsigned char *)unconstify(char *, text), (int)len,
+                                                              (unsigned char *)made, room, true) < (int)len)
+        return NULL;
+    return made;
+}
+
+/* Returns the code point of a character, or 'a' if Unicode lacks the character or the encoding of the database is not known. */
+static pg_wchar code_of(const char *text, int size) {
+    const char *made;
+    if (size == 1 && !(*text & 0x80)) return (pg_wchar)*text;
+    made = GetDatabaseEncoding() == PG_SQL_ASCII ? NULL : converted(text, size, GetDatabaseEncoding(), PG_UTF8);
+    return made == NULL ? 'a' : utf8_to_unicode((const unsigned char *)made);
+}
+
+/* Appends a character, or its escape. */
 static void append_escaped(StringInfo made, const char *text, int size, pg_wchar code) {
     const char *name = code == '\t' ? "\\t" : code == '\n' ? "\\n" : code == '\r' ? "\\r" : code == '\\' ? "\\\\" : code == '`' ? "\\`" : NULL;
     if (name) appendStringInfoString(made, name);
-    else if (code < 0x20 || (code >= 0x7F && code < 0xA0) || (code >= 0x200B && code <= 0x200F) || (code >= 0x2028 && code <= 0x202E) ||
-             (code >= 0x2060 && code <= 0x206F) || code == 0xFEFF)
-        appendStringInfo(made, "\\u{%x}", code);
+    else if (is_invisible(code)) appendStringInfo(made, "\\u{%x}", code);
     else appendBinaryStringInfo(made, text, size);
 }
 
@@ -92,8 +125,7 @@ static char *quoted_start(const char *text, size_t len, int most) {
     appendStringInfoChar(&made, '`');
     for (int count = 0; text < end && count < most; count++) {
         int size = pg_mblen(text);
-        bool is_ascii = size == 1 && !(*text & 0x80);
-        append_escaped(&made, text, size, is_ascii ? (pg_wchar)*text : GetDatabaseEncoding() == PG_UTF8 ? utf8_to_unicode((const unsigned char *)text) : 'a');
+        append_escaped(&made, text, size, code_of(text, size));
         text += size;
     }
     appendStringInfoString(&made, text < end && most > 1 ? "...`" : "`");
@@ -387,9 +419,10 @@ static Datum with_part(FunctionCallInfo fcinfo, uint32 part, const char *name) {
     len = langtag_with_part(BYTES(tag), LEN(tag), part, BYTES(given), LEN(given), VARDATA(changed), room);
     if (len == 0)
         ereport(ERROR, (errcode(ERRCODE_INVALID_PARAMETER_VALUE),
-                        langtag_kind(BYTES(tag), LEN(tag)) == LANGTAG_NORMAL
-                            ? errmsg_internal("invalid %s %s", name, quoted(BYTES(given), LEN(given)))
-                            : errmsg("not a normal language tag: %s has no %s", quoted(BYTES(tag), LEN(tag)), name)));
+                        langtag_kind(BYTES(tag), LEN(tag)) != LANGTAG_NORMAL
+                            ? errmsg("not a normal language tag: %s has no %s", quoted(BYTES(tag), LEN(tag)), name)
+                        : LEN(given) == 0 ? errmsg("the language cannot be removed") // an empty string removes any other part
+                                          : errmsg_internal("invalid %s %s", name, quoted(BYTES(given), LEN(given)))));
     SET_VARSIZE(changed, VARHDRSZ + len);
     langtag_recommend(VARDATA(changed), len);
     PG_RETURN_POINTER(changed);
@@ -475,33 +508,40 @@ OF_ONE(pg_langtag_to_posix, tag) {
 #define LONGEST_HEADER 8192
 #define LONGEST_TAG 262144
 
+static void refuse_length(const char *what, size_t len, size_t limit) {
+    ereport(ERROR, (errcode(ERRCODE_PROGRAM_LIMIT_EXCEEDED), errmsg("%s is too long (%zu bytes, limit %zu)", what, len, limit)));
+}
+
 static void check_length(const char *what, struct varlena *text, size_t limit) {
-    if (LEN(text) > limit)
-        ereport(ERROR, (errcode(ERRCODE_PROGRAM_LIMIT_EXCEEDED),
-                        errmsg("%s is too long (%zu bytes, limit %zu)", what, LEN(text), limit)));
+    if (LEN(text) > limit) refuse_length(what, LEN(text), limit);
 }
 
 typedef size_t (*form_of)(const char *, size_t, char *, size_t);
 
-/* Returns a form of a tag in its recommended case, or NULL if the library writes none. It is written again if the guess at its
- * length was too small. */
-static struct varlena *form_of_tag(struct varlena *tag, form_of write) {
+/* Writes a form of a tag or, if there is no form, the tag at an index of the chain of its parents. */
+static size_t write_form(struct varlena *tag, form_of form, uint32 index, struct varlena *to, size_t room) {
+    return form ? form(BYTES(tag), LEN(tag), VARDATA(to), room) : langtag_nth_parent(BYTES(tag), LEN(tag), index, VARDATA(to), room);
+}
+
+/* Returns what is written of a tag in its recommended case, or NULL if nothing is. It is written again if the guess at its length was too
+ * small. */
+static struct varlena *form_of_tag(struct varlena *tag, form_of form, uint32 index) {
     size_t room = LEN(tag) + 32, len;
-    struct varlena *form = palloc(VARHDRSZ + room);
-    len = write(BYTES(tag), LEN(tag), VARDATA(form), room);
+    struct varlena *made = palloc(VARHDRSZ + room);
+    len = write_form(tag, form, index, made, room);
     if (len > room) {
-        pfree(form);
-        form = palloc(VARHDRSZ + len);
-        write(BYTES(tag), LEN(tag), VARDATA(form), len);
+        pfree(made);
+        made = palloc(VARHDRSZ + len);
+        write_form(tag, form, index, made, len);
     }
     if (len == 0) return NULL;
-    SET_VARSIZE(form, VARHDRSZ + len);
-    langtag_recommend(VARDATA(form), len);
-    return form;
+    SET_VARSIZE(made, VARHDRSZ + len);
+    langtag_recommend(VARDATA(made), len);
+    return made;
 }
 
 static Datum form(FunctionCallInfo fcinfo, form_of write) {
-    struct varlena *made = form_of_tag(PG_GETARG_VARLENA_PP(0), write);
+    struct varlena *made = form_of_tag(PG_GETARG_VARLENA_PP(0), write, 0);
     if (made == NULL) PG_RETURN_NULL();
     PG_RETURN_POINTER(made);
 }
@@ -514,41 +554,50 @@ FORM(pg_langtag_minimized, langtag_minimized)
 FORM(pg_langtag_from_posix, langtag_from_posix)
 FORM(pg_langtag_parent, langtag_parent)
 
-/* Returns an array of a tag, its parent, the parent of this one, and so on. Its size is quadratic in the number of variants. */
+/* Returns an array of a tag and its parents. Its size is quadratic in the number of variants. */
 FUNCTION(pg_langtag_parents) {
     Oid type = get_element_type(get_func_rettype(fcinfo->flinfo->fn_oid));
     ArrayBuildState *found = NULL;
-    check_length("tag", PG_GETARG_VARLENA_PP(0), LONGEST_HEADER);
-    for (struct varlena *tag = PG_GETARG_VARLENA_PP(0); tag != NULL; tag = form_of_tag(tag, langtag_parent)) {
+    struct varlena *tag = PG_GETARG_VARLENA_PP(0), *parent;
+    check_length("tag", tag, LONGEST_HEADER);
+    for (uint32 index = 0; (parent = form_of_tag(tag, NULL, index)) != NULL; index++) {
         CHECK_FOR_INTERRUPTS();
-        found = accumArrayResult(found, PointerGetDatum(tag), false, type, CurrentMemoryContext);
+        found = accumArrayResult(found, PointerGetDatum(parent), false, type, CurrentMemoryContext);
     }
     return makeArrayResult(found, CurrentMemoryContext);
 }
 
-/* The library's names are in UTF-8. */
+/* Returns a name of the library, which is in UTF-8, or NULL if the encoding of the database lacks one of its characters. */
 static text *in_server_encoding(const char *name, size_t len) {
-    char *converted = pg_any_to_server(name, (int)len, PG_UTF8);
-    return converted == name ? cstring_to_text_with_len(name, (int)len) : cstring_to_text(converted);
+    const char *made = GetDatabaseEncoding() == PG_SQL_ASCII ? pnstrdup(name, len) : converted(name, len, PG_UTF8, GetDatabaseEncoding());
+    return made == NULL ? NULL : cstring_to_text(made);
+}
+
+/* Returns the form of a tag whose subtags have the names. */
+static struct varlena *named_form(struct varlena *tag) {
+    check_length("tag", tag, LONGEST_TAG);
+    return form_of_tag(tag, langtag_name_form, 0);
 }
 
 OF_ONE(pg_langtag_describe, tag) {
-    struct varlena *form;
+    struct varlena *form = named_form(tag);
     char none, *name;
     size_t len;
-    check_length("tag", tag, LONGEST_HEADER);
-    form = form_of_tag(tag, langtag_canonical);
+    text *made;
+    langtag_name_sort_variants(VARDATA(form), LEN(form), palloc(LEN(form)));
     len = langtag_name_describe(BYTES(form), LEN(form), &none, 0);
     name = palloc(len);
     langtag_name_describe(BYTES(form), LEN(form), name, len);
-    PG_RETURN_TEXT_P(in_server_encoding(name, len));
+    made = in_server_encoding(name, len);
+    PG_RETURN_POINTER(made == NULL ? form : made);
 }
 
 OF_ONE(pg_langtag_autonym, tag) {
-    struct varlena *form = form_of_tag(tag, langtag_canonical);
+    struct varlena *form = named_form(tag);
     const char *name = langtag_name_autonym(BYTES(form), LEN(form));
-    if (name == NULL) PG_RETURN_NULL();
-    PG_RETURN_TEXT_P(in_server_encoding(name, strlen(name)));
+    text *made = name == NULL ? NULL : in_server_encoding(name, strlen(name));
+    if (made == NULL) PG_RETURN_NULL();
+    PG_RETURN_TEXT_P(made);
 }
 
 #define UNICODE_FORM(name, write)                                                                                      \
@@ -585,7 +634,7 @@ static char *cldr_version(void) {
     return version;
 }
 
-/* Returns the line that the program `langtag` prints for --version. */
+/* Returns the first line that the program `langtag` prints for --version. */
 FUNCTION(pg_langtag_version) {
     uint32 date = langtag_registry_date();
     PG_RETURN_TEXT_P(cstring_to_text(psprintf("langtag %s (IANA's registry of %04u-%02u-%02u, CLDR %s)", LANGTAG_VERSION, date / 10000,
@@ -608,6 +657,7 @@ FUNCTION(pg_langtag_registry_date) {
     OF_TWO(name, tag, range) { PG_RETURN_BOOL(match(BYTES(range), LEN(range), BYTES(tag), LEN(tag))); }
 MATCHES(pg_langtag_matches_basic, langtag_matches_basic)
 MATCHES(pg_langtag_matches_extended, langtag_matches_extended)
+OF_TWO(pg_langtag_contains, range, tag) { PG_RETURN_BOOL(langtag_matches_basic(BYTES(range), LEN(range), BYTES(tag), LEN(tag))); }
 
 /* A bound is only made from a range. */
 FUNCTION(pg_langtag_bound_in) {
@@ -664,8 +714,8 @@ static bool bounded(Const *range, bool *lossy) {
     return BYTES(value)[0] != '*';
 }
 
-/* Converts a match to bounds for a btree index of tags, or returns NULL if it has no bounds. */
-static List *index_condition(SupportRequestIndexCondition *request, bool extended) {
+/* Converts a match to bounds for a btree index of tags, or returns NULL if it has no bounds. `tag_at` is the argument that is the tag. */
+static List *index_condition(SupportRequestIndexCondition *request, bool extended, int tag_at) {
     List *arguments = is_opclause(request->node)     ? ((OpExpr *)request->node)->args
                       : is_funcclause(request->node) ? ((FuncExpr *)request->node)->args
                                                      : NIL;
@@ -675,9 +725,9 @@ static List *index_condition(SupportRequestIndexCondition *request, bool extende
     Node *tag, *range;
     bool lossy = extended;
 
-    if (request->indexarg != 0 || list_length(arguments) != 2 || request->index->relam != BTREE_AM_OID) return NIL;
-    tag = linitial(arguments);
-    range = lsecond(arguments);
+    if (request->indexarg != tag_at || list_length(arguments) != 2 || request->index->relam != BTREE_AM_OID) return NIL;
+    tag = list_nth(arguments, tag_at);
+    range = list_nth(arguments, 1 - tag_at);
     if (!is_pseudo_constant_for_index(request->root, range, request->index)) return NIL;
     if (!IsA(range, Const)) lossy = true;
     else if (!bounded((Const *)range, &lossy)) return NIL;
@@ -693,14 +743,15 @@ static List *index_condition(SupportRequestIndexCondition *request, bool extende
                       bound_call(request->root, schema, upper, type, range), InvalidOid, InvalidOid));
 }
 
-static Datum support(FunctionCallInfo fcinfo, bool extended) {
+static Datum support(FunctionCallInfo fcinfo, bool extended, int tag_at) {
     Node *request = (Node *)PG_GETARG_POINTER(0);
     if (!IsA(request, SupportRequestIndexCondition)) PG_RETURN_POINTER(NULL);
-    PG_RETURN_POINTER(index_condition((SupportRequestIndexCondition *)request, extended));
+    PG_RETURN_POINTER(index_condition((SupportRequestIndexCondition *)request, extended, tag_at));
 }
 
-FUNCTION(pg_langtag_basic_support) { return support(fcinfo, false); }
-FUNCTION(pg_langtag_extended_support) { return support(fcinfo, true); }
+FUNCTION(pg_langtag_basic_support) { return support(fcinfo, false, 0); }
+FUNCTION(pg_langtag_extended_support) { return support(fcinfo, true, 0); }
+FUNCTION(pg_langtag_contains_support) { return support(fcinfo, false, 1); }
 
 /* ---- the best tag for a request ---- */
 
@@ -713,8 +764,8 @@ typedef struct offered {
     StringInfoData string;
 } offered;
 
-/* Returns the tags of an array, or its strings, which have to be tags. */
-static offered tags_of(ArrayType *array) {
+/* Returns the values of an array. */
+static offered values_of(ArrayType *array) {
     offered all = {NULL};
     Datum *values;
     bool *nulls;
@@ -728,12 +779,18 @@ static offered tags_of(ArrayType *array) {
         struct varlena *tag = nulls[k] ? NULL : PG_DETOAST_DATUM_PACKED(values[k]);
         CHECK_FOR_INTERRUPTS();
         if (tag == NULL) continue;
-        if (ARR_ELEMTYPE(array) == TEXTOID) check_tag(BYTES(tag), LEN(tag));
         all.places[all.count] = k;
         all.entries[all.count].tag = (langtag_span){.start = (size_t)all.string.len, .len = LEN(tag)};
         appendBinaryStringInfo(&all.string, BYTES(tag), (int)LEN(tag));
         all.tags[all.count++] = tag;
     }
+    return all;
+}
+
+/* Returns the tags of an array, or its strings, which have to be tags. */
+static offered tags_of(ArrayType *array) {
+    offered all = values_of(array);
+    for (int k = 0; ARR_ELEMTYPE(array) == TEXTOID && k < all.count; k++) check_tag(BYTES(all.tags[k]), LEN(all.tags[k]));
     return all;
 }
 
@@ -784,13 +841,36 @@ static offered tags_of_call(FunctionCallInfo fcinfo, ArrayType *array) {
 /* A function of the library that chooses among tags for a header. */
 typedef size_t choice(const char *header, size_t header_len, const char *bytes, size_t len, const langtag_span *tags, size_t count);
 
+/* What a user wants: a header, and how it chooses, or a list of ranges, which are spans of one string. */
+typedef struct wanted {
+    const char *bytes;
+    size_t len, count;
+    choice *choose; /* or NULL */
+    langtag_span *ranges;
+} wanted;
+
+static wanted by_header(choice *choose, text *header) {
+    check_length("header", header, LONGEST_HEADER);
+    return (wanted){.bytes = BYTES(header), .len = LEN(header), .choose = choose};
+}
+
+/* Returns the ranges of an array of strings. A string that is not a range is skipped by the library. */
+static wanted by_ranges(ArrayType *array) {
+    offered all = values_of(array);
+    wanted by = {.bytes = all.string.data, .len = (size_t)all.string.len, .count = (size_t)all.count};
+    if (by.len > LONGEST_HEADER) refuse_length("list of ranges", by.len, LONGEST_HEADER);
+    by.ranges = palloc((by.count + 1) * sizeof *by.ranges);
+    for (int k = 0; k < all.count; k++) by.ranges[k] = all.entries[k].tag;
+    return by;
+}
+
 /* A call of the library compares each range of a header with each tag, and cannot be interrupted. So one call gets at most this
  * many tags, with at most this many bytes in total, or a single longer tag. */
 #define TAGS_AT_ONCE 64
 #define BYTES_AT_ONCE 4096
 
 /* Returns which of some tags is chosen, or `count` if none is. Only langtag_best_for_header is asked among tags that are prepared. */
-static int chosen_of(choice *choose, text *header, const offered *all, const int *some, int count) {
+static int chosen_of(const wanted *by, const offered *all, const int *some, int count) {
     langtag_prepared_tag entries[TAGS_AT_ONCE];
     langtag_span spans[TAGS_AT_ONCE];
     const char *bytes = all->string.data;
@@ -799,14 +879,18 @@ static int chosen_of(choice *choose, text *header, const offered *all, const int
         entries[k] = all->entries[some[k]];
         spans[k] = entries[k].tag;
     }
-    chosen = all->is_prepared ? langtag_site_best_for_header(BYTES(header), LEN(header), bytes, len, entries, (size_t)count)
-                              : choose(BYTES(header), LEN(header), bytes, len, spans, (size_t)count);
+    if (by->choose == NULL)
+        chosen = all->is_prepared ? langtag_site_best_for_ranges(by->bytes, by->len, by->ranges, by->count, bytes, len, entries, (size_t)count)
+                                  : langtag_best_for_ranges(by->bytes, by->len, by->ranges, by->count, bytes, len, spans, (size_t)count);
+    else
+        chosen = all->is_prepared ? langtag_site_best_for_header(by->bytes, by->len, bytes, len, entries, (size_t)count)
+                                  : by->choose(by->bytes, by->len, bytes, len, spans, (size_t)count);
     return (int)Min(chosen, (size_t)count);
 }
 
 /* The tag chosen so far is put before the next tags. This is correct because the choice between two tags depends on no third tag,
  * and of two equally good tags the first is chosen. */
-static int chosen_index(choice *choose, text *header, const offered *all) {
+static int chosen_index(const wanted *by, const offered *all) {
     int best = -1;
     for (int next = 0; next < all->count;) {
         int some[TAGS_AT_ONCE], taken = 0, found;
@@ -817,44 +901,44 @@ static int chosen_index(choice *choose, text *header, const offered *all) {
             bytes += LEN(all->tags[next]);
             some[taken++] = next++;
         }
-        found = chosen_of(choose, header, all, some, taken);
+        found = chosen_of(by, all, some, taken);
         if (found < taken) best = some[found];
     }
     return best;
 }
 
 FUNCTION(pg_langtag_tag_for_header) {
+    wanted by = by_header(langtag_tag_for_header_lenient, PG_GETARG_TEXT_PP(1));
     offered all = tags_of(PG_GETARG_ARRAYTYPE_P(0));
-    int best = chosen_index(langtag_tag_for_header_lenient, PG_GETARG_TEXT_PP(1), &all);
+    int best = chosen_index(&by, &all);
     if (best < 0) PG_RETURN_NULL();
     PG_RETURN_POINTER(all.tags[best]);
 }
 
-/* Sets the tags of a call, and returns the index of the best of them for its header, or -1. */
-static int best_of_call(FunctionCallInfo fcinfo, offered *all) {
-    text *header = PG_GETARG_TEXT_PP(1);
-    check_length("header", header, LONGEST_HEADER);
+/* Sets the tags of a call, and returns the index of the best of them, or -1. */
+static int best_of_call(FunctionCallInfo fcinfo, wanted by, offered *all) {
     *all = tags_of_call(fcinfo, PG_GETARG_ARRAYTYPE_P(0));
-    return chosen_index(langtag_best_for_header, header, all);
+    return chosen_index(&by, all);
 }
 
 /* Returns a tag, as a copy, since what is kept may be freed before the result is. */
-FUNCTION(pg_langtag_best_for_header) {
+static Datum best(FunctionCallInfo fcinfo, wanted by) {
     offered all;
-    int best = best_of_call(fcinfo, &all);
-    if (best < 0) PG_RETURN_NULL();
-    PG_RETURN_POINTER(value_of(BYTES(all.tags[best]), LEN(all.tags[best])));
+    int found = best_of_call(fcinfo, by, &all);
+    if (found < 0) PG_RETURN_NULL();
+    PG_RETURN_POINTER(value_of(BYTES(all.tags[found]), LEN(all.tags[found])));
 }
 
+FUNCTION(pg_langtag_best_for_header) { return best(fcinfo, by_header(langtag_best_for_header, PG_GETARG_TEXT_PP(1))); }
+FUNCTION(pg_langtag_best_for_ranges) { return best(fcinfo, by_ranges(PG_GETARG_ARRAYTYPE_P(1))); }
+
 /* Returns an array of the suitable tags, best first. Each choice is a call of its own, so the query can be cancelled. */
-FUNCTION(pg_langtag_suitable_for_header) {
+static Datum suitable(FunctionCallInfo fcinfo, wanted by) {
     ArrayType *array = PG_GETARG_ARRAYTYPE_P(0);
-    text *header = PG_GETARG_TEXT_PP(1);
     int best, count = 0;
     offered left = tags_of(array);
     Datum *found = palloc((left.count + 1) * sizeof *found);
-    check_length("header", header, LONGEST_HEADER);
-    while ((best = chosen_index(langtag_best_for_header, header, &left)) >= 0) {
+    while ((best = chosen_index(&by, &left)) >= 0) {
         found[count++] = PointerGetDatum(left.tags[best]);
         left.count--;
         memmove(left.tags + best, left.tags + best + 1, (left.count - best) * sizeof *left.tags);
@@ -863,13 +947,16 @@ FUNCTION(pg_langtag_suitable_for_header) {
     PG_RETURN_ARRAYTYPE_P(construct_array(found, count, ARR_ELEMTYPE(array), -1, false, TYPALIGN_INT));
 }
 
+FUNCTION(pg_langtag_suitable_for_header) { return suitable(fcinfo, by_header(langtag_best_for_header, PG_GETARG_TEXT_PP(1))); }
+FUNCTION(pg_langtag_suitable_for_ranges) { return suitable(fcinfo, by_ranges(PG_GETARG_ARRAYTYPE_P(1))); }
+
 /* Returns the row of the best tag. The range that it serves is found with this tag alone, since the best range for a tag does not
  * depend on other tags. */
 FUNCTION(pg_langtag_match_for_header) {
     text *header = PG_GETARG_TEXT_PP(1);
     offered all;
     struct varlena *tag;
-    int best = best_of_call(fcinfo, &all);
+    int best = best_of_call(fcinfo, by_header(langtag_best_for_header, header), &all);
     TupleDesc row;
     langtag_best_match match;
     Datum values[4];

@@ -1,2 +1,2 @@
-# The date of the registry in the library. Written by registry/generate.py. Do not edit.
+# The date of the registry in the library. Written by data/registry/generate.py. Do not edit.
 REGISTRY_DATE = 2025-08-25

@@ -1,8 +1,8 @@
 """Builds the package (PEP 517 and PEP 660). It needs only Python, and cc for the C module, so pip downloads nothing.
 
 The archive of the C library is the file that LANGTAG_ARCHIVE names, or that of the sdist. In a clone, it is the proved archive if there is
-one; otherwise cargo builds it (bindings/archive). The wheel contains the C module, which is one binary for CPython 3.8 and later. If this
-Python cannot load it, or has no headers, the wheel contains the shared library, which is called through ctypes."""
+one; otherwise cargo builds it (bindings/archive). The wheel contains the C module, which is one binary for CPython 3.8 and later. For an
+interpreter without the stable ABI, such as PyPy, it is built for this interpreter."""
 from __future__ import annotations
 
 import base64
@@ -18,24 +18,26 @@ import subprocess
 import sys
 import sysconfig
 import tarfile
-import tempfile
 import zipfile
 from typing import Mapping, NamedTuple
 
 HERE = pathlib.Path(__file__).resolve().parent
 CLONE = HERE.parent if (HERE.parent / "archive").is_file() else None  # the folder bindings, if this is a clone
-NAME = "liblangtag_verified.so.1"
 TIME = 315532800  # the first second of 1980, the earliest that a wheel can say
-MODULE_FILES = r"\w+\.py|py\.typed|names\.txt|autonyms\.txt"
+MODULE_FILES = r"\w+\.pyi?|py\.typed|(names|autonyms|help)\.txt"
 SDIST_FILES = r"pyproject\.toml|backend\.py|README\.md|PROVED\.txt|native/.*|(examples|rows)/.*"
 EXAMPLES = r"(negotiate|count_tags|catalogue)\.py"
 
 
 class Archive(NamedTuple):
-    """An archive of the C library, and whether it is proved."""
+    """An archive of the C library, and PROVED.txt for it, which says whether it is proved."""
 
     path: pathlib.Path
-    is_proved: bool
+    label: str
+
+    @property
+    def is_proved(self) -> bool:
+        return "\nproved by " in self.label
 
 
 def fail(why: str) -> SystemExit:
@@ -51,56 +53,55 @@ def run(*command: object) -> str:
     return ran.stdout.strip()
 
 
-def is_proved(archive: pathlib.Path) -> bool:
-    """Returns whether the record of an archive shows that it is proved from the sources of this clone."""
-    return CLONE is not None and subprocess.run([sys.executable, CLONE / "targets.py", "proved", archive], capture_output=True, check=False).returncode == 0
+def label(archive: pathlib.Path) -> str:
+    """Returns PROVED.txt for an archive. In an sdist it is the file there, if that has the checksum of this archive."""
+    if CLONE is not None:
+        return run(sys.executable, CLONE / "labels.py", archive) + "\n"
+    text = (HERE / "PROVED.txt").read_text(encoding="utf-8")
+    of_archive = f"{hashlib.sha256(archive.read_bytes()).hexdigest()}  liblangtag_c.a"
+    return text if of_archive in text.splitlines() else f"langtag-verified {version(False)}\nnot proved\n{of_archive}\n\nThis is not the archive of the sdist.\n"
 
 
 def archive(folder: pathlib.Path) -> Archive:
     """Returns the archive to build with. Cargo's files are in a folder of the clone, and the archive is in `folder`."""
-    named, packed = os.environ.get("LANGTAG_ARCHIVE"), HERE / "liblangtag_c.a"
+    named, path = os.environ.get("LANGTAG_ARCHIVE"), HERE / "liblangtag_c.a"
     if named:
-        if not pathlib.Path(named).is_file():
+        path = pathlib.Path(named).resolve()
+        if not path.is_file():
             raise fail(f"LANGTAG_ARCHIVE names no file: {named}")
-        return Archive(pathlib.Path(named).resolve(), is_proved(pathlib.Path(named)))
-    if packed.is_file():
-        said = HERE / "langtag/_proved.py"
-        return Archive(packed, said.is_file() and "PROVED = True" in said.read_text(encoding="utf-8"))
-    if CLONE is None:
-        raise fail("there is no liblangtag_c.a: name one by LANGTAG_ARCHIVE")
-    built = folder / "liblangtag_c.a"
-    return Archive(built, run(CLONE / "archive", built) == "proved")
-
-
-def without_module() -> str | None:
-    """Returns why the C module cannot be built, or None if it can."""
-    if platform.python_implementation() != "CPython" or sysconfig.get_config_var("Py_GIL_DISABLED"):
-        return "this Python does not load modules of the stable ABI"
-    if not pathlib.Path(sysconfig.get_paths()["include"], "Python.h").is_file():
-        return "there is no Python.h (in Debian: apt-get install python3-dev)"
-    return None if shutil.which(os.environ.get("CC", "cc").split()[0]) else "there is no cc"
+    elif not path.is_file():
+        if CLONE is None:
+            raise fail("there is no liblangtag_c.a: name one by LANGTAG_ARCHIVE")
+        path = folder / "liblangtag_c.a"
+        run(CLONE / "archive", path)
+    return Archive(path, label(path))
 
 
 def header() -> pathlib.Path:
     return HERE if CLONE is None else CLONE / "include"
 
 
-def binary(library: Archive, folder: pathlib.Path) -> pathlib.Path:
-    """Builds the C module, or else the shared library, and returns its path."""
-    why = without_module()
-    if why is None:
-        module = folder / "_native.abi3.so"
-        os.environ["INCLUDE"] = str(header())
-        run("sh", HERE / "native/compile", library.path, module, sys.executable)
-        return module
-    print(f"langtag: no C module, and ctypes instead: {why}", file=sys.stderr)
-    if (HERE / "langtag" / NAME).is_file() and CLONE is None:
-        return HERE / "langtag" / NAME
-    if CLONE is None or not shutil.which(os.environ.get("CC", "cc").split()[0]):
-        raise fail(f"there is no {NAME} either, and it cannot be built")
-    run(*os.environ.get("CC", "cc").split(), "-shared", "-Wl,--whole-archive", library.path, "-Wl,--no-whole-archive", "-Wl,--as-needed",
-        f"-Wl,-soname,{NAME}", f"-Wl,--version-script={CLONE / 'c/langtag_verified.map'}", "-Wl,-z,relro,-z,now,-z,defs,-z,noexecstack", "-o", folder / NAME)
-    return folder / NAME
+def labelled_header(proved: bool) -> bytes:
+    """Returns langtag.h for a package whose library is proved, or is not."""
+    return re.sub(rb"(#define LANGTAG_PROVED) .*", rb"\1 %d" % proved, (header() / "langtag.h").read_bytes())
+
+
+def kind() -> tuple[str, str]:
+    """Returns the first two tags of a wheel for this Python, and the ending of the name of its C module."""
+    number, ending = "{}{}".format(*sys.version_info), sysconfig.get_config_var("EXT_SUFFIX")
+    if platform.python_implementation() == "PyPy":  # .pypy39-pp73-x86_64-linux-gnu.so
+        return f"pp{number}-{'_'.join(ending[1:].split('-')[:2])}", ending
+    return (f"cp{number}-cp{number}t", ending) if sysconfig.get_config_var("Py_GIL_DISABLED") else ("cp38-abi3", ".abi3.so")
+
+
+def built(library: Archive, folder: pathlib.Path) -> pathlib.Path:
+    """Builds the C module, and returns its path."""
+    if not shutil.which(os.environ.get("CC", "cc").split()[0]):
+        raise fail("there is no cc (in Debian: apt-get install gcc)")
+    module = folder / f"_native{kind()[1]}"
+    os.environ["INCLUDE"] = str(header())
+    run("sh", HERE / "native/compile", library.path, module, sys.executable)
+    return module
 
 
 def said(key: str) -> str:
@@ -122,12 +123,17 @@ def readme() -> str:
     return path.read_text(encoding="utf-8") if path.is_file() else ""
 
 
+def summary(proved: bool) -> str:
+    """Returns the sentence that describes a package, and says whether its library is proved."""
+    return f"{said('description')}, {'over code that is proved against the grammar' if proved else 'built by cargo and not proved'}"
+
+
 def metadata(proved: bool) -> bytes:
     """Returns the core metadata (2.1), from pyproject.toml, with the README."""
     source = (HERE / "pyproject.toml").read_text(encoding="utf-8")
     lists = {key: re.findall(r'"(.*?)"', body) for key, body in re.findall(r"^(\w+) = \[(.*?)\]", source, re.M | re.S)}
     pages = re.findall(r'^(\w+) = "(.*)"', source.partition("[project.urls]\n")[2], re.M)
-    lines = ["Metadata-Version: 2.1", f"Name: {said('name')}", f"Version: {version(proved)}", f"Summary: {said('description')}",
+    lines = ["Metadata-Version: 2.1", f"Name: {said('name')}", f"Version: {version(proved)}", f"Summary: {summary(proved)}",
              *(f"Project-URL: {name}, {page}" for name, page in pages), f"Keywords: {','.join(lists['keywords'])}",
              *(f"Classifier: {it}" for it in lists["classifiers"]), f"Requires-Python: {said('requires-python')}",
              f"License: {said('license')}", "Description-Content-Type: text/markdown"]
@@ -144,8 +150,6 @@ def module_files(proved: bool) -> dict[str, bytes]:
     """Returns the files of the package langtag, without a binary."""
     examples = HERE / "examples" if CLONE is None else CLONE / "examples"
     files = {f"langtag/{name}": content for name, content in tree(HERE / "langtag", MODULE_FILES).items()}
-    if CLONE is not None:
-        files |= {f"langtag/{name}": (CLONE / name).read_bytes() for name in ("names.txt", "autonyms.txt")}
     shown = {f"langtag/examples/{name}": content for name, content in tree(examples, EXAMPLES).items()}
     return {**files, **shown, "langtag/_proved.py": f"PROVED = {proved}\n".encode()}
 
@@ -153,8 +157,13 @@ def module_files(proved: bool) -> dict[str, bytes]:
 def notices() -> dict[str, bytes]:
     """Returns the licences, the last of which is for CLDR's data."""
     root = HERE if CLONE is None else CLONE.parent
-    names = ("LICENSE-APACHE", "LICENSE-MIT", "LICENSE-UNICODE" if CLONE is None else "likely/LICENSE-UNICODE")
-    return {pathlib.Path(name).name: (root / name).read_bytes() for name in names if (root / name).is_file()}
+    names = ("LICENSE-APACHE", "LICENSE-MIT", "LICENSE-UNICODE")
+    return {name: (root / name).read_bytes() for name in names if (root / name).is_file()}
+
+
+def notes(library: Archive) -> dict[str, bytes]:
+    """Returns the files beside the metadata of a wheel: the licences, and PROVED.txt."""
+    return {**notices(), "PROVED.txt": library.label.encode()}
 
 
 def zipped(path: pathlib.Path, files: dict[str, bytes]) -> None:
@@ -194,9 +203,8 @@ def write_wheel(folder: pathlib.Path, tag: str, proved: bool, files: dict[str, b
     return name
 
 
-def platform_tag(built: pathlib.Path) -> str:
-    kind = "cp38-abi3" if built.name.startswith("_native") else "py3-none"
-    return f"{kind}-{re.sub('[-.]', '_', sysconfig.get_platform())}"
+def wheel_tag() -> str:
+    return f"{kind()[0]}-{re.sub('[-.]', '_', sysconfig.get_platform())}"
 
 
 def room() -> pathlib.Path:
@@ -206,23 +214,23 @@ def room() -> pathlib.Path:
 
 def build_wheel(wheel_directory: str, config_settings: object = None, metadata_directory: str | None = None) -> str:
     library = archive(room())
-    built = binary(library, room())
-    files = {**module_files(library.is_proved), f"langtag/{built.name}": built.read_bytes()}
-    return write_wheel(pathlib.Path(wheel_directory), platform_tag(built), library.is_proved, files, notices())
+    module = built(library, room())
+    files = {**module_files(library.is_proved), f"langtag/{module.name}": module.read_bytes()}
+    return write_wheel(pathlib.Path(wheel_directory), wheel_tag(), library.is_proved, files, notes(library))
 
 
 def build_editable(wheel_directory: str, config_settings: object = None, metadata_directory: str | None = None) -> str:
-    """Builds the binary in the folder of the sources, and a wheel that only names this folder."""
+    """Builds the C module in the folder of the sources, and a wheel that only names this folder."""
     library = archive(room())
-    built = binary(library, HERE / "langtag")
+    built(library, HERE / "langtag")
     (HERE / "langtag/_proved.py").write_text(f"PROVED = {library.is_proved}\n", encoding="utf-8")
-    return write_wheel(pathlib.Path(wheel_directory), platform_tag(built), library.is_proved, {"langtag_verified.pth": f"{HERE}\n".encode()}, {})
+    return write_wheel(pathlib.Path(wheel_directory), wheel_tag(), library.is_proved, {"langtag_verified.pth": f"{HERE}\n".encode()}, notes(library))
 
 
 def write_sdist(folder: pathlib.Path, proved: bool, archive: bytes, more: dict[str, bytes]) -> str:
     """Writes an sdist, and returns its name: the sources of the C module with the archive, so that it needs no cargo, and more files."""
     files = {**tree(HERE, SDIST_FILES), **notices(), **module_files(proved), "liblangtag_c.a": archive, "README.md": readme().encode(),
-             "langtag.h": (header() / "langtag.h").read_bytes(), "PKG-INFO": metadata(proved), **more}
+             "langtag.h": labelled_header(proved), "PKG-INFO": metadata(proved), **more}
     top = f"langtag_verified-{version(proved)}"
     pack(folder / f"{top}.tar.gz", top, files)
     return f"{top}.tar.gz"
@@ -230,6 +238,4 @@ def write_sdist(folder: pathlib.Path, proved: bool, archive: bytes, more: dict[s
 
 def build_sdist(sdist_directory: str, config_settings: object = None) -> str:
     library = archive(room())
-    with tempfile.TemporaryDirectory() as folder:
-        shared = {f"langtag/{NAME}": binary(library, pathlib.Path(folder)).read_bytes()} if without_module() else {}
-    return write_sdist(pathlib.Path(sdist_directory), library.is_proved, library.path.read_bytes(), shared)
+    return write_sdist(pathlib.Path(sdist_directory), library.is_proved, library.path.read_bytes(), notes(library))

@@ -55,13 +55,13 @@ def choices():
 
 
 def refused():
-    """Makes calls that are refused: those of both backends, and those that only the C module gets."""
+    """Makes calls that are refused: those of each call, and of the functions of the C module."""
     made, lying, tag, backend = Tag.__new__(Tag), Lying("iw"), Tag("de-u-ca-roc"), langtag._backend
     data = tag._data
     wrong = {
         backend.suggestion: [(), (2,), (2, 5), ("a", "ger")], backend.with_keyword: [(data, "ca"), (5, "ca", "roc"), (data, 5, "roc"), (data, "ca", 5)],
         backend.with_part: [(data, "a", "Latn"), (data, 1, 5)], backend.keyword: [(data,), (data, 5)], backend.every_keyword: [(5,)], backend.fold: [(5,)],
-        backend.best_for_ranges: [(["de"], 5), (["de"], [5]), ([5], ["de"])], backend.suitable_for_header: [("de", [5])],
+        backend.best_for_ranges: [(["de"], 5), (["de"], [5]), ([5], ["de"])], backend.suitable_for_header: [("de", [5], 1), ("de", ["de"])],
         backend.site_best_for_ranges: [(["de"], 5), ([5], (b"", b""))],
     }
     inside = [

@@ -3,10 +3,8 @@ read."""
 import copy
 import doctest
 import itertools
-import os
 import pickle
 import pydoc
-import subprocess
 import sys
 import threading
 import time
@@ -16,9 +14,8 @@ import unittest.mock
 import weakref
 
 import langtag
-import leaks
 import wrong_calls
-from langtag import (AcceptLanguage, EditError, InvalidTag, Kind, Range, Tag, kind, look_up, parse, stop_len,
+from langtag import (AcceptLanguage, BestMatch, EditError, InvalidTag, Kind, Range, Site, Tag, kind, look_up, parse, stop_len,
                      tag_for_header, tag_for_header_lenient, viable_len)
 
 
@@ -244,6 +241,32 @@ class Negotiation(unittest.TestCase):
             self.assertIs(langtag.best_for_header("zh", tuple(many)), many[-1])
 
 
+class Sites(unittest.TestCase):
+    def test_that_they_do_not_change(self):
+        given = ["en", Tag("de")]
+        site, match, accepted = Site(given), langtag.match_for_header("tlh", ["de", "en"]), AcceptLanguage("de")
+        given[:] = ["x-a"]
+        for change in (lambda: site.__init__(["fr"]), lambda: setattr(site, "tags", ()), lambda: match.__init__(0, "de", 0, "de"), lambda: setattr(match, "index", 0),
+                       lambda: accepted.__init__("fr")):
+            self.assertRaisesRegex(AttributeError, " does not change", change)
+        self.assertEqual((site.tags, match, str(accepted)), (("en", Tag("de")), BestMatch(1, "en", 30, "tlh"), "de;q=1.0"))
+        for other in (BestMatch(1, "en", 31, "tlh"), BestMatch(1, "en", 30, "de"), BestMatch(0, "en", 30, "tlh"), BestMatch(1, "de", 30, "tlh")):
+            self.assertNotEqual(match, other)
+
+    def test_copies(self):
+        class Own(Site):
+            __slots__ = ()
+
+        class Found(BestMatch):
+            __slots__ = ()
+
+        for value in (Own(["en", Tag("de")]), Found(1, "en", 30, "tlh")):
+            again = copy.copy(value)
+            self.assertEqual((type(again), repr(again)), (type(value), repr(value)))
+        self.assertEqual(list(map(type, pickle.loads(pickle.dumps(Site(["en", Tag("de")]))).tags)), [str, Tag])
+        self.assertEqual((len(Site(["en"] * 65)), Site([]).best_for_header("de", default=7), len(Site([]))), (65, 7, 0))
+
+
 class Names(unittest.TestCase):
     def test_that_each_language_of_two_letters_has_one(self):
         letters = "abcdefghijklmnopqrstuvwxyz"
@@ -259,6 +282,22 @@ class Edits(unittest.TestCase):
         self.assertEqual(str(tag.replace(extensions={"u": ["co", "eor"]}, variants=[])), "zh-yue-Hant-HK-u-co-eor-x-mine")
         for nothing in ([], (), {}, set(), "", None):
             self.assertEqual(str(Tag("de-1996-u-co-pinyin").replace(variants=nothing, extensions=nothing)), "de")
+
+    def test_forms_that_change_nothing(self):
+        """A form that is the same text is the same object. For a subclass it is a Tag, as for a form that differs."""
+        class Own(Tag):
+            pass
+
+        forms = (Tag.recommended, Tag.canonical, Tag.maximized, Tag.minimized, Tag.extensions_form)
+        for text, others in (("de-Latn-DE", [3]), ("DE-latn-de", [0, 3]), ("iw", [1, 2]), ("x-a", []), ("de-u-nu-thai-ca-roc", [2, 4])):
+            tag, own = Tag(text), Own(text)
+            self.assertEqual([number for number, form in enumerate(forms) if form(tag) is not tag], others)
+            self.assertEqual({type(form(own)) for form in forms}, {Tag})
+            self.assertEqual([str(form(own)) for form in forms], [str(form(tag)) for form in forms])
+
+    def test_a_language_that_is_removed(self):
+        for language in (None, "", []):
+            self.assertEqual(str(caught(lambda _: Tag("de-CH").replace(language=language))), "the language cannot be removed")
 
     def test_from_parts(self):
         tag = Tag("zh-yue-Hant-HK-1994-u-co-pinyin-t-aa-x-mine")
@@ -304,6 +343,8 @@ class Edits(unittest.TestCase):
 
 class Memory(unittest.TestCase):
     def test_that_nothing_is_kept(self):
+        import leaks  # here, because PyPy has no tracemalloc
+
         self.assertEqual(leaks.kept(100), [])
 
 
@@ -313,8 +354,6 @@ class WrongCalls(unittest.TestCase):
             with self.subTest(number, said=wrong_calls.told(call)), self.assertRaises(error):
                 call()
 
-
-IS_NATIVE = langtag._backend.__name__ == "langtag._native"
 
 #: The program that each of several interpreters runs.
 INTERPRETED = """
@@ -402,7 +441,6 @@ class Threads(unittest.TestCase):
                     break
             self.assertTrue(ran)
 
-    @unittest.skipUnless(IS_NATIVE, "the ctypes module has no lock between the test and the change")
     def test_that_only_one_of_two_calls_of_init_succeeds(self):
         one, other = ("en-x-" + letter + "bcdefgh-" * 200_000 + "a" for letter in "ab")
         for kind in (Tag, Range):
@@ -424,7 +462,6 @@ class Threads(unittest.TestCase):
             self.assertEqual([words for _, words in refused], [f"a {kind.__name__} does not change"])
             self.assertEqual(str(made), other if refused[0][0] == one else one)
 
-    @unittest.skipUnless(IS_NATIVE, "ctypes itself is not for several interpreters in each Python")
     def test_interpreters(self):
         try:
             import _interpreters as interpreters
@@ -438,24 +475,6 @@ class Threads(unittest.TestCase):
         self.assertEqual(str(Tag("de")), "de")
 
 
-@unittest.skipUnless(IS_NATIVE and "LANGTAG_OTHER" in os.environ, "there is one")
-class Backends(unittest.TestCase):
-    """Compares the C module and the ctypes module. LANGTAG_OTHER names the library."""
-
-    def said(self, *program):
-        """Returns what a program prints over each of them, which has to be the same."""
-        said = [subprocess.run([sys.executable, *program], capture_output=True, text=True, check=True, env={**os.environ, "LANGTAG_LIBRARY": library}).stdout
-                for library in ("", os.environ["LANGTAG_OTHER"])]
-        self.assertEqual(*said)
-        return said[0]
-
-    def test_that_both_have_the_same_words(self):
-        self.assertEqual(self.said("wrong_calls.py").count("\n"), len(wrong_calls.CALLS))
-
-    def test_that_both_have_the_same(self):
-        self.said("-c", "import langtag\nfor base in (langtag._backend.TagBase, langtag._backend.RangeBase): print(*sorted(it for it in vars(base) if it[0] != '_'))")
-
-
 class Help(unittest.TestCase):
     def test_that_it_shows_the_calls(self):
         said = pydoc.render_doc(langtag, renderer=pydoc.plaintext)
@@ -463,15 +482,6 @@ class Help(unittest.TestCase):
             self.assertIn(name, said)
         for name in ("with_traceback", "__getnewargs__", "_asdict", "add_note"):
             self.assertNotIn(f" {name}(", said)
-
-
-class Library(unittest.TestCase):
-    def test_that_is_not_there_or_another(self):
-        for path in ("/nowhere/liblangtag_verified.so.1", "libc.so.6", __file__):
-            run = subprocess.run([sys.executable, "-c", "import langtag"], capture_output=True, text=True,
-                                 env={**os.environ, "LANGTAG_LIBRARY": path})
-            self.assertIn("ImportError", run.stderr.splitlines()[-1])
-            self.assertIn("LANGTAG_LIBRARY", run.stderr)
 
 
 def load_tests(loader, tests, ignore):

@@ -168,7 +168,9 @@ def strict(header, tags):
     found, error = outcome(tag_for_header, header, tags)
     if error is None:
         return shown(found)
-    assert type(error) is AcceptLanguageError and error.header == header and str(error) == f"element {error.index} has a bad {error.part}"
+    element = langtag._quoted(langtag._characters(langtag.bytes_of(header).split(b",")[error.index].strip(b" \t"), header))
+    assert type(error) is AcceptLanguageError and error.header == header
+    assert str(error) == f"element {error.index + 1} at offset {error.offset} has a bad {error.part}: {element}"
     return f"bad {error.index} {error.offset} {({'language range': 'range', 'weight': 'weight'})[error.part]}"
 
 
@@ -182,7 +184,7 @@ def answer_elements(header):
     ranges, (accepted, error) = AcceptLanguage.lenient(header).ranges, outcome(AcceptLanguage, header)
     assert error or accepted.ranges == ranges
     listed = shown([f"{it.range} {it.weight}" for it in ranges])
-    return f"{error} | {listed}" if error else listed
+    return f"element {error.index} has a bad {error.part} | {listed}" if error else listed
 
 
 def replaced(tag, part, value, given):
@@ -190,7 +192,8 @@ def replaced(tag, part, value, given):
     if error is None:
         return str(made)
     assert type(error) is EditError and (error.part, error.text) == (part, given if tag.kind is langtag.Kind.NORMAL else None)
-    assert str(error) == ("not a normal language tag" if error.text is None else f"invalid {part.replace('_', ' ')} {langtag._quoted_text(given)}")
+    refused = f"invalid {part.replace('_', ' ')} {langtag._quoted_text(given)}" if given or part != "language" else "the language cannot be removed"
+    assert str(error) == ("not a normal language tag" if error.text is None else refused)
     return "no parts" if error.text is None else "refused"
 
 
@@ -290,8 +293,13 @@ def answer_best_accepted(header, tags):
 
 def answer_best_ranges(ranges, tags):
     wanted = ranges.split()
-    return alike(*among(langtag.best_for_ranges, wanted, tags), langtag.best_for_ranges(list(map(Range, wanted)), words(tags)),
+    return alike(*among(langtag.best_for_ranges, wanted, tags), langtag.best_for_ranges([made(Range, it) or it for it in wanted], words(tags)),
                  langtag.Site(words(tags)).best_for_ranges(wanted))
+
+
+def suitable(call, wanted, tags):
+    """Returns the tags that a call returns for a list and for a site."""
+    return alike(*among(getattr(langtag, call), wanted, tags), getattr(langtag.Site(words(tags)), call)(wanted))
 
 
 def told(pairs):
@@ -333,8 +341,8 @@ ANSWERS = {
     "right-to-left": of_tag(lambda tag: tag.is_right_to_left), "posix": lambda name: shown(outcome(Tag.from_posix, name)[0]), "posix-name": of_tag(answer_posix_name),
     "unknown-modifier": lambda name: shown(langtag.unknown_modifier(name)), "best": answer_best, "best-ranges": answer_best_ranges,
     "best-accepted": answer_best_accepted, "best-match": answer_best_match,
-    "suitable": lambda header, tags: alike(*among(langtag.suitable_for_header, header, tags)),
-    "suitable-ranges": lambda ranges, tags: alike(*among(langtag.suitable_for_ranges, ranges.split(), tags)),
+    "suitable": lambda header, tags: suitable("suitable_for_header", header, tags),
+    "suitable-ranges": lambda ranges, tags: suitable("suitable_for_ranges", ranges.split(), tags),
     "parents": of_tag(answer_parents), "maximized": of_tag(Tag.maximized), "minimized": of_tag(Tag.minimized),
     "tag": answer_tag, "scan": answer_scan, "recommended": of_tag(Tag.recommended, None), "validity": of_tag(answer_validity, "none"),
     "suggestion": of_tag(lambda tag: tag.invalid_subtag and tag.invalid_subtag.suggestion),

@@ -1,5 +1,4 @@
-"""Calls that are refused, with the type of their error. As a program, prints the error of each, so that the words of both backends can
-be compared. The signatures of functions are left out: there, Python itself words the errors."""
+"""Calls that are refused, with the type of their error. The signatures of functions are left out: there, Python itself words the errors."""
 import functools
 import itertools
 
@@ -89,7 +88,3 @@ def told(call):
         return f"not refused: {call()}"
     except Exception as error:
         return f"{type(error).__name__} {ascii(str(error))}"
-
-
-if __name__ == "__main__":
-    print(*(told(call) for _, call in CALLS), sep="\n")

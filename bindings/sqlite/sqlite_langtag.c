@@ -21,7 +21,7 @@ SQLITE_EXTENSION_INIT1
 #define FUNCTION(name) \
     static void name(sqlite3_context *context, __attribute__((unused)) int count, __attribute__((unused)) sqlite3_value **values)
 
-/* A function of SQL. If several functions share `call`, one of the last three is what they ask of the library. */
+/* A function of SQL. If several functions share `call`, one of the last four is what they ask of the library. */
 typedef struct function {
     const char *name;
     int arguments;
@@ -29,6 +29,7 @@ typedef struct function {
     size_t (*form)(const char *tag, size_t len, char *buffer, size_t buffer_len);
     bool (*is)(const char *tag, size_t len);
     bool (*matches)(const char *range, size_t range_len, const char *tag, size_t tag_len);
+    bool is_for_ranges; /* a choice for a list of ranges, and not for a header */
 } function;
 
 /* A function with a call of its own, and a form, whose function of the library has the name that it has in SQL. */
@@ -99,15 +100,18 @@ static void return_made(sqlite3_context *context, char *made) {
     if (!lacks(context, made)) sqlite3_result_text(context, made, -1, sqlite3_free);
 }
 
-/* Of what a string is made: its form, or if `form` is NULL, the tag with the value of a key, or without the key if the value is NULL. */
+/* Of what a string is made: its form, or the parent at an index above 0, or the tag with the value of a key, or without the key if the
+ * value is NULL. */
 typedef struct source {
     size_t (*form)(const char *tag, size_t len, char *buffer, size_t buffer_len);
+    uint32_t parent;
     text tag, key, value;
 } source;
 
 static size_t write_source(const source *of, char *buffer, size_t room) {
     const text tag = of->tag, key = of->key, value = of->value;
     if (of->form) return of->form(tag.at, tag.len, buffer, room);
+    if (of->parent > 0) return langtag_nth_parent(tag.at, tag.len, of->parent - 1, buffer, room);
     if (!value.at) return langtag_without_keyword(tag.at, tag.len, key.at, key.len, buffer, room);
     return langtag_with_keyword(tag.at, tag.len, key.at, key.len, value.at, value.len, buffer, room);
 }
@@ -128,34 +132,43 @@ static bool return_written(sqlite3_context *context, const source *of) {
     return true;
 }
 
+FUNCTION(nth_parent) {
+    const text tag = text_of(values[0]);
+    const sqlite3_int64 index = sqlite3_value_type(values[1]) == SQLITE_NULL ? -1 : sqlite3_value_int64(values[1]);
+    if (tag.at && index >= 0 && index < UINT32_MAX) return_written(context, &(source){.parent = (uint32_t)index + 1, .tag = tag}); /* else NULL */
+}
+
 FUNCTION(form) {
     const text tag = text_of(values[0]);
     if (tag.at) return_written(context, &(source){.form = called(context)->form, .tag = tag}); /* else NULL */
 }
 
-/* Returns the canonical form of a tag in its recommended case, in memory to be freed, and sets `len`. Returns NULL if the string is not a
- * tag, or memory is short, which is an error. */
-static char *form_of(sqlite3_context *context, text tag, size_t *len) {
+/* Returns the form of a tag whose subtags have the names, in memory to be freed, and sets `len`. As much memory is behind the form.
+ * Returns NULL if the string is not a tag, or memory is short, which is an error. */
+static char *named_form(sqlite3_context *context, text tag, size_t *len) {
     char none;
-    *len = tag.at ? langtag_canonical(tag.at, tag.len, &none, 0) : 0;
+    *len = tag.at ? langtag_name_form(tag.at, tag.len, &none, 0) : 0;
     if (*len == 0) return NULL;
-    char *form = sqlite3_malloc64(*len);
+    char *form = sqlite3_malloc64(2 * *len);
     if (lacks(context, form)) return NULL;
-    langtag_canonical(tag.at, tag.len, form, *len);
+    langtag_name_form(tag.at, tag.len, form, *len);
     langtag_recommend(form, *len);
     return form;
 }
 
 FUNCTION(describe) {
     size_t len;
-    char *form = form_of(context, text_of(values[0]), &len);
-    if (form) return_written(context, &(source){.form = langtag_name_describe, .tag = {form, len}}); /* else NULL, or the error */
+    char *form = named_form(context, text_of(values[0]), &len);
+    if (form) { /* else NULL, or the error */
+        langtag_name_sort_variants(form, len, form + len);
+        return_written(context, &(source){.form = langtag_name_describe, .tag = {form, len}});
+    }
     sqlite3_free(form);
 }
 
 FUNCTION(autonym) {
     size_t len;
-    char *form = form_of(context, text_of(values[0]), &len);
+    char *form = named_form(context, text_of(values[0]), &len);
     const char *name = form ? langtag_name_autonym(form, len) : NULL;
     if (name) sqlite3_result_text(context, name, -1, SQLITE_STATIC);
     sqlite3_free(form);
@@ -270,39 +283,68 @@ static void prepare(offered *tags) {
     tags->is_prepared = true;
 }
 
-/* Reads the header of a call. Returns false if the result is NULL or an error. */
-static bool has_header(sqlite3_context *context, int count, sqlite3_value **values, text *header) {
+/* What a choice is made for: a header, or ranges, which are spans of the string. */
+typedef struct wanted {
+    text string;
+    langtag_span *ranges; /* to be freed, or NULL for a header */
+    size_t count;
+} wanted;
+
+/* Returns the part of a string between two offsets without the spaces around it. */
+static langtag_span trimmed(const char *string, size_t start, size_t end) {
+    while (start < end && string[start] == ' ') start++;
+    while (start < end && string[end - 1] == ' ') end--;
+    return (langtag_span){start, end - start};
+}
+
+/* Reads the first argument of a choice. Returns false if the result is NULL or an error. */
+static bool is_wanted(sqlite3_context *context, int count, sqlite3_value **values, wanted *it) {
+    size_t start = 0;
     if (count < 1) {
-        sqlite3_result_error(context, "langtag: expected a header", -1);
+        sqlite3_result_error(context, "langtag: expected a header or ranges", -1);
         return false;
     }
-    *header = text_of(values[0]);
-    return header->at != NULL;
+    *it = (wanted){.string = text_of(values[0])};
+    if (!it->string.at || !called(context)->is_for_ranges) return it->string.at != NULL;
+    it->ranges = sqlite3_malloc64((it->string.len + 1) * sizeof *it->ranges);
+    if (lacks(context, it->ranges)) return false;
+    for (size_t at = 0; at <= it->string.len; at++)
+        if (at == it->string.len || it->string.at[at] == ',') {
+            it->ranges[it->count++] = trimmed(it->string.at, start, at);
+            start = at + 1;
+        }
+    return true;
+}
+
+/* Returns the index of the tag that is chosen among the tags of a call, and of which `match` says more if there is a header. */
+static size_t best_of(const wanted *by, const offered *tags, langtag_best_match *match) {
+    const text of = by->string;
+    if (by->ranges && tags->is_prepared)
+        return langtag_site_best_for_ranges(of.at, of.len, by->ranges, by->count, tags->bytes, tags->len, tags->site, tags->count);
+    if (by->ranges) return langtag_best_for_ranges(of.at, of.len, by->ranges, by->count, tags->bytes, tags->len, tags->spans, tags->count);
+    if (tags->is_prepared) return langtag_site_match_for_header(of.at, of.len, tags->bytes, tags->len, tags->site, tags->count, match);
+    return langtag_match_for_header(of.at, of.len, tags->bytes, tags->len, tags->spans, tags->count, match);
 }
 
 /* Returns the place of the chosen tag among the arguments, or 0 if no tag is chosen. SQLite keeps the tags of a call for the next call of the
  * statement if the first tag is constant. They are prepared when a second call has the same tags, because that costs more than one choice. */
 static size_t chosen(sqlite3_context *context, int count, sqlite3_value **values, langtag_best_match *match) {
-    text header;
-    if (!has_header(context, count, values, &header) || count < 2) return 0;
+    wanted by;
+    if (!is_wanted(context, count, values, &by)) return 0;
     offered *kept = sqlite3_get_auxdata(context, 1);
-    if (kept && are_those_of(kept, count, values)) {
-        if (!kept->is_prepared) prepare(kept);
-        size_t best = langtag_site_match_for_header(header.at, header.len, kept->bytes, kept->len, kept->site, kept->count, match);
-        return best < kept->count ? best + 1 : 0;
-    }
-    offered *tags = offer(context, count, values);
-    if (!tags) return 0;
-    size_t best = langtag_match_for_header(header.at, header.len, tags->bytes, tags->len, tags->spans, tags->count, match);
-    best = best < tags->count ? best + 1 : 0;
-    sqlite3_set_auxdata(context, 1, tags, sqlite3_free); /* may free them */
-    return best;
+    const bool is_kept = kept && are_those_of(kept, count, values);
+    offered *tags = is_kept ? kept : offer(context, count, values);
+    if (is_kept && !tags->is_prepared) prepare(tags);
+    const size_t best = tags ? best_of(&by, tags, match) : 0, place = tags && best < tags->count ? best + 1 : 0;
+    sqlite3_free(by.ranges);
+    if (tags && !is_kept) sqlite3_set_auxdata(context, 1, tags, sqlite3_free); /* may free them */
+    return place;
 }
 
-FUNCTION(best_for_header) {
+FUNCTION(best) {
     langtag_best_match match;
-    size_t best = chosen(context, count, values, &match);
-    if (best) sqlite3_result_value(context, values[best]); /* else NULL */
+    size_t found = chosen(context, count, values, &match);
+    if (found) sqlite3_result_value(context, values[found]); /* else NULL */
 }
 
 /* Returns a JSON object. The bytes of tags and ranges need no escapes in JSON. */
@@ -315,19 +357,25 @@ FUNCTION(match_for_header) {
 }
 
 /* Returns a JSON array of the suitable tags, best first. The bytes of tags need no escapes in JSON. */
-FUNCTION(suitable_for_header) {
-    text header;
-    offered *tags = has_header(context, count, values, &header) ? offer(context, count, values) : NULL;
-    if (!tags) return; /* NULL, or the error */
-    size_t found = langtag_suitable_for_header(header.at, header.len, tags->bytes, tags->len, tags->spans, tags->count, tags->found, tags->count);
-    sqlite3_str *json = sqlite3_str_new(sqlite3_context_db_handle(context));
-    for (size_t k = 0; k < found; k++) {
-        const langtag_span tag = tags->spans[tags->found[k]];
-        sqlite3_str_appendf(json, "%s\"%.*s\"", k ? "," : "[", (int)tag.len, tags->bytes + tag.start);
+FUNCTION(suitable) {
+    wanted by;
+    if (!is_wanted(context, count, values, &by)) return; /* NULL, or the error */
+    offered *tags = offer(context, count, values);
+    if (tags) {
+        const text of = by.string;
+        const size_t found = by.ranges ? langtag_suitable_for_ranges(of.at, of.len, by.ranges, by.count, tags->bytes, tags->len, tags->spans, tags->count,
+                                                                     tags->found, tags->count)
+                                       : langtag_suitable_for_header(of.at, of.len, tags->bytes, tags->len, tags->spans, tags->count, tags->found, tags->count);
+        sqlite3_str *json = sqlite3_str_new(sqlite3_context_db_handle(context));
+        for (size_t k = 0; k < found; k++) {
+            const langtag_span tag = tags->spans[tags->found[k]];
+            sqlite3_str_appendf(json, "%s\"%.*s\"", k ? "," : "[", (int)tag.len, tags->bytes + tag.start);
+        }
+        sqlite3_str_appendall(json, found ? "]" : "[]");
+        return_made(context, sqlite3_str_finish(json));
     }
-    sqlite3_str_appendall(json, found ? "]" : "[]");
     sqlite3_free(tags);
-    return_made(context, sqlite3_str_finish(json));
+    sqlite3_free(by.ranges);
 }
 
 FUNCTION(suggestion) {
@@ -408,10 +456,13 @@ int sqlite3_sqlitelangtag_init(sqlite3 *db, char **message, const sqlite3_api_ro
     SQLITE_EXTENSION_INIT2(api);
     static function functions[] = {
         CALL("langtag_part", 2, part), CALL("langtag_keyword", 2, keyword), CALL("langtag_set_keyword", 3, set_keyword), CALL("langtag_base", 1, base),
+        CALL("langtag_nth_parent", 2, nth_parent),
         CALL("langtag_suggestion", 1, suggestion), CALL("langtag_describe", 1, describe), CALL("langtag_autonym", 1, autonym),
         CALL("langtag_unknown_modifier", 1, unknown_modifier), CALL("langtag_distance", 2, distance), CALL("langtag_version", 0, version),
-        CALL("langtag_best_for_header", -1, best_for_header), CALL("langtag_match_for_header", -1, match_for_header),
-        CALL("langtag_suitable_for_header", -1, suitable_for_header), CALL("langtag_proved", 0, proved),
+        CALL("langtag_best_for_header", -1, best), CALL("langtag_match_for_header", -1, match_for_header),
+        CALL("langtag_suitable_for_header", -1, suitable), CALL("langtag_proved", 0, proved),
+        {.name = "langtag_best_for_ranges", .arguments = -1, .call = best, .is_for_ranges = true},
+        {.name = "langtag_suitable_for_ranges", .arguments = -1, .call = suitable, .is_for_ranges = true},
         FORM(langtag_extensions_form), FORM(langtag_locale_form), FORM(langtag_canonical), FORM(langtag_maximized), FORM(langtag_minimized),
         FORM(langtag_parent), FORM(langtag_from_posix), FORM(langtag_to_posix),
         {.name = "langtag_is_locale", .arguments = 1, .call = is, .is = langtag_is_locale},

@@ -42,6 +42,7 @@ LANGTAG_OF_ONE(OF_ONE)
 LANGTAG_OF_TWO(OF_TWO)
 #define FORM(name) FUNCTION(name, result = langtag_##name(text, len, buffer, sizeof buffer))
 LANGTAG_FORMS(FORM)
+FUNCTION(nth_parent, result = langtag_nth_parent(text, len, UINT32_MAX, buffer, sizeof buffer)) /* the whole chain */
 FUNCTION(parse, result = langtag_parse(text, len, &parts))
 FUNCTION(refused, result = langtag_refused(text, len, &found, &offset))
 FUNCTION(hash, result = langtag_hash(LANGTAG_HASH, text, len))

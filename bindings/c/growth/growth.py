@@ -3,7 +3,7 @@
 
     growth.py [--write] PROGRAM LIMITS FILE..
 
-The program runs under valgrind. The files, a header or sources of Rattle, declare the functions that the program has to call. Twice the
+The program runs under valgrind. The files, such as a header, declare the functions that the program has to call. Twice the
 text may take at most MOST times the instructions, or more if SQUARES says so. LIMITS is a table of the instructions for each byte, with
 a line for each function and a column for each shape of texts. --write writes the table. Compare it with the old one before you commit
 it: a number that has doubled needs a reason."""
@@ -31,8 +31,8 @@ SQUARES = {(name, shape): most for names, shapes, most in (
     ("is_locale", "transformed", 4.4),
     ("best_for_header", "refused", 4.4),
 ) for name in names.split() for shape in shapes.split()}
-# The functions that a header declares, and those that a Rattle source exports.
-DECLARED = re.compile(r'\blangtag_(\w+)\([^;{]*\);|extern "C" fn langtag_bench_(\w+)')
+# The functions that a header declares.
+DECLARED = re.compile(r'\blangtag_(\w+)\([^;{]*\);')
 
 
 class Count(NamedTuple):
@@ -92,7 +92,7 @@ def main(*words: str) -> int:
     counts, ended = counted(program)
     if is_written:
         write_limits(pathlib.Path(limits), counts)
-    declared = {name for path in declaring for names in DECLARED.findall(pathlib.Path(path).read_text(encoding="utf-8")) for name in names if name}
+    declared = {name for path in declaring for name in DECLARED.findall(pathlib.Path(path).read_text(encoding="utf-8"))}
     faults = [f"{it} is not called" for it in sorted(declared - {function for function, _ in counts})]
     faults += [f"{program} ended with {ended}"] * (ended != 0)
     faults += faults_of(counts, read_limits(pathlib.Path(limits)))

@@ -124,7 +124,7 @@ typedef size_t write_text(const text *arguments, char *buffer, size_t room);
 /* Writes what a call writes, and returns its length. The buffer is too long, exactly long enough, and too short. A call changes only
  * the bytes of its text, and none if the text does not fit, unless `is_partly` is true. */
 static size_t put_written(text *to, const text *arguments, write_text *write, bool is_partly) {
-    size_t len = write(arguments, fenced(BUFFER, 0), 0);
+    size_t len = write(arguments, fenced(BUFFER, 0), 0), start = to->len + 1;
     const size_t rooms[] = {len + 8, len, len > 0 ? len - 1 : 0};
     for (int k = 0; k < 3; k++) {
         bool fits = len <= rooms[k];
@@ -133,7 +133,7 @@ static size_t put_written(text *to, const text *arguments, write_text *write, bo
         memset(buffer, '~', room);
         if (write(arguments, buffer, room) != len) put_word(to, " whose length changes with the room");
         if (fits && len > 0 && k == 0) put_bytes(to, buffer, len);
-        if (fits && len > 0 && memcmp(to->at + 1, buffer, len) != 0) put_word(to, " that changes with the room");
+        if (fits && len > 0 && memcmp(to->at + start, buffer, len) != 0) put_word(to, " that changes with the room");
         for (; at < room; at++)
             if (buffer[at] != '~') put_word(to, " and another byte");
     }
@@ -182,21 +182,14 @@ OF_ONE(extensions_form, a) { put_form(to, a, langtag_extensions_form); }
 OF_ONE(posix, a) { put_form(to, a, langtag_from_posix); }
 OF_ONE(posix_name, a) { put_form(to, a, langtag_to_posix); }
 
-/* The tag and its parents. Each parent is asked of the one before it. */
+/* The tag and its parents. `parent` is the second one. */
+static uint32_t parent_index;
+static size_t write_parent(const char *bytes, size_t len, char *buffer, size_t buffer_len) {
+    return parent_index == 1 ? langtag_parent(bytes, len, buffer, buffer_len) : langtag_nth_parent(bytes, len, parent_index, buffer, buffer_len);
+}
 OF_ONE(parents, a) {
-    if (langtag_kind(a.at, a.len) == LANGTAG_NONE) {
-        put_form(to, a, langtag_parent);
-        return;
-    }
-    put_bytes(to, a.at, a.len);
-    for (size_t at = to->len - a.len; ; ) {
-        text tag = {to->at + at, to->len - at, 0}, parent = {0};
-        put_form(&parent, tag, langtag_parent);
-        bool is_last = parent.len == 2 && parent.at[1] == '-';
-        if (!is_last) at = to->len + 1, put(to, parent.at, parent.len);
-        free(parent.at);
-        if (is_last) return;
-    }
+    for (parent_index = 0; parent_index == 0 || langtag_nth_parent(a.at, a.len, parent_index, NULL, 0) > 0; parent_index++)
+        put_form(to, a, write_parent);
 }
 
 OF_ONE(base, a) {
@@ -493,31 +486,41 @@ OF_ONE(transform, tag) {
 }
 
 static langtag_prepared_tag site[MOST_TAGS], stale[MOST_TAGS];
+static langtag_span left[MOST_TAGS];
 
-/* Prepares the tags of a text, and one more span that reaches beyond the text. In `stale` each tag has what was prepared for the first. */
+/* Prepares the tags of a text, and one more span that reaches beyond the text. In `stale` each second tag has what was prepared for the
+ * next. */
 static size_t prepare_tags(text words) {
     size_t count = find_tags(words, tags);
     for (size_t i = 0; i <= count; i++) {
         site[i].tag = tags[i];
         langtag_prepare(words.at, words.len, &site[i]);
-        stale[i] = site[0];
+    }
+    for (size_t i = 0; i < count; i++) {
+        stale[i] = site[i % 2 ? i : i + 1 < count ? i + 1 : 0];
         stale[i].tag = tags[i];
     }
     return count;
 }
 
-/* Whether what an entry of `stale` has is true of its tag, or is nothing, because nothing was kept of the first tag. */
+/* Whether what an entry of `stale` has is true of its tag, or is nothing, because nothing was kept of the next tag. */
 static bool is_current(size_t index) {
     return memcmp(stale[index].opaque, site[index].opaque, sizeof site->opaque) == 0 || (stale[index].opaque[0] & 0xFFFF) == 0;
 }
 
-/* The choice of a site is that of the tags, and no tag is chosen for which it was not prepared. */
+/* Leaves out the tags for which an entry of `stale` was not prepared. */
+static void leave_out_stale(size_t count) {
+    for (size_t i = 0; i < count; i++) left[i] = is_current(i) ? tags[i] : (langtag_span){0, 0};
+}
+
+/* The choice of a site is that of the tags, and each tag is skipped for which it was not prepared. */
 OF_TWO(best, header, words) {
     size_t index = put_chosen(to, langtag_best_for_header, header, words), count = prepare_tags(words);
     size_t of_site = langtag_site_best_for_header(header.at, header.len, words.at, words.len, site, count + 1);
     if (of_site != (index < count ? index : count + 1)) put_word(to, " but another of a site");
     size_t wrong = langtag_site_best_for_header(header.at, header.len, words.at, words.len, stale, count);
-    if (wrong > count || (wrong < count && !is_current(wrong))) put_word(to, " but a stale tag of a site");
+    leave_out_stale(count);
+    if (wrong != langtag_best_for_header(header.at, header.len, words.at, words.len, left, count)) put_word(to, " but another beside stale tags of a site");
 }
 
 /* Also with spans that reach beyond the texts. */
@@ -530,6 +533,10 @@ OF_TWO(best_ranges, from, words) {
     prepare_tags(words);
     if (langtag_site_best_for_ranges(from.at, from.len, ranges, wanted, words.at, words.len, site, count) != index)
         put_word(to, " but another of a site");
+    leave_out_stale(count);
+    if (langtag_site_best_for_ranges(from.at, from.len, ranges, wanted, words.at, words.len, stale, count) !=
+        langtag_best_for_ranges(from.at, from.len, ranges, wanted, words.at, words.len, left, count))
+        put_word(to, " but another beside stale tags of a site");
 }
 
 /* The index, the distance and the range. All out arguments are written even if no tag is suitable. */
@@ -543,6 +550,12 @@ OF_TWO(best_match, header, words) {
     if (langtag_site_match_for_header(header.at, header.len, words.at, words.len, site, count, &of_site) != index ||
         of_site.range.start != match.range.start || of_site.range.len != match.range.len || of_site.distance != match.distance)
         put_word(to, " another of a site");
+    leave_out_stale(count);
+    langtag_best_match of_left = {{1, 2}, 3};
+    if (langtag_site_match_for_header(header.at, header.len, words.at, words.len, stale, count, &of_site) !=
+            langtag_match_for_header(header.at, header.len, words.at, words.len, left, count, &of_left) ||
+        of_site.range.start != of_left.range.start || of_site.range.len != of_left.range.len || of_site.distance != of_left.distance)
+        put_word(to, " another beside stale tags of a site");
     if (index < count) {
         put_number(to, "", index), put_number(to, "", match.distance);
         put_word(to, " "), put(to, header.at + match.range.start, match.range.len);

@@ -28,9 +28,13 @@ template <class Text> using accepted = decltype(langtag::accept_language(std::de
 template <class Text> using walked = decltype(langtag::subtags(std::declval<Text>()));
 template <class Text> using walked_by_extension = decltype(langtag::extensions(std::declval<Text>()));
 template <class Header> using matched = decltype(langtag::match_for_header(std::declval<Header>(), {"de"})); /* the range is a view of the header */
+template <class Header> using matched_by_site = decltype(std::declval<const langtag::site &>().match_for_header(std::declval<Header>()));
+template <class Name> using dropped = decltype(langtag::unknown_modifier(std::declval<Name>()));
+template <class Text> using refused = decltype(langtag::refused(std::declval<Text>()));
 template <template <class> class Call>
 constexpr bool is_of_views = is_taken<Call, const char (&)[3], const char *, std::string_view, std::string &, const std::string &> && is_refused<Call, std::string, const std::string>;
-static_assert(is_of_views<parsed> && is_of_views<read_as_range> && is_of_views<accepted> && is_of_views<walked> && is_of_views<walked_by_extension> && is_of_views<matched>);
+static_assert(is_of_views<parsed> && is_of_views<read_as_range> && is_of_views<accepted> && is_of_views<walked> && is_of_views<walked_by_extension> && is_of_views<matched> &&
+              is_of_views<matched_by_site> && is_of_views<dropped> && is_of_views<refused>);
 
 /* A temporary list that owns its texts is not accepted. */
 template <class List> using chosen = decltype(langtag::best_for_header("de", std::declval<List>()));
@@ -43,7 +47,12 @@ static_assert(is_of_lists<chosen> && is_of_lists<chosen_by_ranges>);
 /* The tags that a site returns are views of it, so a temporary site returns none. */
 template <class Site> using asked = decltype(std::declval<Site>().best_for_header("de"));
 template <class Site> using indexed = decltype(std::declval<Site>()[0]);
-static_assert(is_taken<asked, const langtag::site &> && is_taken<indexed, const langtag::site &> && is_refused<asked, langtag::site> && is_refused<indexed, langtag::site>);
+template <class Site> using asked_for_match = decltype(std::declval<Site>().match_for_header("de"));
+template <class Site> using asked_for_ranges = decltype(std::declval<Site>().best_for_ranges({"de"}));
+template <class Site> using asked_for_all = decltype(std::declval<Site>().suitable_for_header("de"));
+template <class Site> using asked_for_all_of_ranges = decltype(std::declval<Site>().suitable_for_ranges({"de"}));
+template <template <class> class Call> constexpr bool is_of_sites = is_taken<Call, langtag::site &, const langtag::site &> && is_refused<Call, langtag::site>;
+static_assert(is_of_sites<asked> && is_of_sites<indexed> && is_of_sites<asked_for_match> && is_of_sites<asked_for_ranges> && is_of_sites<asked_for_all> && is_of_sites<asked_for_all_of_ranges>);
 
 static void check_views() {
     CHECK(!tag::parse({}) && !langtag::range::parse({}) && langtag::viable_len({}) == 0 && langtag::stop_len({}) == 0);
@@ -54,7 +63,12 @@ static void check_views() {
     CHECK(langtag::registry_date() == langtag_registry_date());
     const auto cut = tag::parse({text.data(), 9});
     CHECK(cut && cut->text().data() == text.data() && cut->canonical() == "ja-alalc97" && cut->extensions().empty());
-    CHECK(!cut->with(langtag::part::region, {"CH\0", 3}) && !langtag::matches_basic({}, *cut));
+    CHECK(!cut->with(langtag::part::region, {"CH\0", 3}) && !langtag::matches_basic({}, *cut) && !langtag::matches_extended({}, *cut));
+    CHECK(!cut->keyword({}) && !cut->field({}) && !cut->with_keyword({}, {}) && cut->with_keyword("ca", {}) == "ja-heploc-u-ca" && !cut->without_keyword({}) &&
+          cut->with(langtag::part::variants, {}) == "ja" && langtag::quoted({}) == "``" && !langtag::owned_tag::parse(std::string_view()));
+    const std::string_view none[] = {{}, "de", {}};
+    const langtag::site site(none);
+    CHECK(site.best_for_header("de")->text() == "de" && langtag::suitable_for_ranges(none, none).size() == 1 && langtag::suitable_for_header("de", {"de-CH", "de", "de-AT"}, 2).size() == 2 && site.suitable_for_ranges(none, 0).empty() && !langtag::accept_language({}).look_up({*cut}));
     CHECK(!langtag::from_parts("") && !langtag::from_parts("de", "Latin") && !langtag::from_parts("x-a") &&
           langtag::from_parts("de") == "de" && langtag::refused({})->message() == "unexpected end: expected a subtag");
 }
@@ -82,19 +96,23 @@ static void check_keys() {
     const std::unordered_map<langtag::owned_tag, int> owners = {{owned, 1}};
     CHECK(owned.set(langtag::part::script, "Latn") && owned.text() == "de-Latn-CH" && owned.view().script() == "Latn");
     CHECK(owners.count(langtag::owned_tag(*other)) == 1 && owners.count(owned) == 0 &&
-          !langtag::owned_tag::parse("de_CH"));
+          !langtag::owned_tag::parse("de_CH") && langtag::owned_tag::parse(std::string_view("de-CH-1996").substr(0, 5)) == one);
     owned = owned.with(langtag::part::script, "").with(langtag::part::region, "AT");
     CHECK(owned == "DE-at" && "de-at" == owned && owned != "de" && std::string("de-CH") != owned);
     const langtag::owned_tag shorter = owned.with(langtag::part::region, ""); // which comes after it
     CHECK(owned < shorter && shorter > owned && owned <= shorter && shorter >= owned && owned <= owned && owned >= owned);
     CHECK(!(shorter < owned) && !(owned > shorter) && !(shorter <= owned) && !(owned >= shorter) && owned != shorter);
-    bool refused = false;
-    try {
-        owned = owned.with(langtag::part::script, "Latin");
-    } catch (const std::invalid_argument &error) {
-        refused = error.what() == std::string("de-AT can't have the part Latin");
-    }
-    CHECK(refused && owned.text() == "de-AT");
+    const auto refused = [](const char *text, langtag::part which, const char *given) -> std::string {
+        try {
+            return std::string(langtag::owned_tag::parse(text)->with(which, given).text());
+        } catch (const std::invalid_argument &error) {
+            return error.what();
+        }
+    };
+    CHECK(refused("de-AT", langtag::part::script, "Latin") == "invalid script `Latin`");
+    CHECK(refused("de-AT", langtag::part::language, "") == "the language cannot be removed");
+    CHECK(refused("x-a", langtag::part::private_use, "x-b") == "not a normal language tag");
+    CHECK(refused("de-x-a", langtag::part::private_use, "") == "de");
     CHECK(one->with({{langtag::part::script, "Latn"}, {langtag::part::region, "AT"}}) == "de-Latn-AT");
     CHECK(!one->with({{langtag::part::script, "Latin"}, {langtag::part::region, "AT"}}) && one->with({}) == "de-CH");
 }

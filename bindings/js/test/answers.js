@@ -141,7 +141,7 @@ function answerOrder(one, other) {
 function answerHeader(header, list) {
     const tags = tagsOf(list), { ranges } = AcceptLanguage.lenient(header);
     const error = refusal(AcceptLanguageError, () => tagForHeader(header, tags));
-    assert(!error || (error.header === header && error.message === `element ${error.index} has a bad ${error.part}`), "the error");
+    assert(!error || (error.header === header && error.message.startsWith(`element ${error.index + 1} at offset ${error.offset} has a bad ${error.part}: \`${header.split(",")[error.index].match(/^[ \t]*([\w-]*)/)[1].slice(0, 80)}`)), "the error");
     const strict = error ? `bad ${error.index} ${error.offset} ${error.part.replace("language ", "")}` : shown(tagForHeader(header, tags));
     const lenient = alike(tagForHeaderLenient(header, tags), tagForHeaderLenient(header, new Set(wordsOf(list))), lookUp(ranges.map((it) => it.range), tags));
     return `${strict} | ${lenient}`;
@@ -151,7 +151,7 @@ function answerHeader(header, list) {
 function answerElements(header) {
     const said = ({ ranges }) => shown(ranges.map(({ range, weight }) => `${range} ${weight}`));
     const lenient = said(AcceptLanguage.lenient(header)), error = refusal(AcceptLanguageError, () => AcceptLanguage.parse(header));
-    return error ? `${error.message} | ${lenient}` : alike(lenient, said(AcceptLanguage.parse(header)));
+    return error ? `element ${error.index} has a bad ${error.part} | ${lenient}` : alike(lenient, said(AcceptLanguage.parse(header)));
 }
 
 function answerRefused(text) {
@@ -197,7 +197,7 @@ function answerBest(header, list) {
 function answerBestRanges(ranges, list) {
     const wanted = wordsOf(ranges);
     return alike(...among((tags) => bestForRanges(wanted, tags), list), new Site(wordsOf(list)).bestForRanges(wanted),
-        bestForRanges(wanted.map(LanguageRange.parse), wordsOf(list)));
+        bestForRanges(wanted.map((it) => made(LanguageRange, it) ?? it), wordsOf(list)));
 }
 
 function answerBestMatch(header, list) {
@@ -290,8 +290,8 @@ export const answers = {
     distance: (desired, supported) => shown(made(LanguageTag, desired) && made(LanguageTag, supported) && distance(LanguageTag.parse(desired), supported)),
     best: answerBest, "best-ranges": answerBestRanges, "best-match": answerBestMatch, parents: ofTag((tag) => tag.parents),
     "best-accepted": (header, list) => alike(...among((tags) => AcceptLanguage.lenient(header).best(tags), list)),
-    suitable: (header, list) => alike(...among((tags) => suitableForHeader(header, tags), list)),
-    "suitable-ranges": (ranges, list) => alike(...among((tags) => suitableForRanges(wordsOf(ranges), tags), list)),
+    suitable: (header, list) => alike(...among((tags) => suitableForHeader(header, tags), list), new Site(wordsOf(list)).suitableForHeader(header)),
+    "suitable-ranges": (ranges, list) => alike(...among((tags) => suitableForRanges(wordsOf(ranges), tags), list), new Site(wordsOf(list)).suitableForRanges(wordsOf(ranges))),
     header: answerHeader, elements: answerElements, ranges: (ranges, list) => shown(lookUp(wordsOf(ranges), tagsOf(list))),
     fallbacks: (text) => shown(Array.from(made(LanguageRange, text)?.fallbacks() ?? ["refused"])), edit: answerEdit,
 };

@@ -1,5 +1,6 @@
 /* Tests what only JavaScript has: values, errors, texts of any code units, and the memory of the module. */
 import assert from "node:assert/strict";
+import { spawnSync } from "node:child_process";
 import { cpSync, mkdtempSync, rmSync } from "node:fs";
 import { tmpdir } from "node:os";
 import { join } from "node:path";
@@ -324,4 +325,17 @@ test("ten million calls leave the memory as it was", () => {
     const heap = process.memoryUsage().heapUsed;
     for (let count = 0; count < 1_000_000; count++) LanguageTag.parse("zh-Hant-TW").canonical();
     assert.ok(process.memoryUsage().heapUsed - heap < 50_000_000);
+});
+
+test("the module is decoded by each function that an engine may have", () => {
+    const asked = `const { LanguageTag } = await import("${new URL("../index.js", import.meta.url)}"); console.log(LanguageTag.parse("iw").canonical().text);`;
+    const decodes = 'const decode = Buffer.from; Uint8Array.fromBase64 = (text) => (console.log("asked"), new Uint8Array(decode(text, "base64")));';
+    for (const [engine, said] of [["", "he"], ["delete Uint8Array.fromBase64; delete globalThis.Buffer;", "he"], [decodes, "asked\nhe"]]) {
+        const { stdout, stderr } = spawnSync(process.execPath, ["--input-type=module", "-e", engine + asked], { encoding: "utf8" });
+        assert.equal(stdout.trim(), said, stderr);
+    }
+});
+
+test("the language cannot be removed", () => {
+    for (const language of [null, ""]) assert.equal(thrown(() => LanguageTag.parse("de-CH").with({ language })).message, "the language cannot be removed");
 });

@@ -5,7 +5,6 @@ SELECT 'ZH-hant'::langtag = 'zh-Hant', 'zh'::langtag <> 'zh-Hant', 'de' < 'de-AT
 SELECT ARRAY(SELECT t FROM unnest('{zh-Latn,zh,DE,dea,de-CH,de-1996,x-a,de-AT,i-ami}'::langtag[]) AS t ORDER BY t);
 SELECT ARRAY(SELECT t FROM unnest('{zh-Latn,zh,DE,dea,de-CH,de-1996,x-a,de-AT,i-ami}'::langtag[]) AS t ORDER BY t DESC);
 SELECT min(t), max(t), count(DISTINCT t) FROM unnest('{zh,DE,de-CH,DE-ch,aa}'::langtag[]) AS t;
-SELECT langtag_cmp('de', 'DE'), langtag_cmp('de', 'de-CH'), langtag_cmp('de-CH', 'de'), langtag_cmp('dea', 'de-CH');
 -- Tags with the same first eight letters, which abbreviated keys do not distinguish
 SELECT ARRAY(SELECT t FROM unnest('{zh-Hant-TW,zh-Hant-CN,zh-Hant,zh-Hant-AA-rozaj,ZH-hant-aa}'::langtag[]) AS t ORDER BY t);
 -- These hashes must never change, because hash indexes and partitions contain them.

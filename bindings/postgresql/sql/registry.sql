@@ -1,9 +1,6 @@
 \a \t on \pset null NULL
 -- The rows ask for all values (test/test_rows.py). Here are their types, NULL, and errors.
 SELECT is_valid('iw'), invalid_subtag('iw'), invalid_subtag('de-fq'), pg_typeof(invalid_subtag('de')), canonical('iw-HEBR'), suggestion('en-UK'), suggestion('de'), pg_typeof(suggestion('de'));
--- A form that is longer than its tag, and too long for the first buffer
-SELECT t, canonical(t) FROM (SELECT ('ja-Latn-hepburn-' || repeat('heploc-', 20) || 'heploc')::langtag AS t) s;
-SELECT is_valid(('de-x-' || repeat('abcdefgh-', 120000) || 'a')::langtag);
 SELECT langtag_registry_date() ~ '^\d{4}-\d\d-\d\d$' AS dated;
 -- The versions in one line, and whether the library is the proved archive, which depends on how it was built.
 SELECT replace(replace(langtag_version(), langtag_registry_date(), 'DATE'), ', CLDR ' || langtag_cldr_version() || ')', ', CLDR)') ~ '^langtag \d+\.\d+\.\d+\S* \(IANA''s registry of DATE, CLDR\)$' AS versions, langtag_proved() IS NOT NULL AS known;
@@ -26,8 +23,6 @@ SELECT best_for_header(ARRAY['en', 'de_CH'], 'en');
 SELECT tag_for_header_lenient(ARRAY['', 'de'], 'de');
 SELECT best_for_header('{en,de_CH}', 'en');
 SELECT best_for_header('en', 'en');
--- Likely subtags
-SELECT maximized('zh-hk'), minimized('zh-HANT'), is_right_to_left('az-Arab'), distance('zh-hk', 'zh-TW'), distance('x-a', 'zh-TW');
 -- The canonical form of the extensions u and t
 SELECT length(extensions_form(('de-u-' || repeat('abc-', 65534) || 'ca')::langtag)::text), extensions_form(('de-u-' || repeat('abc-', 65535) || 'ca')::langtag);
 SELECT length(extensions_form(('de-u-' || repeat('abc-', 65534) || 'ca')::langtag)::text);
@@ -35,14 +30,14 @@ SELECT length(extensions_form(('de-u-' || repeat('abc-', 65534) || 'ca')::langta
 SELECT is_locale('iw'), is_locale('zh-yue'), locale_form('ger-uk'), locale_form('x-a');
 SELECT locale_form(('de-u-' || repeat('abc-', 65535) || 'ca')::langtag);
 SELECT is_locale(('de-u-' || repeat('abc-', 65535) || 'ca')::langtag);
+SELECT describe(('de-u-' || repeat('abc-', 65535) || 'ca')::langtag);
 -- Locale names
 SELECT from_posix('sr_rs@latin'), from_posix('C'), from_posix(''), unknown_modifier('de_DE.UTF-8@Foo'), unknown_modifier('de@euro'), unknown_modifier(NULL);
 -- The best tag for a reader
-SELECT best_for_header('{en,NULL,de-CH,zh-Hant}', 'gsw'), best_for_header('{en,zh-Hant}', 'zh-TW;q=0.5'), best_for_header('{}', 'de');
 SELECT match_for_header('{en,NULL,DE}', 'fi, de_AT;q=0.3'), (match_for_header(ARRAY['en', 'DE'], 'de')).*, match_for_header('{en}', 'fi') IS NULL AS none, (match_for_header('{en,de}', h)).index FROM (VALUES (text 'gsw')) AS v(h);
-SELECT match_for_header('{de}', repeat('a', 9000));
+SELECT tag_for_header_lenient('{de}', repeat('a', 9000));
 SELECT best_for_header('{de}', repeat('a', 9000));
-SELECT best_for_header(array_agg(CASE k WHEN 3 THEN 'de-CH' WHEN 200 THEN 'fr' ELSE 'x-a' END::langtag ORDER BY k), 'de-CH, fr;q=0.5') FROM generate_series(1, 200) AS k;
+SELECT best_for_ranges('{de}', ARRAY[repeat('a', 5000), repeat('a', 4000)]);
 -- Any of 300 tags is chosen, and its index is that in the array. Of two equal tags, the first is chosen.
 SELECT n, count(*) FILTER (WHERE best_for_header(tags, 'de-CH, fr;q=0.5') = 'de-CH' AND tag_for_header_lenient(tags, 'de-CH, fr;q=0.5') = 'de-CH'
     AND best_for_header(tags::text[], 'de-CH, fr;q=0.5') = 'de-CH' AND match_for_header(tags, 'de-CH, fr;q=0.5') = ROW(place, 'de-CH'::langtag, 0, 'de-CH'::text)) AS found
@@ -57,6 +52,8 @@ FROM (SELECT h, row_number() OVER () AS k FROM headers) s, (SELECT '{en,NULL,de-
 SELECT n, count(*), count(*) FILTER (WHERE match_for_header(tags, 'gsw' || left(',', k - k)) = ROW(place, 'de-CH'::langtag, 4, 'gsw'::text)) AS found
 FROM unnest('{65,300,9000}'::int[]) AS n, LATERAL (SELECT place, (SELECT array_agg(CASE k WHEN place THEN 'de-CH' WHEN n THEN 'de-ch' ELSE 'fr-x-c' END::langtag ORDER BY k) FROM generate_series(1, n) AS k) AS tags
     FROM unnest(ARRAY[1, 63, 64, 65, n]) AS place) s, generate_series(1, 3) AS k GROUP BY n ORDER BY n;
+-- What is kept is a copy: here the memory of the array of an earlier row has another content.
+SELECT string_agg(best_for_header(('{' || repeat(' ', 100 * k) || 'en,de-CH,zh-Hant}')::langtag[], 'gsw')::text, ' ') FROM generate_series(1, 5) AS k;
 -- An array that changes is read again: other bytes of the same length, a NULL elsewhere, and the first array again.
 SELECT string_agg(concat_ws(':', (match_for_header(a::langtag[], h)).index, coalesce(best_for_header(a::langtag[], h)::text, '-')), ' ' ORDER BY k) FROM (SELECT k, a, text 'fr, ja;q=0.5' AS h FROM unnest(ARRAY[
     '{de,fr}', '{de,fr}', '{de,fr}', '{de,ja}', '{de,ja}', '{de,ja}', '{NULL,ja}', '{NULL,ja}', '{ja,NULL}', '{ja,NULL}', '{ja,NULL}', '{de}', '{de}', '{}', '{}', '{de,fr}', '{de,fr}', '{de,ja}', '{de,fr}']) WITH ORDINALITY AS v(a, k)) s;
@@ -71,10 +68,10 @@ CREATE FUNCTION ends_soon(query text) RETURNS boolean LANGUAGE plpgsql AS $$ DEC
     EXECUTE query; RETURN clock_timestamp() < begun + '3 s'; EXCEPTION WHEN query_canceled THEN RETURN clock_timestamp() < begun + '3 s'; END $$;
 CREATE TABLE many_keywords AS SELECT ('de-u-' || string_agg(chr(97 + k / 36 % 26) || substr('0123456789abcdefghijklmnopqrstuvwxyz', 1 + k % 36, 1) || '-abc', '-'))::langtag AS tag FROM generate_series(1, 400000) AS k;
 SET statement_timeout = '500ms';
-SELECT ends_soon($$SELECT best_for_header(array_agg(('zh-x-' || k)::langtag), repeat('no,', 2700)) FROM generate_series(1, 16000) AS k$$);
+SELECT ends_soon($$SELECT best_for_header(array_agg(('zh-x-' || k)::langtag), repeat('no,', 2700)) FROM generate_series(1, 64000) AS k$$);
 SELECT ends_soon($$SELECT best_for_header((SELECT array_agg(('zh-x-' || repeat('abcdefgh-', 9000) || lpad(k::text, 3, '0'))::langtag) FROM generate_series(1, 64) AS k),
     string_agg('zh;q=.' || lpad(k::text, 3, '0'), ',' ORDER BY k)) FROM generate_series(1, 740) AS k$$);
-SELECT ends_soon($$SELECT tag_for_header_lenient(array_agg(('x-' || k)::langtag), repeat('aa-', 60000) || 'de') FROM generate_series(1, 30000) AS k$$);
+SELECT ends_soon($$SELECT tag_for_header_lenient(array_agg(('x-' || k)::langtag), repeat('aa-', 2700) || 'de') FROM generate_series(1, 600000) AS k$$);
 SELECT ends_soon($$SELECT keywords(tag) FROM many_keywords$$);
 RESET statement_timeout;
 DROP FUNCTION ends_soon; DROP TABLE many_keywords;

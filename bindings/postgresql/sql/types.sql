@@ -1,29 +1,13 @@
 CREATE EXTENSION langtag;
 \a \t on \pset null NULL
--- Input changes a tag to its recommended case, and refuses a text that is not a tag.
-SELECT 'zh-hant-tw'::langtag, 'X-Mine'::langtag, 'I-KLINGON'::langtag, 'zh-MIN-nan'::langtag, 'EN-ca-X-CA'::langtag;
-\set VERBOSITY sqlstate
+-- The rows ask for all values and messages (test/test_rows.py). Here is what only SQL has. A refused text has its place, and its type's rule.
 SELECT 'de_CH'::langtag;
-SELECT 'de_*'::langtag_range;
-SELECT 'D_E'::langtag_part;
-\set VERBOSITY default
-SELECT 'de_CH'::langtag;
-SELECT 'en-'::langtag;
 SELECT 'dé'::langtag;
-SELECT 'de-419-DE'::langtag;
-SELECT (repeat('ü', 100))::langtag;
 SELECT ('a' || repeat('あ', 100))::langtag;
--- Ranges stay as they are given, and a malformed range is an error.
-SELECT 'DE-*'::langtag_range, '*'::langtag_range, 'a'::langtag_range, '*-ch'::langtag_range;
 SELECT 'de_*'::langtag_range;
-SELECT ('de-' || repeat('あ', 100))::langtag_range;
 SELECT 'DE'::langtag_part, '1996-rozaj'::langtag_part, ''::langtag_part, 'x-mine'::langtag_part;
 SELECT 'D_E'::langtag_part;
--- Functions that take texts
-SELECT is_langtag('de-CH'), is_langtag('de_CH'), is_langtag(''), is_langtag(NULL), langtag_viable_len('de_CH'), langtag_viable_len('de-CH');
--- The binary form is the text's bytes.
-SELECT encode(langtag_send('zh-HANT'), 'escape'), encode(langtag_range_send('*-CH'), 'escape'), encode(langtag_part_send('CH'), 'escape');
--- It is whole, also where it is long, and a value that is read again is the same.
+-- The binary form is the text's bytes, also where it is long.
 SELECT n, octet_length(langtag_send(tag)) = n AND convert_from(langtag_send(tag), 'UTF8') = tag::text AS tag, octet_length(langtag_range_send(range)) = n AS range,
     octet_length(langtag_part_send(part)) = n AS part
 FROM unnest('{200,300,2000,4506,100000}'::int[]) AS n, LATERAL (SELECT left('de-x-' || repeat('abcdefgh-', n / 9), n - 2) || '-a' AS t) s,

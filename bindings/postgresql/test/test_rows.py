@@ -1,5 +1,5 @@
 """Runs the rows that the tests of all languages read in SQL. If LANGTAG_ANSWERS names a file, also compares the C library's answers about tags
-of the registry's subtags, which were compared with registry/oracle.py. In SQL a tag has its recommended case, and so have the answers that are
+of the registry's subtags, which were compared with data/registry/oracle.py. In SQL a tag has its recommended case, and so have the answers that are
 tags. So they are compared in lowercase."""
 import os
 import pathlib
@@ -73,16 +73,18 @@ def tags(data):
 MORE_TAGS = "(SELECT array_agg(CASE WHEN k % 41 = 0 THEN tags[k / 41] ELSE 'x-other' END ORDER BY k) FROM generate_series(1, 41 * cardinality(tags)) AS k)"
 
 
-def chosen(function, *more):
+def chosen(function, *more, wanted="asked || left('a', n - n)"):
     """Returns the query of a function that chooses for a header among the tags, among their texts, and among more tags, which has to choose the same. Each is
     called three times in one statement, which keeps the tags. For the planner, the headers may differ."""
-    calls = ", ".join(f"lower({function}({among}, asked || left('a', n - n))::text)" for among in ("tags", "texts", *more))
+    calls = ", ".join(f"lower({function}({among}, {wanted})::text)" for among in ("tags", "texts", *more))
     return lambda asked, names: (
         f"SELECT CASE WHEN count(DISTINCT coalesce(said, '-')) = 1 THEN min(said) ELSE 'differ: ' || string_agg(said, ' ') END "
         f"FROM (SELECT {texts(names)} AS texts, {tags(names)} AS tags, {text(asked)} AS asked) s, generate_series(1, 3) AS n, unnest(ARRAY[{calls}]) AS said")
 
 
 look_up = chosen("tag_for_header_lenient")
+# A list of ranges with spaces between them, as an array.
+LIST = "string_to_array(asked || left('a', n - n), ' ')"
 
 
 def edit(tag, part, given):
@@ -105,6 +107,10 @@ def ranges(asked, names):
 
 def of_tag(function):
     return lambda tag: f"SELECT {function}({text(tag)}::langtag)::text"
+
+
+def yes_or_no(function):
+    return lambda tag: f"SELECT CASE WHEN {function}({text(tag)}::langtag) THEN 'yes' ELSE 'no' END"
 
 
 # Each call of the rows as a query, or None if SQL has no answer.
@@ -133,15 +139,16 @@ QUERIES = {
     "posix-name": of_tag("to_posix"),
     "unknown-modifier": lambda name: f"SELECT unknown_modifier({text(name)})",
     "best": chosen("best_for_header", MORE_TAGS), "best-match": chosen("match_for_header"), "suitable": chosen("suitable_for_header"),
+    "best-ranges": chosen("best_for_ranges", MORE_TAGS, wanted=LIST), "suitable-ranges": chosen("suitable_for_ranges", wanted=LIST),
     "header": look_up, "ranges": ranges, "edit": edit,
     "with-keyword": with_keyword,
-    "is-locale": lambda tag: f"SELECT CASE WHEN is_locale({text(tag)}::langtag) THEN 'yes' ELSE 'no' END",
+    "is-locale": yes_or_no("is_locale"), "right-to-left": yes_or_no("is_right_to_left"),
     "cldr-version": lambda: "SELECT langtag_cldr_version()",
 }
 NO_TAG = "22P02"
 # What a row has for a string that is not a tag, and SQL's other answers that rows write in another way.
 REFUSED = {"tag": "none", "validity": "none", "range": "none", "match": "neither",
-           **dict.fromkeys(("suggestion", "canonical", "maximized", "minimized", "describe", "autonym", "parents", "posix-name"), "-")}
+           **dict.fromkeys(("suggestion", "canonical", "maximized", "minimized", "describe", "autonym", "parents", "posix-name", "right-to-left"), "-")}
 WRITTEN = {
     "range": {"range true": "range"},
     "match": {"t t": "both", "t f": "basic", "f t": "extended", "f f": "neither"},
@@ -152,7 +159,7 @@ WRITTEN = {
 # The calls whose rows have the case of SQL's answers, and the calls whose answers are tags in their recommended case.
 EXACT = {"suggestion", "recommended", "message", "range-message", "describe", "autonym", "posix-name", "unknown-modifier", "cldr-version"}
 TAGS = {"tag", "validity", "canonical", "maximized", "minimized", "parents", "posix", "edit", "with-keyword", "extensions-form", "locale-form", "base", "header", "ranges",
-        "best", "best-match", "suitable"}
+        "best", "best-match", "suitable", "best-ranges", "suitable-ranges"}
 
 
 def answer_of(call, said):
@@ -161,7 +168,7 @@ def answer_of(call, said):
         return REFUSED[call]
     if call == "best-match":  # a row of the index, which is counted from 1, the tag, the distance and the range
         said = re.sub(r"\((\d+),[^,]*,(\d+),(.*)\)", lambda it: f"{int(it[1]) - 1} {it[2]} {it[3]}", said)
-    if call == "suitable":
+    if call in ("suitable", "suitable-ranges"):
         said = said.strip("{}").replace(",", " ") or "-"
     said = WRITTEN.get(call, {}).get(said, said.replace("/", "\n") if call == "tag" else said)
     return said.lower() if call in TAGS else rows.escaped(said)
@@ -191,7 +198,7 @@ def adapted(row):
 
 
 def query(row):
-    if row.call not in QUERIES or any(b"\0" in it for it in row.arguments):
+    if row.call not in QUERIES or any(b"\0" in it for it in row.arguments) or (row.call in ("header", "ranges") and len(row.arguments[0]) > 8192):
         return None
     try:
         for argument in row.arguments:

@@ -2,36 +2,12 @@
 from __future__ import annotations
 
 import os
+import pkgutil
 import sys
 from typing import Callable, Iterable, Iterator, List, NamedTuple, NoReturn
 
-from . import CLDR_VERSION, REGISTRY_DATE, InvalidRange, InvalidTag, Kind, Range, Tag, __version__, best_for_header, distance
+from . import CLDR_VERSION, PROVED, REGISTRY_DATE, InvalidRange, InvalidTag, Kind, Range, Tag, __version__, best_for_header, distance
 from ._texts import bytes_of
-
-HELP = """\
-langtag COMMAND [--tsv] [TEXT..]
-Asks language tags (BCP 47): the arguments, or else the lines of standard input.
-
-  show [TAG..]          kind and parts: normal language=zh script= region=TW ..
-  check [TAG..]         validity and canonical form: invalid region=FQ canonical=..
-  canonical [TAG..]     the canonical form: iw becomes he
-  maximize [TAG..]      with likely subtags: zh-TW becomes zh-Hant-TW
-  minimize [TAG..]      without likely subtags: zh-Hant-TW becomes zh-TW
-  best HEADER [TAG..]   the best tag for an Accept-Language header
-  distance [A B]        how far B is from A: 0 is nearest, 255 is unknown
-  match RANGE [TAG..]   the tags that a language range matches
-
-  --tsv       the text, a tab, and the answer in columns; `match` answers yes or no
-  --basic     `match` filters by RFC 4647 section 3.3.1, not by section 3.3.2
-  --help, --version
-
-A text that is not a tag is `refused`, or `-`. Standard error says why if the texts
-are arguments. The status is
-  0  all is well                           3  out of memory
-  1  a text is refused or not valid,       4  a read failed
-     or nothing is found                   5  a write failed
-  2  an argument is wrong
-"""
 
 # The first argument of a command, if it is not a tag.
 COMMANDS = {"show": "", "check": "", "canonical": "", "maximize": "", "minimize": "", "best": "HEADER", "distance": "", "match": "RANGE"}
@@ -61,9 +37,9 @@ class Options:
             elif argument in ("--tsv", "--basic"):
                 setattr(self, argument[2:], True)
             elif argument in ("--help", "-h"):
-                say(HELP)
+                say((pkgutil.get_data("langtag", "help.txt") or b"").decode())
             elif argument in ("--version", "-V"):
-                say(f"langtag {__version__} (IANA's registry of {REGISTRY_DATE}, CLDR {CLDR_VERSION})\n")
+                say(f"langtag {__version__} (IANA's registry of {REGISTRY_DATE}, CLDR {CLDR_VERSION})\n{'proved' if PROVED else 'not proved'}\n")
             else:
                 wrong(f"unknown option `{argument}`")
         self.take(words)

@@ -1,4 +1,4 @@
-"""What the C module and the ctypes module share: the conversion of texts to bytes, and the words of their errors."""
+"""What the C module and the Python code share: the conversion of texts to bytes, and the words of their errors."""
 from __future__ import annotations
 
 from typing import NoReturn, Union
@@ -30,7 +30,7 @@ def not_a_tag(text: Text) -> None:
 
 
 def unchangeable(name: str) -> NoReturn:
-    """Raises the error of a Tag or a Range whose __init__ is called again."""
+    """Raises the error of a value that would change, such as a Tag whose __init__ is called again."""
     raise AttributeError(f"a {name} does not change")
 
 

@@ -9,7 +9,7 @@
  * - If C writes numbers, the result is a tuple of C's result and these numbers. If C's result is only true or false, the result is a tuple of
  *   these numbers, or None.
  * - If C removes one item after another, the result is the list of all items.
- * - If C writes numbers to an array, the result is the list of these numbers.
+ * - If C writes numbers to an array, the result is the list of these numbers, and the last parameter is the length of the array.
  */
 #include "native.h"
 
@@ -584,6 +584,28 @@ static PyObject *parent(PyObject *module, PyObject *text_from) {
     return answer;
 }
 
+static PyObject *nth_parent(PyObject *module, PyObject *arguments) {
+    PyObject *text_from, *answer = NULL;
+    Text text = {NULL};
+    unsigned index;
+    if (!PyArg_ParseTuple(arguments, "OI", &text_from, &index)) return NULL;
+    if (!lt_text(text_from, &text)) {
+        char room[192], *data = room;
+        LET_GO(text.len);
+        size_t len = langtag_nth_parent(text.data, text.len, index, room, sizeof room);
+        TAKE_BACK();
+        answer = PyBytes_FromStringAndSize(len <= sizeof room ? room : NULL, (Py_ssize_t)len);
+        if (answer && len > sizeof room) {
+            data = PyBytes_AsString(answer);
+            LET_GO(text.len);
+            langtag_nth_parent(text.data, text.len, index, data, len);
+            TAKE_BACK();
+        }
+    }
+    Py_XDECREF(text.owner);
+    return answer;
+}
+
 static PyObject *is_right_to_left(PyObject *module, PyObject *text_from) {
     PyObject *answer = NULL;
     Text text = {NULL};
@@ -671,12 +693,13 @@ static PyObject *suitable_for_header(PyObject *module, PyObject *arguments) {
     Text header = {NULL};
     List tags;
     tags.spans = NULL;
-    if (!PyArg_ParseTuple(arguments, "OO", &header_from, &tags_from)) return NULL;
+    Py_ssize_t most;
+    if (!PyArg_ParseTuple(arguments, "OOn", &header_from, &tags_from, &most)) return NULL;
     if (!lt_text(header_from, &header) && !lt_tags(tags_from, &tags)) {
-        size_t *found = PyMem_Malloc((tags.count + 1) * sizeof *found);
+        size_t *found = PyMem_Malloc(((size_t)most + 1) * sizeof *found);
         if (found) {
             LET_GO(header.len + tags.len);
-            size_t count = langtag_suitable_for_header(header.data, header.len, tags.text, tags.len, tags.spans, tags.count, found, tags.count);
+            size_t count = langtag_suitable_for_header(header.data, header.len, tags.text, tags.len, tags.spans, tags.count, found, (size_t)most);
             TAKE_BACK();
             answer = lt_numbers(found, count);
         } else PyErr_NoMemory();
@@ -693,12 +716,13 @@ static PyObject *suitable_for_ranges(PyObject *module, PyObject *arguments) {
     ranges.spans = NULL;
     List tags;
     tags.spans = NULL;
-    if (!PyArg_ParseTuple(arguments, "OO", &ranges_from, &tags_from)) return NULL;
+    Py_ssize_t most;
+    if (!PyArg_ParseTuple(arguments, "OOn", &ranges_from, &tags_from, &most)) return NULL;
     if (!lt_ranges(ranges_from, &ranges) && !lt_tags(tags_from, &tags)) {
-        size_t *found = PyMem_Malloc((tags.count + 1) * sizeof *found);
+        size_t *found = PyMem_Malloc(((size_t)most + 1) * sizeof *found);
         if (found) {
             LET_GO(ranges.len + tags.len);
-            size_t count = langtag_suitable_for_ranges(ranges.text, ranges.len, ranges.spans, ranges.count, tags.text, tags.len, tags.spans, tags.count, found, tags.count);
+            size_t count = langtag_suitable_for_ranges(ranges.text, ranges.len, ranges.spans, ranges.count, tags.text, tags.len, tags.spans, tags.count, found, (size_t)most);
             TAKE_BACK();
             answer = lt_numbers(found, count);
         } else PyErr_NoMemory();
@@ -974,6 +998,7 @@ PyMethodDef lt_functions[] = {
     {"minimized", minimized, METH_O, NULL},
     {"cldr_version", cldr_version, METH_NOARGS, NULL},
     {"parent", parent, METH_O, NULL},
+    {"nth_parent", nth_parent, METH_VARARGS, NULL},
     {"is_right_to_left", is_right_to_left, METH_O, NULL},
     {"distance", distance, METH_VARARGS, NULL},
     {"best_for_header", best_for_header, METH_VARARGS, NULL},

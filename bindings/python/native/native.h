@@ -3,7 +3,8 @@
  * `_base`, which is the subclass itself, and `_error`, which is raised for a wrong text. bindings/generate.py writes calls.c. */
 #ifndef LANGTAG_NATIVE_H
 #define LANGTAG_NATIVE_H
-#ifndef Py_LIMITED_API
+#include <pyconfig.h>
+#if !defined(Py_LIMITED_API) && !defined(Py_GIL_DISABLED) /* a free-threaded Python has no stable ABI */
 #define Py_LIMITED_API 0x03080000
 #endif
 #define PY_SSIZE_T_CLEAN

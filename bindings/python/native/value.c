@@ -12,14 +12,14 @@ static void dealloc(PyObject *self) {
     Py_DECREF(type);
 }
 
-/* Returns the first base type whose tp_dealloc is the function above. A class in Python has its own tp_dealloc. */
+/* Returns the last base type whose tp_dealloc is the function above. In CPython a class in Python has its own tp_dealloc, and in PyPy that
+ * of its base. */
 static PyTypeObject *base_of(PyTypeObject *type) {
-    while (type && (PyType_GetFlags(type) & Py_TPFLAGS_HEAPTYPE)) {
-        if ((destructor)PyType_GetSlot(type, Py_tp_dealloc) == dealloc) return type;
-        type = (PyTypeObject *)PyType_GetSlot(type, Py_tp_base);
-    }
-    PyErr_SetString(PyExc_TypeError, "langtag: neither Tag nor Range");
-    return NULL;
+    PyTypeObject *found = NULL;
+    for (; type && (PyType_GetFlags(type) & Py_TPFLAGS_HEAPTYPE); type = (PyTypeObject *)PyType_GetSlot(type, Py_tp_base))
+        if ((destructor)PyType_GetSlot(type, Py_tp_dealloc) == dealloc) found = type;
+    if (!found) PyErr_SetString(PyExc_TypeError, "langtag: neither Tag nor Range");
+    return found;
 }
 
 static PyObject *new(PyTypeObject *type, PyObject *arguments, PyObject *named) {
@@ -145,7 +145,8 @@ static PyObject *compare(PyObject *a, PyObject *b, int operator) {
     size_t x_len = x->text.len, y_len = y->text.len;
     if (operator == Py_EQ || operator == Py_NE)
         return PyBool_FromLong(langtag_eq(x->text.data, x_len, y->text.data, y_len) == (operator == Py_EQ));
-    Py_RETURN_RICHCOMPARE(langtag_cmp(x->text.data, x_len, y->text.data, y_len), 0, operator);
+    int order = langtag_cmp(x->text.data, x_len, y->text.data, y_len);
+    return PyBool_FromLong(operator == Py_LT ? order < 0 : operator == Py_LE ? order <= 0 : operator == Py_GT ? order > 0 : order >= 0);
 }
 
 static PyMemberDef members[] = { /* Python 3.9 and later read this; for 3.8 the Python class adds __weakref__ */
