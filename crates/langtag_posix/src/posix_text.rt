@@ -147,8 +147,7 @@ fn may_follow(place: &[u8], extensions: &[u8], keywords: bool) -> bool
     if extensions.is_empty() && !keywords {
         return true;
     }
-    !has_extension(place)
-        && (extensions.is_empty() || (begins_extension(extensions) && !keywords))
+    !has_extension(place) && (extensions.is_empty() || (begins_extension(extensions) && !keywords))
 }
 
 /// Returns whether a string has a subtag of one byte.
