@@ -138,6 +138,8 @@ def arm(name, variant, opens, message):
     """Returns the `match` arm that writes the message of a variant: `{0}` is its field, which the pattern names."""
     if f"{name}::{variant}" in WITH_PART:
         return f"{name}::{variant}" + WITH_PART[f"{name}::{variant}"]
+    if message == '"{0}"':
+        return f"{name}::{variant}(value) => value.fmt(f)"
     fields = re.findall(r"\{(\w+)\}", message)
     if opens == "(":
         pattern = "(value)" if fields else "(_)"

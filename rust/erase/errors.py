@@ -106,6 +106,8 @@ def arm_of(name, variant, opening, message):
         return f"{name}::{variant} {NAMED[name, variant]}"
     used = re.findall(r"\{(\w+)\}", message)
     fields = {"(": "(value)" if used else "(_)", "{": f" {{ {', '.join([*used, '..'])} }}"}.get(opening, "")
+    if message == '"{0}"':
+        return f"{name}::{variant}(value) => value.fmt(f),"
     message = message.replace("{0}", "{value}")
     return f"{name}::{variant}{fields} => " + (f"write!(f, {message})," if used else f"f.write_str({message}),")
 

@@ -16,7 +16,7 @@
 #[cfg(feature = "alloc")]
 use crate::erased::tag::tag_of;
 use crate::erased::{likely, parent as erased_parent, posix};
-use crate::too_short::written;
+use crate::too_short::{written, written_if_any};
 #[cfg(feature = "alloc")]
 use crate::{memory::or_abort, AllocError, LangTagBuf};
 use crate::{LangTag, TooShort};
@@ -68,76 +68,28 @@ pub fn write_from_posix(
     name: impl AsRef<[u8]>,
     buffer: &mut [u8],
 ) -> Result<Option<&str>, TooShort> {
-    match posix::write_from_posix(name.as_ref(), buffer) {
-        Some(len) => written(buffer, len).map(Some),
-        None => Ok(None),
-    }
+    let len = posix::write_from_posix(name.as_ref(), buffer);
+    written_if_any(buffer, len)
 }
 
-/// Returns the POSIX locale name for a tag: `pt_BR` for `pt-BR`, `sr_RS@latin` for `sr-Latn-RS`,
-/// `ca_ES@valencia` for `ca-ES-valencia`, `zh_TW` for `zh-Hant-TW`. Returns `None` if a name cannot
-/// say all of the tag.
-///
-/// The modifiers are `latin`, `cyrillic`, `devanagari`, `valencia`, `tarask`, `ijekavian` and
-/// `ijekavianlatin`. A likely script is left out. Another script or variant has no name, nor have
-/// extensions other than `u-va-posix`, private use, extended languages, languages of more than three
-/// letters, and `und`. To leave extensions out, ask for the name of [`LangTag::base`]. The codeset
-/// is the caller's, as in `pt_BR.UTF-8`.
-///
-/// [`from_posix`] reads the name as the same tag, in its recommended case, without a script that was
-/// left out.
-///
-/// ```
-/// use langtag::likely::to_posix;
-/// use langtag::LangTag;
-///
-/// assert_eq!(to_posix(LangTag::new("sr-Latn-RS")?).as_deref(), Some("sr_RS@latin"));
-/// assert_eq!(to_posix(LangTag::new("zh-Hant-TW")?).as_deref(), Some("zh_TW"));
-/// assert_eq!(to_posix(LangTag::new("de-DE-u-co-phonebk")?), None);
-/// # Ok::<(), Box<dyn std::error::Error>>(())
-/// ```
-#[cfg(feature = "alloc")]
-#[must_use]
-pub fn to_posix<'a>(tag: impl Into<LangTag<'a>>) -> Option<String> {
-    or_abort(try_to_posix(tag))
-}
-
-/// Returns the POSIX locale name for a tag, as [`to_posix`] does.
-///
-/// # Errors
-///
-/// Returns an error if allocation fails.
-#[cfg(feature = "alloc")]
-pub fn try_to_posix<'a>(tag: impl Into<LangTag<'a>>) -> Result<Option<String>, AllocError> {
-    posix::to_posix(tag.into())
-}
-
-/// Writes the POSIX locale name for a tag to a buffer, as `to_posix` returns it, and returns what was
-/// written, or `None` if the tag has no name. A name has at most 28 bytes.
-///
-/// It does not allocate.
-///
-/// # Errors
-///
-/// Returns the length of the name if the buffer is too short.
-///
-/// ```
-/// use langtag::likely::write_to_posix;
-/// use langtag::LangTag;
-///
-/// let mut buffer = [0; 28];
-/// assert_eq!(write_to_posix(LangTag::new("sr-Latn-RS")?, &mut buffer)?, Some("sr_RS@latin"));
-/// assert_eq!(write_to_posix(LangTag::new("und")?, &mut buffer)?, None);
-/// # Ok::<(), Box<dyn std::error::Error>>(())
-/// ```
-pub fn write_to_posix<'a, 'b>(
-    tag: impl Into<LangTag<'a>>,
-    buffer: &'b mut [u8],
-) -> Result<Option<&'b str>, TooShort> {
-    match posix::write_to_posix(tag.into(), buffer) {
-        Some(len) => written(buffer, len).map(Some),
-        None => Ok(None),
-    }
+form! {
+    /// Returns the POSIX locale name for a tag: `pt_BR` for `pt-BR`, `sr_RS@latin` for `sr-Latn-RS`,
+    /// `ca_ES@valencia` for `ca-ES-valencia`, `zh_TW` for `zh-Hant-TW`. Returns `None` if a name cannot
+    /// say all of the tag.
+    ///
+    /// The modifiers are `latin`, `cyrillic`, `devanagari`, `valencia`, `tarask`, `ijekavian` and
+    /// `ijekavianlatin`. A likely script is left out. Another script or variant has no name, nor have
+    /// extensions other than `u-va-posix`, private use, extended languages, languages of more than three
+    /// letters, and `und`. To leave extensions out, ask for the name of [`LangTag::base`]. The codeset
+    /// is the caller's, as in `pt_BR.UTF-8`.
+    ///
+    /// [`from_posix`] reads the name as the same tag, in its recommended case, without a script that was
+    /// left out.
+    posix in likely: to_posix, try_to_posix, write_to_posix
+        -> Option<String>, Option<&'b str>, written_if_any;
+    "the POSIX locale name for a tag",
+    ", or `None` if the tag has no name. A name has at most 28 bytes",
+    "sr-Latn-RS" is "sr_RS@latin", ".unwrap()"
 }
 
 /// Returns whether a tag's language is written from right to left, in the script of the tag or else
@@ -199,13 +151,9 @@ pub fn write_parent<'a, 'b>(
     index: usize,
     buffer: &'b mut [u8],
 ) -> Result<Option<&'b str>, TooShort> {
-    match erased_parent::nth_parent(tag.into(), index) {
-        Some(parent) => {
-            let len = parent.write(buffer);
-            written(buffer, len).map(Some)
-        }
-        None => Ok(None),
-    }
+    let parent = erased_parent::nth_parent(tag.into(), index);
+    let len = parent.map(|parent| parent.write(buffer));
+    written_if_any(buffer, len)
 }
 
 /// An iterator over a tag and its parents, in the order in which a catalogue looks for a string.

@@ -47,3 +47,10 @@ pub(crate) fn written(buffer: &[u8], len: usize) -> Result<&str, TooShort> {
     // Each form of a tag is ASCII.
     core::str::from_utf8(bytes).map_err(|_| TooShort { needed: len })
 }
+
+/// Returns what was written to a buffer, as [`written`] does, or `None` if there is no result.
+#[cfg(feature = "data")]
+#[inline]
+pub(crate) fn written_if_any(buffer: &[u8], len: Option<usize>) -> Result<Option<&str>, TooShort> {
+    len.map(|len| written(buffer, len)).transpose()
+}

@@ -15,7 +15,7 @@
 use core::fmt;
 
 use crate::erased::{locale, unicode};
-use crate::too_short::written;
+use crate::too_short::{written, written_if_any};
 #[cfg(feature = "alloc")]
 use crate::{memory::or_abort, AllocError, LangTagBuf};
 use crate::{LangTag, TooShort};
@@ -119,57 +119,13 @@ pub fn is_locale<'a>(tag: impl Into<LangTag<'a>>) -> bool {
     locale::is_locale(tag.into())
 }
 
-/// Returns the canonical form of a tag as a Unicode locale identifier, or `None` if it has none,
-/// like `x-mine`.
-///
-/// ```
-/// use langtag::unicode::locale_form;
-/// use langtag::LangTag;
-///
-/// assert_eq!(locale_form(LangTag::new("ger-UK")?).unwrap(), "de-GB");
-/// assert_eq!(locale_form(LangTag::new("x-mine")?), None);
-/// # Ok::<(), Box<dyn std::error::Error>>(())
-/// ```
-#[cfg(feature = "alloc")]
-#[must_use]
-pub fn locale_form<'a>(tag: impl Into<LangTag<'a>>) -> Option<LangTagBuf> {
-    or_abort(try_locale_form(tag))
-}
-
-/// Returns the canonical form of a tag as a Unicode locale identifier, as [`locale_form`] does.
-///
-/// # Errors
-///
-/// Returns an error if allocation fails.
-#[cfg(feature = "alloc")]
-pub fn try_locale_form<'a>(tag: impl Into<LangTag<'a>>) -> Result<Option<LangTagBuf>, AllocError> {
-    locale::locale_form(tag.into())
-}
-
-/// Writes the canonical form of a tag as a Unicode locale identifier to a buffer, as `locale_form`
-/// returns it, and returns what was written, or `None` if the tag has no such form.
-///
-/// It does not allocate.
-///
-/// # Errors
-///
-/// Returns the length of the form if the buffer is too short.
-///
-/// ```
-/// use langtag::unicode::write_locale_form;
-/// use langtag::LangTag;
-///
-/// assert_eq!(write_locale_form(LangTag::new("ger-UK")?, &mut [0; 16])?, Some("de-GB"));
-/// # Ok::<(), Box<dyn std::error::Error>>(())
-/// ```
-pub fn write_locale_form<'a, 'b>(
-    tag: impl Into<LangTag<'a>>,
-    buffer: &'b mut [u8],
-) -> Result<Option<&'b str>, TooShort> {
-    match locale::write_locale_form(tag.into(), buffer) {
-        Some(len) => written(buffer, len).map(Some),
-        None => Ok(None),
-    }
+form! {
+    /// Returns the canonical form of a tag as a Unicode locale identifier, or `None` if it has none,
+    /// like `x-mine`.
+    locale in unicode: locale_form, try_locale_form, write_locale_form
+        -> Option<LangTagBuf>, Option<&'b str>, written_if_any;
+    "the canonical form of a tag as a Unicode locale identifier",
+    ", or `None` if the tag has no such form", "ger-UK" is "de-GB", ".unwrap()"
 }
 
 /// Writes a tag with a value of a key of the extension `u` to a buffer, as

@@ -1,4 +1,6 @@
 //! Calls of likely subtags, distances and choices.
+use std::collections::HashSet;
+
 use langtag::choice::*;
 use langtag::likely::*;
 use langtag::matching::{wanted_ranges, AcceptLanguage};
@@ -125,6 +127,11 @@ pub fn chain(text: Option<&str>) -> String {
             length(write_parent(chain[0].as_lang_tag(), index, buffer).map(Option::unwrap))
         });
     }
+    assert_eq!(
+        chain.iter().collect::<HashSet<_>>().len(),
+        chain.len(),
+        "a tag stands twice"
+    );
     let texts: Vec<&str> = chain.iter().map(|tag| tag.as_str()).collect();
     texts.join(" ")
 }

@@ -36,7 +36,7 @@ impl fmt::Display for SetKeywordError {
     #[inline]
     fn fmt(&self, f: &mut fmt::Formatter<'_>) -> fmt::Result {
         match self {
-            SetKeywordError::Keyword(value) => write!(f, "{value}"),
+            SetKeywordError::Keyword(value) => value.fmt(f),
             SetKeywordError::Memory(_) => f.write_str("out of memory"),
         }
     }
