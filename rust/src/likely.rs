@@ -68,10 +68,8 @@ pub fn write_from_posix(
     name: impl AsRef<[u8]>,
     buffer: &mut [u8],
 ) -> Result<Option<&str>, TooShort> {
-    match posix::write_from_posix(name.as_ref(), buffer) {
-        Some(len) => written(buffer, len).map(Some),
-        None => Ok(None),
-    }
+    let len = posix::write_from_posix(name.as_ref(), buffer);
+    len.map(|len| written(buffer, len)).transpose()
 }
 
 /// Returns the POSIX locale name for a tag: `pt_BR` for `pt-BR`, `sr_RS@latin` for `sr-Latn-RS`,
@@ -134,10 +132,8 @@ pub fn write_to_posix<'a, 'b>(
     tag: impl Into<LangTag<'a>>,
     buffer: &'b mut [u8],
 ) -> Result<Option<&'b str>, TooShort> {
-    match posix::write_to_posix(tag.into(), buffer) {
-        Some(len) => written(buffer, len).map(Some),
-        None => Ok(None),
-    }
+    let len = posix::write_to_posix(tag.into(), buffer);
+    len.map(|len| written(buffer, len)).transpose()
 }
 
 /// Returns whether a tag's language is written from right to left, in the script of the tag or else
@@ -199,13 +195,8 @@ pub fn write_parent<'a, 'b>(
     index: usize,
     buffer: &'b mut [u8],
 ) -> Result<Option<&'b str>, TooShort> {
-    match erased_parent::nth_parent(tag.into(), index) {
-        Some(parent) => {
-            let len = parent.write(buffer);
-            written(buffer, len).map(Some)
-        }
-        None => Ok(None),
-    }
+    let len = erased_parent::nth_parent(tag.into(), index).map(|parent| parent.write(buffer));
+    len.map(|len| written(buffer, len)).transpose()
 }
 
 /// An iterator over a tag and its parents, in the order in which a catalogue looks for a string.

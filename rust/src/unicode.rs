@@ -166,10 +166,8 @@ pub fn write_locale_form<'a, 'b>(
     tag: impl Into<LangTag<'a>>,
     buffer: &'b mut [u8],
 ) -> Result<Option<&'b str>, TooShort> {
-    match locale::write_locale_form(tag.into(), buffer) {
-        Some(len) => written(buffer, len).map(Some),
-        None => Ok(None),
-    }
+    let len = locale::write_locale_form(tag.into(), buffer);
+    len.map(|len| written(buffer, len)).transpose()
 }
 
 /// Writes a tag with a value of a key of the extension `u` to a buffer, as
