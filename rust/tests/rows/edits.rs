@@ -1,6 +1,8 @@
 //! Parts that are set in a tag, or removed from it.
 use langtag::*;
 
+use crate::tags::check_parts;
+
 /// Sets the part with a name in a tag of any kind or in a normal tag. The text `none` removes the part. Returns `None` if the text is not a text of that part.
 macro_rules! set {
     ($tag:ident, $name:ident, $text:ident) => {{
@@ -52,19 +54,7 @@ pub fn edit(text: &str, name: &str, given: &str) -> String {
     };
     let mut owned = tag.to_owned();
     let set = set(&mut owned, name, given);
-    let read = LangTag::new(owned.as_str()).unwrap();
-    assert_eq!(
-        (owned.kind(), owned.language(), owned.script()),
-        (read.kind(), read.language(), read.script())
-    );
-    assert_eq!(
-        (owned.region(), owned.variants()),
-        (read.region(), read.variants())
-    );
-    assert_eq!(
-        (owned.extensions(), owned.private_use()),
-        (read.extensions(), read.private_use())
-    );
+    check_parts(&owned, LangTag::new(owned.as_str()).unwrap());
     if let Some(mut normal) = tag.as_normal().map(|tag| tag.to_owned()) {
         assert_eq!(set_normal(&mut normal, name, given), set);
         assert_eq!(normal.as_str(), owned.as_str());
