@@ -157,7 +157,7 @@ FAULTS = {
         rust("caseless_text", "case_insensitive_cmp(self.text().as_bytes(), other.text().as_bytes())", "self.text().cmp(other.text())", "habits"),
         rust("caseless_text", "case_insensitive_hash(self.text().as_bytes(), state)", "self.text().hash(state)", "habits"),
         rust("keywords", "set_keyword(self, key, value)", "set_keyword(self, value, key)", "keywords"),
-        rust("keywords", "remove_keyword(self, key)", "set_keyword(self, key, \"\")", "keywords"),
+        rust("keywords", "remove_keyword(self, key)", "set_keyword(self, key, \"\")", "rows"),
         rust("invalid", "self.0 == other.0", "true"),
         rust("invalid", "$error(self.0.into())", "$error(Default::default())"),
         rust("message", "RefusalKind::Subtag if subtag.is_empty()", "RefusalKind::End if subtag.is_empty()", "rows"),

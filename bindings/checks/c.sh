@@ -21,31 +21,20 @@ answers_of_c() {
 }
 check "C: answers to random calls, for Rust, Python and JavaScript" answers_of_c
 
-# Compares C's answers about tags of the registry's subtags with those of data/registry/oracle.py.
-oracle() { python3 "$root/data/registry/oracle.py" "$root/data/registry/language-subtag-registry" "$@"; }
-in_its_words() {
-    paste - - | sed -E 's/^validity \| \S+ \| none\t.* -$/refused/; s/^validity \| \S+ \| valid\tcanonical \| \S+ \| /valid canonical=/
-        s/^validity \| \S+ \| (\S+) [0-9]+ (\S+)\tcanonical \| \S+ \| /invalid \1=\2 canonical=/'
-}
-as_the_oracle() {
-    { oracle --each && oracle --make 30000 "$FUZZ_SEED"; } >"$work/tags" || return 1
-    sed 's/.*/validity | &\ncanonical | &/' "$work/tags" | told_by_c >"$work/answers_about_tags" || return 1
-    in_its_words <"$work/answers_about_tags" >"$work/told"
-    oracle validity canonical --compare "$work/told" <"$work/tags"
-}
-check "C: validity and canonical form of 50,000 tags, by a plain reading of the registry" as_the_oracle
-
-# as_an_oracle ORACLE TOLD QUESTIONS RANDOM: compares C's answers to each question and to random questions with those of an oracle.
+# as_an_oracle ORACLE TOLD [QUESTIONS]: compares C's answers to questions about everything in the data, and to random questions, with those
+# of an oracle, which asks them if no other program does.
 as_an_oracle() {
-    { "$3" each && "$3" "$4" 30000 "$FUZZ_SEED"; } >"$work/asked" || return 1
+    local questions=${3:-$1}
+    { "$questions" each && "$questions" random 30000 "$FUZZ_SEED"; } >"$work/asked" || return 1
     told_by_c <"$work/asked" >"$2" || return 1
     "$1" rows --compare "$2" <"$work/asked"
 }
-likely=$root/data/likely unicode=$root/data/unicode/oracle.py
+registry_oracle=$root/data/registry/oracle.py likely=$root/data/likely
+check "C: validity and canonical form of 50,000 tags, by a plain reading of the registry" as_an_oracle "$registry_oracle" "$work/answers_about_tags"
 check "C: 100,000 rows of likely subtags and choices, by a plain reading of the data" \
-    as_an_oracle "$likely/oracle.py" "$work/told_of_likely" "$likely/questions.py" rows
+    as_an_oracle "$likely/oracle.py" "$work/told_of_likely" "$likely/questions.py"
 check "C: 48,000 rows of extensions and Unicode locale identifiers, by a plain reading of the data" \
-    as_an_oracle "$unicode" "$work/told_of_unicode" "$unicode" random
+    as_an_oracle "$root/data/unicode/oracle.py" "$work/told_of_unicode"
 
 # Compares the maximal forms of deprecated tags, by way of their locale forms, with those of Intl.
 as_intl() {

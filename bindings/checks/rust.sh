@@ -17,9 +17,8 @@ rust_crate=$work/rust
 
 # C has no call for extended languages that follow a wrong language, so the oracle of the registry has the answers.
 with_extlangs() {
-    grep -xE '[A-Za-z0-9-]+' "$work/tags" >"$work/plain" || return 1
     cat "$work"/answers "$work"/answers_about_tags "$work"/told_of_likely "$work"/told_of_unicode >"$work/answers_for_rust" || return 1
-    oracle misplaced-extlang <"$work/plain" | paste "$work/plain" - | sed -nE 's/(\S+)\tmisplaced-extlang=(.*)/misplaced-extlang | \1 | \2/p' >>"$work/answers_for_rust"
+    sed -nE 's/^canonical \| (\S+) \| .*/misplaced-extlang | \1/p' "$work/answers_about_tags" | "$registry_oracle" rows >>"$work/answers_for_rust"
 }
 check "Rust: answers about extended languages, by a plain reading of the registry" with_extlangs
 check "Rust: C's 300,000 answers to random calls and to those of the oracles" \

@@ -1,5 +1,5 @@
-"""Tests `python -m langtag`: its lines, and that its answers are those of the program of the Rust crate, which LANGTAG_PROGRAM
-names."""
+"""Tests `python -m langtag`: the runs that are listed for the program of the Rust crate, and that its other answers are those of that
+program, which LANGTAG_PROGRAM names."""
 import os
 import pathlib
 import re
@@ -7,14 +7,15 @@ import subprocess
 import sys
 import unittest
 
+import rows
+
 HERE = pathlib.Path(__file__).resolve().parent
-ROWS = HERE.parents[1] / "rows"
+RUNS = HERE.parents[1] / "rust/tests/program.txt"
 PYTHON = [sys.executable, "-m", "langtag"]
 ODD = [b"", b"\xff", b"en\xff-x", b"de--DE", b"en-", b"e\xcc\x81", b"a\tb", b"x" * 200, b"-", b"--", b"de\r", b"\x85-de", b"\xc3\xa9-b",
        b"fr-a-bb-A-cc", b"de-1996-1996", b"ger-AT", b"en-UK", b"fr-FQ", b"en-a-bb-x-a-b", b"X-a", b"sl-Latn-IT-rozaj-1994-u-co-x-y", b"de" + b"-abcdefgh" * 40]
 PAIRS = b"de-AT de\n\nfr\nde\tde-CH\nen_US en\nen en_US\na b c\n\xff de\nzh-TW  zh-Hant \nde\x0bfr\nde\x0cfr\nde fr\r"
-WRONG = [[], ["shows"], ["show", "--csv"], ["best"], ["match"], ["match", "d*"], ["distance", "de"], ["show", "--basic"], ["--help"], ["-h"],
-         ["--version"], ["-V"], ["--", "show", "--tsv"], ["show", "-x"], [b"\xff"]]
+WRONG = [["match"], ["match", "d*"], ["--help"], ["-h"], ["--version"], ["-V"], ["show", "-x"], [b"\xff"]]
 
 
 def run(program, arguments, given=b""):
@@ -24,7 +25,7 @@ def run(program, arguments, given=b""):
 
 def texts():
     """Returns the texts of the rows of two calls."""
-    found = re.findall(rb"(?m)^(?:canonical|types) \| ([\w-]+)", (ROWS / "registry.txt").read_bytes() + (ROWS / "texts.txt").read_bytes())
+    found = re.findall(rb"(?m)^(?:canonical|types) \| ([\w-]+)", (rows.FOLDER / "registry.txt").read_bytes() + (rows.FOLDER / "texts.txt").read_bytes())
     return [*dict.fromkeys(found)][:300] + ODD
 
 
@@ -51,12 +52,15 @@ def calls():
 
 
 class Program(unittest.TestCase):
-    def test_lines(self):
-        self.assertEqual(run(PYTHON, ["check", "iw", "fr-FQ"])[:2], (1, b"valid canonical=he\ninvalid region=FQ canonical=fr-FQ\n"))
-        self.assertEqual(run(PYTHON, ["canonical"], b"iw\n\nzh-yue"), (1, b"he\n-\nyue\n", b""))
-        self.assertEqual(run(PYTHON, ["match", "*-CH"], b"de-CH\nfr\n"), (0, b"de-CH\n", b""))
-        self.assertEqual(run(PYTHON, ["show", "de-419-DE"])[2], b"langtag: invalid language tag `de-419-DE`: unexpected subtag `DE`\n"
-                                                               b"    de-419-DE\n           ^^\n")
+    def test_listed_runs(self):
+        for listed in RUNS.read_text("utf-8").split("\n$ langtag")[1:]:
+            arguments, *lines = listed.split("\n")
+            said = {"<": b"", "!": b"", "=": b"", "": b""}
+            for line in lines:
+                mark, text = (line[0], line[2:]) if line[:2] in ("< ", "! ", "= ") else ("", line)
+                said[mark] += rows.unescape(text) + b"\n" if line and line[0] != "#" else b""
+            with self.subTest(arguments=arguments):
+                self.assertEqual(run(PYTHON, arguments.split(), said["<"][:-1]), (int(said["="]), said[""], said["!"]))
 
     @unittest.skipUnless(os.environ.get("root"), "the repository is not named")
     def test_the_proved_programs(self):

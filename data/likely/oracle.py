@@ -17,6 +17,9 @@ import pathlib
 import re
 import sys
 
+sys.path.append(str(pathlib.Path(__file__).resolve().parent.parent))
+import answers  # noqa: E402
+
 DATA = pathlib.Path(__file__).resolve().parent / "cldr"
 TAG = re.compile(r"(?P<language>[a-z]{2,3})(?P<extended>(-[a-z]{3}){0,3})(?=-|$)(-(?P<script>[a-z]{4})(?=-|$))?(-(?P<region>[a-z]{2}|[0-9]{3})(?=-|$))?"
                  r"(?P<variants>(-([a-z0-9]{5,8}|[0-9][a-z0-9]{3}))*)(?P<rest>(-[a-wyz0-9](-[a-z0-9]{2,8})+)*(-x(-[a-z0-9]{1,8})+)?)", re.I | re.A)
@@ -174,8 +177,7 @@ def region_distance(desired, supported):
     raise AssertionError("the last rule fits all")
 
 
-def distance(line):
-    desired, supported = line.split()
+def distance(desired, supported):
     if not (is_tag(desired) and is_tag(supported)):
         return "-"
     return str(between(desired, supported))
@@ -434,17 +436,16 @@ def unknown_modifier(name):
 
 @functools.lru_cache(None)
 def registry():
-    """Returns the module registry/oracle.py, which shows whether a subtag is registered."""
-    folder = DATA.parent.parent / "registry"
-    spec = importlib.util.spec_from_file_location("registry_oracle", folder / "oracle.py")
+    """Returns what registry/oracle.py reads, which shows whether a subtag is registered."""
+    spec = importlib.util.spec_from_file_location("registry_oracle", DATA.parent.parent / "registry/oracle.py")
     module = importlib.util.module_from_spec(spec)
     spec.loader.exec_module(module)
-    return module.Registry(folder / "language-subtag-registry")
+    return module.registry()
 
 
 def suggestion(text):
     """Returns the registered code that replaces the first invalid subtag of a tag, if it is a single language or region."""
-    kind, _, code = registry().answer(text, ["validity"]).removeprefix("invalid ").partition("=")
+    kind, code = (registry().validity(text).split()[at] for at in (0, -1))
     found = {"language": ALIASES.get(code.lower(), [""]), "region": [REPLACEMENTS.get(code.lower(), "")]}.get(kind, [""])
     return found[0] if not any(found[1:]) and registry().has(kind, found[0]) else "-"
 
@@ -511,36 +512,6 @@ def parents(text):
 # ---- rows
 
 
-def plain(word):
-    """Returns the text for a word of a row, without its escapes."""
-    return "" if word == "''" else re.sub(r"\\x(..)", lambda found: chr(int(found[1], 16)), word)
-
-
-def escaped(text):
-    return "".join(letter if " " < letter < "\x7f" and letter not in "\\{}" else f"\\x{ord(letter):02x}" for letter in text) or "''"
-
-
-def answer(row):
-    call, *words = row.split(" | ")
-    texts = [plain(word) for word in words]
-    if call == "best":
-        tags = texts[1].split()
-        index = best(texts[0], tags)
-        told = "-" if index is None else tags[index]
-    elif call == "best-match":
-        return row + " | " + told_match(texts[0], texts[1].split())
-    elif call == "parents":
-        return row + " | " + parents(texts[0])
-    elif call == "suitable":
-        told = " ".join(suitable(texts[0], texts[1].split())) or "-"
-        return row + " | " + told
-    elif call == "distance":
-        told = distance(" ".join(texts))
-    else:
-        told = CALLS[call](texts[0])
-    return row + " | " + (told if told == "-" else escaped(told))
-
-
 def suitable(header, tags):
     """Returns the tags that are chosen if each chosen tag is removed before the next choice."""
     left, found = list(tags), []
@@ -549,35 +520,29 @@ def suitable(header, tags):
     return found
 
 
+def told_best(header, tags):
+    index = best(header, tags)
+    return "-" if index is None else tags[index]
+
+
 def written(find):
     return lambda text: form(text, find) if is_tag(text) else "-"
 
 
-CALLS = {"maximized": written(add_likely_subtags), "minimized": written(remove_likely), "right-to-left": is_right_to_left, "posix": posix, "posix-name": posix_name, "unknown-modifier": unknown_modifier, "suggestion": suggestion, "parents": parents}
+CALLS = {
+    "maximized": written(add_likely_subtags), "minimized": written(remove_likely), "right-to-left": is_right_to_left, "posix": posix,
+    "posix-name": posix_name, "unknown-modifier": unknown_modifier, "suggestion": suggestion, "parents": parents, "distance": distance,
+    "best": lambda header, tags: told_best(header, tags.split()), "best-match": lambda header, tags: told_match(header, tags.split()),
+    "suitable": lambda header, tags: " ".join(suitable(header, tags.split())) or "-",
+}
+OF_SEVERAL_WORDS = ("best-match", "parents", "suitable")
 
 
-def compare(lines, answers):
-    count = wrong = 0
-    for line, given in itertools.zip_longest(lines, open(answers, encoding="utf-8")):
-        count += 1
-        if line is None or given is None or answer(line) != given.rstrip("\n"):
-            wrong += 1
-            if wrong <= 20:
-                print("differs:", line, given)
-    print(f"{count} lines, {wrong} differ")
-    sys.exit(wrong > 0)
-
-
-def main():
-    words = sys.argv[1:]
-    if words[:1] != ["rows"] or words[1:2] not in ([], ["--compare"]) or len(words) not in (1, 3):
-        sys.exit(__doc__)
-    lines = (line.rstrip("\n") for line in sys.stdin)
-    if len(words) == 3:
-        compare(lines, words[2])
-    for line in lines:
-        print(answer(line))
+def answer(row):
+    call, *words = row.split(" | ")
+    told = CALLS[call](*map(answers.plain, words))
+    return told if call in OF_SEVERAL_WORDS else answers.escaped(told)
 
 
 if __name__ == "__main__":
-    main()
+    sys.exit(answers.main(sys.argv[1:], __doc__, answer))

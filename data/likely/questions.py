@@ -1,16 +1,18 @@
 #!/usr/bin/env python3
 """Prints lines with which oracle.py and a program can be compared.
 
-usage: questions.py rows COUNT SEED               prints that many random rows as in rows/
-       questions.py each prints rows for everything in the data: each side of a row, and each rule
+usage: questions.py random COUNT SEED             prints that many random rows as in rows/
+       questions.py each                           prints rows for everything in the data: each side of a row, and each rule
        questions.py aliases                        prints tags with each deprecated language and each deprecated region
 """
 import functools
 import random
 import sys
 
-from oracle import (ALIASES, GROUPS, LANGUAGE_RULES, LIKELY, REGION_ALIASES, RIGHT_TO_LEFT, SCRIPT_RULES, Tag, add_likely, element,
-                    escaped, lower, rows)
+from oracle import ALIASES, GROUPS, LANGUAGE_RULES, LIKELY, REGION_ALIASES, RIGHT_TO_LEFT, SCRIPT_RULES, Tag, add_likely, element, lower, rows
+
+import answers  # oracle.py adds its folder
+from answers import escaped
 
 
 # ---- tags
@@ -166,23 +168,23 @@ def each():
     tags = ["-".join(filter(None, (fields[0] or "und", *fields[1:]))) for fields in triples]
     beside_und = sorted({row[1] for row in LIKELY.values()} | RIGHT_TO_LEFT) + sorted(REGION_ALIASES)
     for tag in tags + sorted(ALIASES) + ["und-" + subtag for subtag in beside_und]:
-        print(f"maximized | {tag}\nminimized | {tag}\nright-to-left | {tag}\nparents | {tag}\nposix-name | {tag}")
+        yield f"maximized | {tag}\nminimized | {tag}\nright-to-left | {tag}\nparents | {tag}\nposix-name | {tag}"
     for tag in ("sr", "be", "ca", "tt", "zh", "uz", "ks", "sd"):
         for script in ("", "-Latn", "-Cyrl", "-Deva", "-Arab", "-Hant", "-Hans"):
             for region in ("", "-RS", "-TW", "-PK", "-AF", "-ZZ"):
-                print("".join(f"posix-name | {tag}{script}{region}{more}\n" for more in ("", "-valencia", "-ijekavsk", "-tarask", "-u-va-POSIX")), end="")
+                yield from (f"posix-name | {tag}{script}{region}{more}" for more in ("", "-valencia", "-ijekavsk", "-tarask", "-u-va-POSIX"))
     for name, to in ALIASES.items():
-        print(f"distance | {name} | {'-'.join(filter(None, to))}\ndistance | en-{to[0]} | en-{name}\nbest | {name} | {to[0]} en {name}")
-        print(f"suggestion | {name}\nsuggestion | {name.upper()}-{name}")
+        yield f"distance | {name} | {'-'.join(filter(None, to))}\ndistance | en-{to[0]} | en-{name}\nbest | {name} | {to[0]} en {name}"
+        yield f"suggestion | {name}\nsuggestion | {name.upper()}-{name}"
     for region in [row[0] for row in rows("region-alias.txt")]:
-        print(f"suggestion | en-{region}\nsuggestion | de-Latn-{region}-1996")
+        yield f"suggestion | en-{region}\nsuggestion | de-Latn-{region}-1996"
     for pair, _, _ in LANGUAGE_RULES + SCRIPT_RULES:
-        print(f"distance | {pair[0]} | {pair[1]}\ndistance | {pair[1]} | {pair[0]}")
+        yield f"distance | {pair[0]} | {pair[1]}\ndistance | {pair[1]} | {pair[0]}"
     regions = sorted(set(GROUPS) | set().union(*GROUPS.values()) | set(REGION_ALIASES))
     for language in ("ar", "en", "es", "pt", "zh-Hant", "de"):
         for region in regions:
             for other in ("GB", "US", "419", "MA", "HK", "150"):
-                print(f"distance | {language}-{region} | {language}-{other}\ndistance | {language}-{other} | {language}-{region}")
+                yield f"distance | {language}-{region} | {language}-{other}\ndistance | {language}-{other} | {language}-{region}"
 
 
 def aliases():
@@ -193,16 +195,5 @@ def aliases():
         print(f"und-{region.upper()}\nzh-{region.upper()}\naz-{region.upper()}\nund-Armn-{region.upper()}")
 
 
-def main():
-    words = sys.argv[1:]
-    if words in (["each"], ["aliases"]):
-        return {"each": each, "aliases": aliases}[words[0]]()
-    if len(words) != 3 or words[0] != "rows":
-        sys.exit(__doc__)
-    rng = random.Random(int(words[2]))
-    for _ in range(int(words[1])):
-        print(random_row(rng))
-
-
 if __name__ == "__main__":
-    main()
+    sys.exit(aliases() if sys.argv[1:] == ["aliases"] else answers.main(sys.argv[1:], __doc__, each=each, random_row=random_row))

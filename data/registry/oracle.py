@@ -1,24 +1,29 @@
 #!/usr/bin/env python3
 """A plain implementation of RFC 5646 sections 2.1, 2.2.9, 3.1 and 4.5 over the registry's record-jar file, by regular expressions.
 
-usage: oracle.py REGISTRY [COLUMN..] < LINES   prints for each line the columns: validity, whole, parts, canonical,
-                                               is-canonical, extlang-form, misplaced, misplaced-extlang, deprecated
-                                               (without any: the first three)
-       oracle.py REGISTRY [COLUMN..] --compare ANSWERS < LINES
-                                               counts the lines whose columns differ from the answers of a program
-       oracle.py REGISTRY --make COUNT SEED    prints that many texts: tags of the registry's subtags, mutants, and random ones
-       oracle.py REGISTRY --each               prints each registered text, and all short languages and regions
+usage: oracle.py rows < ROWS                     prints each row with its answer: of validity, canonical, extlang-form, misplaced,
+                                                 misplaced-extlang, registered, subtag
+       oracle.py rows --compare ANSWERS < ROWS   counts the rows whose answer differs from that of a program
+       oracle.py each                            prints rows for each registered text, and for all short languages and regions
+       oracle.py random COUNT SEED               prints rows about so many texts: tags of the registry's subtags, mutants, and random ones
 """
+from __future__ import annotations
+
+import functools
 import pathlib
 import random
 import re
 import sys
+from collections.abc import Iterator
 
+sys.path.append(str(pathlib.Path(__file__).resolve().parent.parent))
+import answers  # noqa: E402
+
+REGISTRY = pathlib.Path(__file__).resolve().parent / "language-subtag-registry"
 GRAMMAR = re.compile(r"(?P<language>[a-z]{2,3}(?P<ext>(?:-[a-z]{3}){0,3})|[a-z]{4}|[a-z]{5,8})(?:-(?P<script>[a-z]{4}))?(?:-(?P<region>[a-z]{2}|[0-9]{3}))?"
                      r"(?P<variants>(?:-(?:[a-z0-9]{5,8}|[0-9][a-z0-9]{3}))*)(?P<extensions>(?:-[a-wyz0-9](?:-[a-z0-9]{2,8})+)*)(?P<private>(?:-x(?:-[a-z0-9]{1,8})+)?)", re.I | re.A)
 PRIVATE = re.compile(r"x(?:-[a-z0-9]{1,8})+", re.I | re.A)
 EXTENSION = re.compile(r"-[a-z0-9](?:-[a-z0-9]{2,8})+", re.I | re.A)
-COLUMNS = ["validity", "whole", "parts", "canonical", "is-canonical", "extlang-form", "misplaced", "misplaced-extlang", "deprecated"]
 
 
 class Registry:
@@ -53,39 +58,19 @@ class Registry:
     def has(self, kind, text):
         return bool(self.record(kind, text))
 
-    def whole(self, text, name="Preferred-Value"):
-        return self.field("grandfathered", name, text) or self.field("redundant", name, text)
+    def whole(self, text):
+        """Returns the Preferred-Value of a grandfathered or redundant tag."""
+        return self.field("grandfathered", "Preferred-Value", text) or self.field("redundant", "Preferred-Value", text)
 
     def field(self, kind, name, text):
         return self.record(kind, text).get(name)
 
-    def answer(self, text, columns):
-        grandfathered = text.lower() in self.kinds["grandfathered"]
+    def validity(self, text):
+        """Returns `none` for a text that is not a tag, `valid`, or what is wrong with the first invalid subtag, its offset, and the subtag."""
+        if text.lower() in self.kinds["grandfathered"] or PRIVATE.fullmatch(text):
+            return "valid"
         found = GRAMMAR.fullmatch(text)
-        if not (grandfathered or found or PRIVATE.fullmatch(text)):
-            return "refused"
-        out = []
-        for column in columns:
-            if column == "validity":
-                fault = None if grandfathered or not found else self.fault(found)
-                out.append("invalid " + fault if fault else "valid")
-            elif column == "whole":
-                out.append("whole=" + (self.whole(text) or "-"))
-            elif column == "parts":
-                out += self.parts(found) if found else []
-            elif column == "canonical":
-                out.append("canonical=" + self.canonical(text))
-            elif column == "is-canonical":
-                out.append("is-canonical" if self.canonical(text) == text else "is-not-canonical")
-            elif column == "extlang-form":
-                out.append("extlang-form=" + self.extlang_form(text))
-            elif column == "misplaced":
-                out.append("misplaced=" + (self.misplaced(found) if found else "-"))
-            elif column == "misplaced-extlang":
-                out.append("misplaced-extlang=" + (self.misplaced_extlang(found) if found else "-"))
-            else:
-                out.append("deprecated=" + ("old" if self.whole(text, "Deprecated") else "-"))
-        return " ".join(out)
+        return self.fault(found) if found else "none"
 
     def canonical(self, text):
         """Returns the canonical form (section 4.5): by a whole tag (step 2), or else by the parts (steps 1 and 3) and step 2 once
@@ -119,10 +104,13 @@ class Registry:
         prefix = self.prefixes.get(("extlang", found["language"].split("-")[0].lower()))
         return prefix[0] + "-" + text if prefix else text
 
-    def misplaced(self, found):
+    def misplaced(self, text):
         """Returns the first variant that follows none of its prefixes (section 3.1.8), by extended filtering (RFC 4647 section
         3.3.2). No singleton comes before a variant, so any subtags may be skipped."""
-        before = found.string[:found.start("variants")]
+        found = GRAMMAR.fullmatch(text)
+        if not found:
+            return "-"
+        before = text[:found.start("variants")]
         for variant in found["variants"].split("-")[1:]:
             prefixes = self.prefixes.get(("variant", variant.lower()), [])
             ranges = [prefix.replace("-", "(?:-[a-z0-9]+)*-") + "(?:-[a-z0-9]+)*" for prefix in prefixes]
@@ -131,145 +119,137 @@ class Registry:
             before += "-" + variant
         return "-"
 
-    def misplaced_extlang(self, found):
+    def misplaced_extlang(self, text):
         """Returns the extended language that follows a language other than its Prefix (section 3.1.8)."""
-        primary, extended = (found["language"].split("-") + ["-"])[:2]
+        found = GRAMMAR.fullmatch(text)
+        if not found or not found["ext"]:
+            return "-"
+        primary, extended = found["language"].split("-")[:2]
         return extended if primary.lower() not in self.prefixes.get(("extlang", extended.lower()), [primary.lower()]) else "-"
 
     def fault(self, found):
-        primary, *extended = found["language"].split("-")
-        if not self.has("language", primary):
-            return "language=" + primary
-        if extended and not self.has("extlang", extended[0]):
-            return "extlang=" + extended[0]
-        if len(extended) > 1:
-            return "second-extlang=" + extended[1]
-        for kind in ("script", "region"):
-            if found[kind] and not self.has(kind, found[kind]):
-                return f"{kind}={found[kind]}"
         seen = set()
-        for variant in filter(None, found["variants"].split("-")):
-            if not self.has("variant", variant):
-                return "variant=" + variant
-            if variant.lower() in seen:
-                return "repeated-variant=" + variant
-            seen.add(variant.lower())
-        for subtag in found["extensions"].split("-"):
-            if len(subtag) == 1:
-                if subtag.lower() in seen:
-                    return "repeated-singleton=" + subtag
-                seen.add(subtag.lower())
-        return None
+        for kind, start, subtag in subtags_of(found):
+            if kind == "second-extlang" or kind != "singleton" and not self.has(kind, subtag):
+                return f"{kind} {start} {subtag}"
+            if kind in ("variant", "singleton") and (kind, subtag.lower()) in seen:
+                return f"repeated-{kind} {start} {subtag}"
+            seen.add((kind, subtag.lower()))
+        return "valid"
 
-    def parts(self, found):
-        """Returns what the registry says about each subtag: whether it is registered, its fields, and whether it is deprecated."""
-        primary, *extended = found["language"].split("-")
-        rows = [("language", primary, ["Preferred-Value", "Suppress-Script", "Macrolanguage"])]
-        rows += [("extlang", text, []) for text in extended]
-        rows += [(kind, found[kind], names) for kind, names in (("script", None), ("region", ["Preferred-Value"])) if found[kind]]
-        rows += [("variant", text, ["Preferred-Value"]) for text in found["variants"].split("-") if text]
-        out = []
-        for kind, text, names in rows:
-            told = ["+" if self.has(kind, text) else "-"]
-            if names is not None:
-                told += [self.field(kind, name, text) or "-" for name in names]
-                told.append("old" if self.field(kind, "Deprecated", text) else "-")
-            out.append(f"{kind}=" + ",".join(told))
-        return out
+    def fields_of(self, text):
+        """Returns what a language's record says, and the Prefix of an extended language. A text of three letters may be both."""
+        out = [self.field("language", name, text) for name in ("Preferred-Value", "Macrolanguage", "Suppress-Script")]
+        prefixes = self.prefixes.get(("extlang", text.lower()), [None])
+        return " ".join(it or "-" for it in out + prefixes * (len(text) == 3))
 
 
-def make(registry, count, seed):
-    rng = random.Random(seed)
-    letters = "abcdefghijklmnopqrstuvwxyz"
-    prefixed, replaced = list(registry.prefixes), {}
-    for (kind, name), fields in registry.fields.items():
-        if "Preferred-Value" in fields:
-            replaced.setdefault(kind, []).append(name)
-
-    def some(kind):
-        pool = registry.names[kind]
-        if rng.random() < 0.15:
-            size = {"language": rng.choice([2, 3, 3, 4, 5]), "extlang": 3, "script": 4, "region": rng.choice([2, 3]), "variant": rng.choice([4, 5, 8])}[kind]
-            text = "".join(rng.choice(letters) for _ in range(size))
-            if kind == "region" and size == 3 or kind == "variant" and size == 4:
-                text = "".join(rng.choice("0123456789") for _ in range(size))
-            return text
-        if rng.random() < 0.2:
-            return rng.choice(replaced.get(kind) or pool)
-        return rng.choice(pool)
-
-    def cased(text):
-        how = rng.random()
-        return text if how < 0.5 else text.upper() if how < 0.7 else "".join(rng.choice([c.upper(), c.lower()]) for c in text)
-
-    for _ in range(count):
-        how = rng.random()
-        if how < 0.12:
-            text = rng.choice(registry.names["grandfathered"] + registry.names["redundant"]) + rng.choice(["", "", "", "-x-a", "-DD"])
-        elif how < 0.17:
-            text = rng.choice(["sgn-", "sgn-", "SGN-"]) + rng.choice(["DD", "FX", "BR", "BU", "ZR", "US"])
-        elif how < 0.19:
-            text = "x-" + "-".join(rng.choice(["a", "mine", "iw", "12345678", "", "123456789"]) for _ in range(rng.choice([1, 1, 2])))
-        elif how < 0.27:
-            kind, name = rng.choice(prefixed)
-            parts = rng.choice(registry.prefixes[kind, name]).split("-")
-            for extra in [name] + [some("variant") for _ in range(rng.choice([0, 1, 2]))]:
-                parts.insert(rng.choice([len(parts), len(parts), rng.randrange(1, len(parts) + 1)]), extra)
-            if rng.random() < 0.3:
-                parts.insert(rng.choice([1, 1, len(parts)]), some(rng.choice(["region", "script"])))
-            text = "-".join(parts)
-        else:
-            parts = [some("language")]
-            for kind, odds in (("extlang", 0.25), ("extlang", 0.05), ("script", 0.3), ("region", 0.4), ("variant", 0.3), ("variant", 0.2), ("variant", 0.1)):
-                if rng.random() < odds:
-                    parts.append(parts[-1] if kind == "variant" and rng.random() < 0.2 else some(kind))
-            for _ in range(rng.choice([0, 0, 0, 1, 2, 3])):
-                parts += [rng.choice("abcABCu01"), rng.choice(["aaa", "bb", "phonebk"])]
-            if rng.random() < 0.1:
-                parts += ["x", rng.choice(["a", "iw", "mine"])]
-            text = "-".join(parts)
-        text = cased(text)
-        if rng.random() < 0.08 and text:
-            place = rng.randrange(len(text))
-            text = text[:place] + rng.choice("-_ax19") + text[place + rng.choice([0, 1]):]
-        print(text)
+def subtags_of(found):
+    """Yields each subtag that can be invalid, of which an extension has its singleton: its kind, its offset, and itself."""
+    languages = iter(("language", "extlang"))
+    for part, kind in (("language", None), ("script", "script"), ("region", "region"), ("variants", "variant"), ("extensions", "singleton")):
+        for it in re.finditer("[^-]+", found[part] or ""):
+            if kind != "singleton" or len(it[0]) == 1:
+                yield kind or next(languages, "second-extlang"), found.start(part) + it.start(), it[0]
 
 
-def each(registry):
+@functools.lru_cache(None)
+def registry():
+    return Registry(REGISTRY)
+
+
+# ---- rows
+
+
+# The answer to each call about a tag. Other texts have no answer.
+CALLS = {
+    "validity": lambda tag: registry().validity(tag),
+    "canonical": lambda tag: registry().canonical(tag),
+    "extlang-form": lambda tag: registry().extlang_form(tag),
+    "misplaced": lambda tag: registry().misplaced(tag),
+    "misplaced-extlang": lambda tag: registry().misplaced_extlang(tag),
+    "registered": lambda tag: registry().whole(tag) or "-",
+    "subtag": lambda tag: registry().fields_of(tag),
+}
+
+
+def answer(row):
+    call, word = row.split(" | ")
+    text = answers.plain(word)
+    return "-" if call != "validity" and registry().validity(text) == "none" else CALLS[call](text)
+
+
+def rows_of(text):
+    """Returns rows of the calls that C has, too."""
+    return f"validity | {answers.escaped(text)}\ncanonical | {answers.escaped(text)}"
+
+
+def each():
     letters, digits = "abcdefghijklmnopqrstuvwxyz", "0123456789"
     pairs = [a + b for a in letters for b in letters]
-    for language in pairs + [pair + c for pair in pairs for c in letters]:
-        print(language)
-    for region in pairs + [a + b + c for a in digits for b in digits for c in digits]:
-        print("fr-" + region)
+    yield from map(rows_of, pairs + [pair + c for pair in pairs for c in letters])
+    yield from (rows_of("fr-" + region) for region in pairs + [a + b + c for a in digits for b in digits for c in digits])
     for kind, before in (("extlang", "zh-"), ("script", "fr-"), ("region", "fr-"), ("variant", "fr-"), ("grandfathered", ""), ("redundant", "")):
-        for name in registry.names[kind]:
-            print(before + name)
+        yield from (rows_of(before + name) for name in registry().names[kind])
 
 
-def compare(registry, columns, path):
-    lines = sys.stdin.read().split("\n")[:-1]
-    answers = open(path, encoding="utf-8", newline="\n").read().split("\n")[:-1]
-    wanted = [registry.answer(line, columns) for line in lines]
-    differ = [triple for triple in zip(lines, answers, wanted) if triple[1] != triple[2]]
-    for line, got, told in differ[:20]:
-        print(f"{line}: {got}, and not {told}")
-    print(f"{len(differ)} of {len(lines)} lines differ, with {len(answers)} answers")
-    return len(differ) > 0 or len(lines) != len(answers)
+@functools.lru_cache(None)
+def replaced(kind):
+    """Returns the subtags of a kind that have a Preferred-Value."""
+    return [name for of, name in registry().fields if of == kind and registry().field(kind, "Preferred-Value", name)]
 
 
-def main():
-    registry, words = Registry(sys.argv[1]), sys.argv[2:]
-    if words[:1] == ["--each"]:
-        return each(registry)
-    if words[:1] == ["--make"]:
-        return make(registry, int(words[1]), int(words[2]))
-    columns = [word for word in words if word in COLUMNS] or COLUMNS[:3]
-    if words[-2:-1] == ["--compare"]:
-        return compare(registry, columns, words[-1])
-    for line in sys.stdin:
-        print(registry.answer(line.rstrip("\n"), columns))
+def some(rng, kind):
+    """Returns a subtag of a kind, mostly a registered one."""
+    if rng.random() < 0.15:
+        size = {"language": rng.choice([2, 3, 3, 4, 5]), "extlang": 3, "script": 4, "region": rng.choice([2, 3]), "variant": rng.choice([4, 5, 8])}[kind]
+        of_digits = kind == "region" and size == 3 or kind == "variant" and size == 4
+        return "".join(rng.choice("0123456789" if of_digits else "abcdefghijklmnopqrstuvwxyz") for _ in range(size))
+    return rng.choice(replaced(kind) if replaced(kind) and rng.random() < 0.2 else registry().names[kind])
+
+
+def cased(rng, text):
+    how = rng.random()
+    return text if how < 0.5 else text.upper() if how < 0.7 else "".join(rng.choice([c.upper(), c.lower()]) for c in text)
+
+
+def prefixed(rng):
+    """Returns a tag with a variant, or an extended language, after one of its prefixes, and with other subtags."""
+    kind, name = rng.choice(list(registry().prefixes))
+    parts = rng.choice(registry().prefixes[kind, name]).split("-")
+    for extra in [name] + [some(rng, "variant") for _ in range(rng.choice([0, 1, 2]))]:
+        parts.insert(rng.choice([len(parts), len(parts), rng.randrange(1, len(parts) + 1)]), extra)
+    if rng.random() < 0.3:
+        parts.insert(rng.choice([1, 1, len(parts)]), some(rng, rng.choice(["region", "script"])))
+    return parts
+
+
+def of_subtags(rng):
+    parts = [some(rng, "language")]
+    for kind, odds in (("extlang", 0.25), ("extlang", 0.05), ("script", 0.3), ("region", 0.4), ("variant", 0.3), ("variant", 0.2), ("variant", 0.1)):
+        if rng.random() < odds:
+            parts.append(parts[-1] if kind == "variant" and rng.random() < 0.2 else some(rng, kind))
+    for _ in range(rng.choice([0, 0, 0, 1, 2, 3])):
+        parts += [rng.choice("abcABCu01"), rng.choice(["aaa", "bb", "phonebk"])]
+    return parts + (["x", rng.choice(["a", "iw", "mine"])] if rng.random() < 0.1 else [])
+
+
+def random_row(rng):
+    how = rng.random()
+    if how < 0.12:
+        text = rng.choice(registry().names["grandfathered"] + registry().names["redundant"]) + rng.choice(["", "", "", "-x-a", "-DD"])
+    elif how < 0.17:
+        text = rng.choice(["sgn-", "sgn-", "SGN-"]) + rng.choice(["DD", "FX", "BR", "BU", "ZR", "US"])
+    elif how < 0.19:
+        text = "x-" + "-".join(rng.choice(["a", "mine", "iw", "12345678", "", "123456789"]) for _ in range(rng.choice([1, 1, 2])))
+    else:
+        text = "-".join(prefixed(rng) if how < 0.27 else of_subtags(rng))
+    text = cased(rng, text)
+    if rng.random() < 0.08 and text:
+        place = rng.randrange(len(text))
+        text = text[:place] + rng.choice("-_ax19") + text[place + rng.choice([0, 1]):]
+    return rows_of(text)
 
 
 if __name__ == "__main__":
-    sys.exit(main())
+    sys.exit(answers.main(sys.argv[1:], __doc__, answer, each, random_row))

@@ -11,12 +11,14 @@ usage: oracle.py each                     prints rows for everything in the data
 from __future__ import annotations
 
 import functools
-import itertools
 import pathlib
 import random
 import re
 import sys
 from collections.abc import Iterator
+
+sys.path.append(str(pathlib.Path(__file__).resolve().parent.parent))
+import answers  # noqa: E402
 
 HERE = pathlib.Path(__file__).resolve().parent
 LIKELY = HERE.parent / "likely/cldr"
@@ -256,7 +258,7 @@ CALLS = {"extensions-form": extensions_form, "locale-form": locale_form, "is-loc
 
 def answer(row: str) -> str:
     call, tag = row.split(" | ")
-    return f"{row} | {CALLS[call](tag) or '-'}"
+    return CALLS[call](tag) or "-"
 
 
 def of_both(tag: str) -> list[str]:
@@ -295,6 +297,10 @@ def about_extensions() -> Iterator[str]:
         yield f"extensions-form | de-u-rg-{subtag}"
 
 
+def each() -> list[str]:
+    return [*about_identifiers(), *about_heirs(), *about_extensions()]
+
+
 def random_keywords(rng: random.Random) -> list[str]:
     """Returns an extension u or t, in which keys may be repeated."""
     singleton, key, old = rng.choice([*TYPES, ("u", "rg", rng.choice([*SUBDIVISIONS])), ("u", "co", "true"), ("t", "m0", "true"), ("u", "kn", "")])
@@ -324,35 +330,5 @@ def random_row(rng: random.Random) -> str:
     return f"{rng.choice([*CALLS])} | {tag.upper() if rng.random() < 0.1 else tag}"
 
 
-def compare(rows: Iterator[str], answers: str) -> bool:
-    count = wrong = 0
-    with open(answers, encoding="utf-8") as given:
-        for row, told in itertools.zip_longest(rows, given):
-            count += 1
-            if row is None or told is None or answer(row) != told.rstrip("\n"):
-                wrong += 1
-                if wrong <= 20:
-                    print(f"differs: {told and told.rstrip()}, and not {row and answer(row)}")
-    print(f"{count} rows, {wrong} differ")
-    return wrong > 0
-
-
-def main(words: list[str]) -> int:
-    if words == ["each"]:
-        print("\n".join(dict.fromkeys([*about_identifiers(), *about_heirs(), *about_extensions()])))
-    elif len(words) == 3 and words[0] == "random":
-        rng = random.Random(int(words[2]))
-        print("\n".join(random_row(rng) for _ in range(int(words[1]))))
-    elif words[:1] == ["rows"] and len(words) in (1, 3):
-        rows = (line.rstrip("\n") for line in sys.stdin)
-        if len(words) == 3:
-            return compare(rows, words[2])
-        for row in rows:
-            print(answer(row))
-    else:
-        sys.exit(__doc__)
-    return 0
-
-
 if __name__ == "__main__":
-    sys.exit(main(sys.argv[1:]))
+    sys.exit(answers.main(sys.argv[1:], __doc__, answer, each, random_row))

@@ -132,13 +132,6 @@ class Code:
             behind, taken = found
             place = self.replace(place, behind, filled(new, taken))
 
-    def rewrite_once(self, old, new, start):
-        """Replaces a form once, at its first place from a given place on."""
-        pattern = words_of(old)
-        place = next(at for at in range(start, len(self)) if self.match(pattern, at))
-        behind, taken = self.match(pattern, place)
-        self.replace(place, behind, filled(new, taken))
-
     def match(self, pattern, place):
         """Returns where a form that begins here ends, and what its variables stand for."""
         taken, at = {}, 0

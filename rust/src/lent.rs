@@ -4,7 +4,6 @@
 use crate::erased::tag::*;
 #[cfg(feature = "data")]
 use crate::likely::Parents;
-#[allow(unused_imports)] // only links name LanguageRange
 use crate::matching::{Fallbacks, LanguageRange, LanguageRangeBuf};
 #[cfg(feature = "data")]
 use crate::registry::{InvalidSubtag, InvalidSubtagBuf};
@@ -12,12 +11,14 @@ use crate::registry::{InvalidSubtag, InvalidSubtagBuf};
 use crate::unicode::{AttributesIter, KeywordsIter, Transformation};
 
 macro_rules! lent {
-    ($($owned:ident: $name:ident by $lend:ident { $($call:ident($($argument:ident: $type:ty)?) -> $result:ty;)+ })+) => {$(
+    ($($owned:ident: $name:ident by $lend:ident {
+        $($call:ident $(<$lifetime:lifetime>)?($($argument:ident: $type:ty)?) -> $result:ty;)+
+    })+) => {$(
         impl $owned {$(
             #[doc = concat!("Returns what [`", stringify!($name), "::", stringify!($call), "`] returns.")]
             #[inline]
             #[must_use]
-            pub fn $call(&self, $($argument: $type)?) -> $result {
+            pub fn $call$(<$lifetime>)?(&self, $($argument: $type)?) -> $result {
                 self.$lend().$call($($argument)?)
             }
         )+}
@@ -91,10 +92,14 @@ lent! {
         in_recommended_case() -> InRecommendedCase<'_>;
         is_in_recommended_case() -> bool;
         to_recommended_case() -> LangTagBuf;
+        matches<'r>(range: impl TryInto<LanguageRange<'r>>) -> bool;
     }
     LanguageRangeBuf: LanguageRange by as_language_range {
         is_basic() -> bool;
         fallbacks() -> Fallbacks<'_>;
+        matches_basic<'t>(tag: impl Into<LangTag<'t>>) -> bool;
+        matches_extended<'t>(tag: impl Into<LangTag<'t>>) -> bool;
+        matches<'t>(tag: impl Into<LangTag<'t>>) -> bool;
     }
 }
 
@@ -112,6 +117,8 @@ lent! {
         attributes() -> AttributesIter<'_>;
         transform() -> Option<Transformation<'_>>;
         is_right_to_left() -> bool;
+        keyword(key: &str) -> Option<&str>;
+        distance<'t>(supported: impl Into<LangTag<'t>>) -> u8;
         parent() -> Option<LangTagBuf>;
         parents() -> Parents<'_>;
     }
@@ -129,25 +136,5 @@ impl LangTagBuf {
         self.as_lang_tag()
             .validate()
             .map_err(InvalidSubtag::into_owned)
-    }
-
-    /// Returns what [`LangTag::keyword`] returns.
-    #[must_use]
-    pub fn keyword(&self, key: &str) -> Option<&str> {
-        self.as_lang_tag().keyword(key)
-    }
-
-    /// Returns what [`LangTag::distance`] returns.
-    #[must_use]
-    pub fn distance<'t>(&self, supported: impl Into<LangTag<'t>>) -> u8 {
-        self.as_lang_tag().distance(supported)
-    }
-}
-
-impl LangTagBuf {
-    /// Returns what [`LangTag::matches`] returns.
-    #[must_use]
-    pub fn matches<'r>(&self, range: impl TryInto<LanguageRange<'r>>) -> bool {
-        self.as_lang_tag().matches(range)
     }
 }

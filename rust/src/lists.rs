@@ -69,31 +69,14 @@ mod of_tags {
     use crate::choice::{PreparedForm, TagList};
     use crate::LangTag;
 
-    impl<E: TagEntry> TagList for [E] {
-        #[inline]
-        fn count(&self) -> usize {
-            self.len()
-        }
-
-        #[inline]
-        fn tag_at(&self, index: usize) -> Option<LangTag<'_>> {
-            self[index].tag()
-        }
-
-        #[inline]
-        fn bytes_at(&self, index: usize) -> &[u8] {
-            self[index].tag_bytes()
-        }
-    }
-
-    /// Implements `TagList` by the list that a type refers to.
-    macro_rules! by_another {
-        ($(#[$feature:meta])? [$($generics:tt)*] $list:ty) => {
+    /// Implements `TagList` for a type whose indices lead to entries.
+    macro_rules! of_entries {
+        ($($(#[$feature:meta])? [$($generics:tt)*] $list:ty;)+) => {$(
             $(#[$feature])?
             impl<$($generics)*> TagList for $list {
                 #[inline]
                 fn count(&self) -> usize {
-                    TagList::count(&self[..])
+                    self.len()
                 }
 
                 #[inline]
@@ -106,11 +89,14 @@ mod of_tags {
                     self[index].tag_bytes()
                 }
             }
-        };
+        )+};
     }
 
-    by_another!([E: TagEntry, const N: usize] [E; N]);
-    by_another!(#[cfg(feature = "alloc")] [E: TagEntry] alloc::vec::Vec<E>);
+    of_entries! {
+        [E: TagEntry] [E];
+        [E: TagEntry, const N: usize] [E; N];
+        #[cfg(feature = "alloc")] [E: TagEntry] alloc::vec::Vec<E>;
+    }
 
     impl<L: TagList + ?Sized> TagList for &L {
         #[inline]

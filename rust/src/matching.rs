@@ -97,30 +97,6 @@ impl LanguageRange<'_> {
     }
 }
 
-#[cfg(feature = "alloc")]
-impl LanguageRangeBuf {
-    /// Returns what [`LanguageRange::matches_basic`] returns.
-    #[inline]
-    #[must_use]
-    pub fn matches_basic<'t>(&self, tag: impl Into<LangTag<'t>>) -> bool {
-        self.as_language_range().matches_basic(tag)
-    }
-
-    /// Returns what [`LanguageRange::matches_extended`] returns.
-    #[inline]
-    #[must_use]
-    pub fn matches_extended<'t>(&self, tag: impl Into<LangTag<'t>>) -> bool {
-        self.as_language_range().matches_extended(tag)
-    }
-
-    /// Returns what [`LanguageRange::matches`] returns.
-    #[inline]
-    #[must_use]
-    pub fn matches<'t>(&self, tag: impl Into<LangTag<'t>>) -> bool {
-        self.as_language_range().matches(tag)
-    }
-}
-
 /// Returns the tag that lookup finds for a list of language ranges in order of preference, or the
 /// default if no range finds a tag ([RFC 4647 section 3.4]).
 ///

@@ -170,33 +170,6 @@ fn random_tags_in_turn() {
 }
 
 #[test]
-fn same_tags_come_in_their_order() {
-    assert_eq!(
-        suitable_for_header("de", &["de", "en", "DE", "de"]),
-        [0, 2, 3]
-    );
-}
-
-#[test]
-fn none_and_one() {
-    let none: [&str; 0] = [];
-    assert!(suitable_for_header("de", &none).is_empty());
-    assert!(suitable_for_header("", &["de"]).is_empty());
-    assert!(suitable_for_header("ja", &["de", "en"]).is_empty());
-    assert!(write_suitable(&b"de"[..], &["de"], &mut []).is_empty());
-    assert_eq!(suitable_for_header("gsw", &["ja", "de"]), [1]);
-}
-
-#[test]
-fn refused_tags_are_left_out() {
-    let tags = ["de", "de-CH", "en", "fr"];
-    assert_eq!(suitable_for_header("de,en;q=0.5,de-CH;q=0", &tags), [0, 2]);
-    let mut many = vec!["en"; 70];
-    many.extend(["de-CH", "de"]);
-    assert_eq!(suitable_for_header("de,de-CH;q=0", &many), [71]);
-}
-
-#[test]
 fn a_parsed_header() {
     let accepted = AcceptLanguage::lenient("nn;q=0.5, de");
     assert_eq!(

@@ -191,6 +191,7 @@ fn headers_of_each_length() {
         ("de;q=0.5", ",fr;q=0.25", "", 1, 1, false),
         ("de", "-a", "", 1, 0, false),
         ("deu", "-a", ", en;q=0.5", 2, 0, false),
+        ("ab", "-ab", "", 1, 0, false),
         ("*, de", ",a-12345678", "", 2, 1, false),
         ("de,", "_", "_,fr", 2, 0, true),
         ("", "de_a,", "de_a,fr", 1, 0, true),

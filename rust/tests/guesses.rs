@@ -102,6 +102,11 @@ fn comparisons() {
     assert!(variants.is_empty());
     assert!(tag("de-u-co-phonebk").extensions().get('u').is_some());
     assert_eq!(german.kind().to_string(), "normal");
+    let regions: Vec<Region> = ["de-CH", "zh", "fr-FR"]
+        .iter()
+        .filter_map(|text| LangTag::new(text).ok()?.region()) // which outlives the tag
+        .collect();
+    assert_eq!(regions, ["CH", "FR"]);
 }
 
 #[test]

@@ -54,30 +54,8 @@ fn texts_that_are_no_ranges() {
 #[test]
 fn where_a_text_goes_wrong() {
     let error = LangTag::new("i-no").unwrap_err();
-    assert_eq!(
-        (
-            langtag::scan::viable_len(error.0.as_bytes()),
-            error.refusal().unwrap().kind
-        ),
-        (3, RefusalKind::Subtag)
-    );
-    assert_eq!(
-        error.to_string(),
-        "invalid language tag `i-no`: unexpected subtag `no`"
-    );
+    assert_eq!(error.refusal().unwrap().kind, RefusalKind::Subtag);
     assert_eq!(InvalidLangTag("de").reason().to_string(), "it is a tag");
-}
-
-#[test]
-fn messages_have_the_text() {
-    assert_eq!(
-        Script::new("Latin").unwrap_err().to_string(),
-        "invalid script `Latin`"
-    );
-    assert_eq!(
-        Singleton::try_from('x').unwrap_err().to_string(),
-        "invalid extension identifier"
-    );
 }
 
 #[test]
@@ -188,22 +166,6 @@ fn tags_of_variants<'a>(first: &'a str, last: &'a str) -> (Variant<'a>, Variant<
     (Variant::new(first).unwrap(), Variant::new(last).unwrap())
 }
 
-#[cfg(feature = "data")]
-#[test]
-fn constants_and_functions_for_a_buffer() {
-    use langtag::registry::{write_canonical, FILE_DATE};
-    let mut buffer = [b'~'; 64];
-    let [tag] = tags(["ja-heploc"]);
-    let error = write_canonical(tag, &mut buffer[..9]).unwrap_err();
-    assert_eq!(error.needed(), 10);
-    assert_eq!(buffer, [b'~'; 64]);
-    assert_eq!(write_canonical(tag, &mut buffer), Ok("ja-alalc97"));
-    assert!(
-        FILE_DATE >= "2005-10-16",
-        "the registry of BCP 47 is as old as this"
-    );
-}
-
 #[test]
 #[cfg(all(feature = "alloc", feature = "data"))]
 fn small_things() {
@@ -225,24 +187,12 @@ fn small_things() {
     );
 }
 
-/// What few tags show: a second extlang, an alias that is no language, and a range that excludes a tag.
+/// A code that means a language in a region is not suggested, because a subtag cannot name a region.
 #[test]
-#[cfg(all(feature = "alloc", feature = "data"))]
-fn rare_tags() {
-    use langtag::{choice::best_among, matching::WeightedRange, registry};
-
-    for (text, misplaced) in [("fr-yue-cmn", Some("yue")), ("zh-yue-cmn", None)] {
-        let found = registry::misplaced_extlang(NormalLangTag::new(text).unwrap());
-        assert_eq!(found.map(ExtendedLangTag::as_str), misplaced);
-    }
-    let dari = registry::InvalidSubtag::Language(PrimaryLanguage::new("drw").unwrap());
+#[cfg(feature = "data")]
+fn suggestions() {
+    let dari = langtag::registry::InvalidSubtag::Language(PrimaryLanguage::new("drw").unwrap());
     assert_eq!(dari.suggestion(), None);
-    let ranges = [("de", 0), ("fr", 500)].map(|(range, weight)| WeightedRange {
-        range: LanguageRange::new(range).unwrap(),
-        weight,
-    });
-    assert_eq!(best_among(&ranges[..], &["de", "fr"]), Some(1));
-    assert_eq!(best_among(&ranges[..1], &["de"]), None);
 }
 
 /// A tag of a `const` is the tag that `new` returns.

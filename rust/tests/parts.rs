@@ -1,7 +1,7 @@
 //! The types of a tag's parts (RFC 5646 sections 2.2.1 to 2.2.7): empty lists, the parts that a list names, and singletons.
 use langtag::{
-    ExtensionIter, Extensions, InvalidVariants, LanguageExtensionIter, PrivateUseIter, Singleton,
-    Subtags, Variants, VariantsIter,
+    ExtensionIter, Extensions, GrandfatheredLangTag, LanguageExtensionIter, PrivateUseIter,
+    Singleton, Subtags, Variants, VariantsIter,
 };
 
 #[test]
@@ -34,27 +34,6 @@ fn empty_lists_are_those_of_the_empty_text() {
 }
 
 #[test]
-fn refusals_are_handed_on() {
-    fn variants_of(text: &str) -> Result<Variants<'_>, InvalidVariants<&str>> {
-        let variants = Variants::new(text)?;
-        Ok(variants)
-    }
-    assert_eq!(variants_of("rozaj-1994").unwrap().as_str(), "rozaj-1994");
-    assert_eq!(variants_of("1994-").unwrap_err().0, "1994-");
-}
-
-#[cfg(feature = "alloc")]
-#[test]
-fn owned_refusals_are_handed_on() {
-    use langtag::{InvalidPrivateUse, PrivateUseBuf};
-    fn owned_private(text: String) -> Result<PrivateUseBuf, InvalidPrivateUse<String>> {
-        let part = PrivateUseBuf::new(text)?;
-        Ok(part)
-    }
-    assert_eq!(owned_private("x-".into()).unwrap_err().0, "x-");
-}
-
-#[test]
 fn letters_and_digits_but_x_are_singletons() {
     for byte in 0..=u8::MAX {
         let is_singleton = byte.is_ascii_alphanumeric() && !byte.eq_ignore_ascii_case(&b'x');
@@ -70,6 +49,11 @@ fn a_refused_byte_is_shown() {
     let refused = Singleton::new(b'x').unwrap_err();
     assert_eq!(refused.to_string(), "invalid extension identifier");
     assert_eq!(format!("{refused:?}"), "InvalidSingleton(120)");
+    let refused = GrandfatheredLangTag::try_from(&b"zh"[..]).unwrap_err();
+    assert_eq!(
+        format!("{refused:?}"),
+        "InvalidGrandfatheredTag([122, 104])"
+    );
 }
 
 #[test]

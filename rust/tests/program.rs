@@ -20,27 +20,70 @@ fn langtag(arguments: &[&str], input: &[u8]) -> Output {
     output
 }
 
-/// Checks what the program prints, and its exit status.
-#[track_caller]
-fn prints(arguments: &[&str], input: &str, wanted: &str, status: i32) {
-    let output = langtag(arguments, input.as_bytes());
-    assert_eq!(
-        String::from_utf8_lossy(&output.stdout),
-        wanted,
-        "{arguments:?}"
-    );
-    assert_eq!(output.status.code(), Some(status), "{arguments:?}");
+/// A run of program.txt.
+#[derive(Default)]
+struct Run {
+    arguments: Vec<String>,
+    input: Vec<u8>,
+    stdout: String,
+    stderr: String,
+    status: i32,
 }
 
-/// Checks what the program writes to standard error.
-#[track_caller]
-fn says(arguments: &[&str], wanted: &str) {
-    let output = langtag(arguments, b"");
-    assert_eq!(
-        String::from_utf8_lossy(&output.stderr),
-        wanted,
-        "{arguments:?}"
-    );
+fn runs() -> Vec<Run> {
+    let mut runs: Vec<Run> = Vec::new();
+    for line in include_str!("program.txt").lines() {
+        let text = |line| String::from_utf8(unescape(line)).unwrap();
+        if let Some(words) = line.strip_prefix("$ langtag") {
+            let arguments = words.split_whitespace().map(String::from).collect();
+            runs.push(Run {
+                arguments,
+                ..Run::default()
+            });
+            continue;
+        }
+        let Some(run) = runs.last_mut() else { continue };
+        match line.split_once(' ') {
+            Some(("<", input)) => run.input = unescape(input),
+            Some(("!", said)) => run.stderr += &(text(said) + "\n"),
+            Some(("=", status)) => run.status = status.parse().unwrap(),
+            Some(("#", _)) => {}
+            _ if line.is_empty() => {}
+            _ => run.stdout += &(text(line) + "\n"),
+        }
+    }
+    runs
+}
+
+/// Returns the bytes of a text in which `\xNN` is a byte.
+fn unescape(text: &str) -> Vec<u8> {
+    let mut pieces = text.split("\\x");
+    let mut out = pieces.next().unwrap().as_bytes().to_vec();
+    for piece in pieces {
+        out.push(u8::from_str_radix(&piece[..2], 16).unwrap());
+        out.extend(piece[2..].bytes());
+    }
+    out
+}
+
+/// What the program prints, what it writes to standard error, and its exit status.
+#[test]
+fn listed_runs() {
+    let runs = runs();
+    assert!(runs.len() > 40);
+    for run in runs {
+        let arguments: Vec<&str> = run.arguments.iter().map(String::as_str).collect();
+        let output = langtag(&arguments, &run.input);
+        assert_eq!(
+            (
+                String::from_utf8_lossy(&output.stdout),
+                String::from_utf8_lossy(&output.stderr),
+                output.status.code()
+            ),
+            (run.stdout.into(), run.stderr.into(), Some(run.status)),
+            "{arguments:?}"
+        );
+    }
 }
 
 /// `show` and `check` print the lines of the two proved programs, byte for byte.
@@ -64,147 +107,6 @@ fn the_proved_programs() {
 }
 
 #[test]
-fn arguments() {
-    prints(&["show", "fr-FR", "x-a", "I-lux"], "", "normal language=fr script= region=FR variants= extensions= private= repeats=no\nprivate x-a\nirregular i-lux\n", 0);
-    prints(
-        &["check", "iw", "fr-FQ"],
-        "",
-        "valid canonical=he\ninvalid region=FQ canonical=fr-FQ\n",
-        1,
-    );
-    prints(&["canonical", "iw", "zh_TW", "x-a"], "", "he\n-\nx-a\n", 1);
-    prints(&["maximize", "zh-TW"], "", "zh-Hant-TW\n", 0);
-    prints(&["minimize", "zh-Hant-TW"], "", "zh-TW\n", 0);
-    prints(
-        &["best", "zh-TW,zh;q=0.9", "en", "zh-Hans", "zh-Hant"],
-        "",
-        "zh-Hant\n",
-        0,
-    );
-    prints(&["best", "fi", "en"], "", "-\n", 1);
-    prints(&["distance", "de-AT", "de"], "", "4\n", 0);
-    prints(
-        &["match", "de-DE", "de-DE-1996", "de-Latn-DE", "fr"],
-        "",
-        "de-DE-1996\nde-Latn-DE\n",
-        0,
-    );
-    prints(
-        &[
-            "match",
-            "--basic",
-            "de-DE",
-            "de-DE-1996",
-            "de-Latn-DE",
-            "fr",
-        ],
-        "",
-        "de-DE-1996\n",
-        0,
-    );
-    prints(&["match", "de", "fr"], "", "", 1);
-    prints(&["--", "show", "--tsv"], "", "refused\n", 1);
-}
-
-#[test]
-fn lines() {
-    prints(&["canonical"], "iw\n\nfr\r\nzh-yue", "he\n-\n-\nyue\n", 1);
-    prints(&["canonical"], "", "", 0);
-    prints(&["best", "de"], "en\nde-CH\n", "de-CH\n", 0);
-    prints(&["best", "de"], "", "-\n", 1);
-    prints(
-        &["distance"],
-        "de-AT de\nde-AT\tde\n\nde_AT de\n",
-        "4\n4\n-\n-\n",
-        1,
-    );
-    prints(
-        &["match", "*-CH"],
-        "de-CH\nfr\nde_CH\nfr-CH",
-        "de-CH\nfr-CH\n",
-        0,
-    );
-}
-
-#[test]
-fn columns() {
-    prints(&["show", "--tsv", "sl-Latn-IT-rozaj-a-bb-x-c", "x-a", "i-lux", "a"], "", "sl-Latn-IT-rozaj-a-bb-x-c\tnormal\tsl\tLatn\tIT\trozaj\ta-bb\tx-c\tno\nx-a\tprivate\t\t\t\t\t\tx-a\t\ni-lux\tirregular\t\t\t\t\t\t\t\na\trefused\t\t\t\t\t\t\t\n", 1);
-    prints(&["--tsv", "check", "iw", "de-1996-1996", "a"], "", "iw\tvalid\t\t\the\nde-1996-1996\tinvalid\trepeated-variant\t1996\tde-1996-1996\na\trefused\t\t\t\n", 1);
-    prints(
-        &["maximize", "--tsv"],
-        "zh-TW\na\tb\n",
-        "zh-TW\tzh-Hant-TW\na\\tb\t-\n",
-        1,
-    );
-    prints(
-        &["match", "--tsv", "de", "de-CH", "fr", "a"],
-        "",
-        "de-CH\tyes\nfr\tno\na\t-\n",
-        0,
-    );
-    prints(
-        &["distance", "--tsv", "de", "de-CH"],
-        "",
-        "de\tde-CH\t4\n",
-        0,
-    );
-    prints(
-        &["best", "--tsv", "de,en", "en", "de"],
-        "",
-        "de,en\tde\n",
-        0,
-    );
-    prints(&["best", "--tsv", "fi", "en"], "", "fi\t-\n", 1);
-}
-
-#[test]
-fn explanations() {
-    says(&["show", "de-419-DE"], "langtag: invalid language tag `de-419-DE`: unexpected subtag `DE`\n    de-419-DE\n           ^^\n");
-    says(&["check", "zh_Hant"], "langtag: invalid language tag `zh_Hant`: invalid character `_`: expected a letter, a digit or a hyphen\n    zh_Hant\n      ^\n");
-    says(
-        &["canonical", "de--DE"],
-        "langtag: invalid language tag `de--DE`: empty subtag\n    de--DE\n       ^\n",
-    );
-    says(
-        &["canonical", "en-"],
-        "langtag: invalid language tag `en-`: unexpected end: expected a subtag\n    en-\n       ^\n",
-    );
-    says(&["maximize", "é-b"], "langtag: invalid language tag `é-b`: invalid character `é`: expected a letter, a digit or a hyphen\n    é-b\n    ^\n");
-    says(&["check", "fr-a-bb-A-cc"], "langtag: `fr-a-bb-A-cc` is not valid: singleton A is repeated\n    fr-a-bb-A-cc\n            ^\n");
-    says(&["check", "de-UK"], "langtag: `de-UK` is not valid: region UK is not registered: did you mean GB?\n    de-UK\n       ^^\n");
-    says(&["check", "de-CH-1996-1996"], "langtag: `de-CH-1996-1996` is not valid: variant 1996 is repeated\n    de-CH-1996-1996\n               ^^^^\n");
-    says(&["best", "de", "d!"], "langtag: invalid language tag `d!`: invalid character `!`: expected a letter, a digit or a hyphen\n    d!\n     ^\n");
-    says(&["show", "fr-FR"], "");
-}
-
-#[test]
-fn wrong_arguments() {
-    for (arguments, words) in [
-        (&[][..], "no command given"),
-        (&["shows"], "unknown command `shows`"),
-        (&["show", "--csv"], "unknown option `--csv`"),
-        (&["best"], "missing argument: best HEADER [TAG..]"),
-        (&["distance", "de"], "expected two tags: distance A B"),
-        (
-            &["distance", "a", "b", "c"],
-            "expected two tags: distance A B",
-        ),
-        (&["show", "--basic"], "`show` does not take --basic"),
-    ] {
-        says(
-            arguments,
-            &format!("langtag: {words}\nlangtag: try `langtag --help`\n"),
-        );
-        prints(arguments, "", "", 2);
-    }
-    says(
-        &["match", "d*", "de"],
-        "langtag: the first argument of `match` is not a language range\n",
-    );
-    prints(&["match", "d*", "de"], "", "", 2);
-}
-
-#[test]
 fn help_fits_a_screen() {
     let output = langtag(&["--help"], b"");
     let help = String::from_utf8(output.stdout).unwrap();
@@ -219,13 +121,6 @@ fn help_fits_a_screen() {
     );
     let version = String::from_utf8(langtag(&["-V"], b"").stdout).unwrap();
     assert!(version.starts_with("langtag ") && version.contains(langtag::registry::FILE_DATE));
-}
-
-#[test]
-fn what_is_not_utf_8() {
-    let output = langtag(&["show"], b"en\xff\nfr\0\nde");
-    let wanted = "refused\nrefused\nnormal language=de script= region= variants= extensions= private= repeats=no\n";
-    assert_eq!(String::from_utf8_lossy(&output.stdout), wanted);
 }
 
 /// Each line is answered before the next line is read.
@@ -261,56 +156,29 @@ fn answers_do_not_wait() {
 #[test]
 fn failures() {
     use std::fs::{File, OpenOptions};
-    let program = || {
-        let mut command = Command::new(env!("CARGO_BIN_EXE_langtag"));
-        command
-            .stdin(Stdio::null())
-            .stdout(Stdio::piped())
-            .stderr(Stdio::piped());
-        command
+    let ended = |command: &mut Command| {
+        let output = command.output().unwrap();
+        (
+            output.status.code(),
+            String::from_utf8(output.stderr).unwrap(),
+        )
     };
+    let program = || Command::new(env!("CARGO_BIN_EXE_langtag"));
     let full = || OpenOptions::new().write(true).open("/dev/full").unwrap();
-    for (output, said, status) in [
-        (
-            program()
-                .arg("show")
-                .stdin(File::open("/").unwrap())
-                .spawn()
-                .unwrap(),
-            "langtag: read failed\n",
-            4,
-        ),
-        (
-            program()
-                .args(["show", "de"])
-                .stdout(full())
-                .spawn()
-                .unwrap(),
-            "langtag: write failed\n",
-            5,
-        ),
-        (
-            program().arg("--help").stdout(full()).spawn().unwrap(),
-            "langtag: write failed\n",
-            5,
-        ),
-        (
-            Command::new("sh")
-                .args([
-                    "-c",
-                    "ulimit -v 100000; tr '\\0' a </dev/zero | head -c 200000000 | \"$0\" show",
-                ])
-                .arg(env!("CARGO_BIN_EXE_langtag"))
-                .stderr(Stdio::piped())
-                .spawn()
-                .unwrap(),
-            "langtag: out of memory\n",
-            3,
-        ),
-    ]
-    .map(|(child, said, status)| (child.wait_with_output().unwrap(), said, status))
-    {
-        let found = String::from_utf8(output.stderr).unwrap();
-        assert_eq!((output.status.code(), found.as_str()), (Some(status), said));
+    assert_eq!(
+        ended(program().arg("show").stdin(File::open("/").unwrap())),
+        (Some(4), "langtag: read failed\n".into())
+    );
+    for arguments in [&["show", "de"][..], &["--help"]] {
+        assert_eq!(
+            ended(program().args(arguments).stdout(full())),
+            (Some(5), "langtag: write failed\n".into())
+        );
     }
+    let limited = "ulimit -v 100000; tr '\\0' a </dev/zero | head -c 200000000 | \"$0\" show";
+    let path = env!("CARGO_BIN_EXE_langtag");
+    assert_eq!(
+        ended(Command::new("sh").args(["-c", limited, path])),
+        (Some(3), "langtag: out of memory\n".into())
+    );
 }

@@ -1,4 +1,4 @@
-//! Variants and singletons that occur twice in a tag (RFC 5646 sections 2.2.5, 2.2.6 and 2.2.9).
+//! Variants that occur twice among many (RFC 5646 sections 2.2.5 and 2.2.9). The rows ask for other repeats.
 use langtag::NormalLangTag;
 
 fn normal(text: &str) -> NormalLangTag<'_> {
@@ -9,50 +9,6 @@ fn normal(text: &str) -> NormalLangTag<'_> {
 fn repeated_variant<'a>(tag: &NormalLangTag<'a>) -> &'a str {
     tag.repeated_variant()
         .map_or("", |variant| variant.as_str())
-}
-
-/// Returns the byte of the first singleton that repeats an earlier singleton.
-fn repeated_singleton(tag: &NormalLangTag<'_>) -> Option<u8> {
-    Some(tag.repeated_singleton()?.unwrap())
-}
-
-/// Tags, and the first repeated variant and singleton of each, in their own case. The text is empty if nothing is repeated.
-const TWICE: [(&str, &str, &str); 14] = [
-    (
-        "Ri-063-c-u6v-ZfhkToTB-C-IFfmv-XT-j-rdyYFMhK-h-pY-D5-Oh6FqBhL-hcXt-v-WdpNx71-K-c74m4-eBTT7-JdH7Q1Z",
-        "",
-        "C",
-    ),
-    (
-        "PTow-w-cAQ51-8Xd6E-cumicgt-WpkZv3NY-q-ORYPRy-v-A4jL4A-iNEqQZZ-sjKn-W-N1F-pzyc-xP5eWz-LmsCiCcZ",
-        "",
-        "W",
-    ),
-    (
-        "tfOxdau-yjge-489-a-oB-I8Csb-1ESaK1v-VFNz-N-FT-ZQyn-On2-I-hu-vaW3-jIQb-vg0U-hUl-h-dO6KuJqB-U-tde2L-P3gHUY-vnl5c-RyO-H-gK1-zDPu-VF1oeh8W-kGzzvBbW-yuAJZ",
-        "",
-        "H",
-    ),
-    ("fr-a-bb-A-cc", "", "A"),
-    ("fr-1-aa-1-aa", "", "1"),
-    ("de-1996-1996", "1996", ""),
-    ("sl-rozaj-ROZAJ-rozaj", "ROZAJ", ""),
-    ("sl-rozaj-1994-1994-rozaj", "1994", ""),
-    ("sl-rozaj-1994-biske-1994", "1994", ""),
-    ("fr-a-bb-b-cc-B-dd-A-ee", "", "B"),
-    ("de-1996-Z-aa-0-bb-z-cc", "", "z"),
-    ("fr-a-bb-bb", "", ""),
-    ("ab-aaa-aaa", "", ""),
-    ("en-x-a-a", "", ""),
-];
-
-#[test]
-fn the_later_one_of_two_is_told() {
-    for (text, variant, singleton) in TWICE {
-        let tag = normal(text);
-        assert_eq!(repeated_variant(&tag), variant, "{text}");
-        assert_eq!(repeated_singleton(&tag), singleton.bytes().next(), "{text}");
-    }
 }
 
 /// The number of variants, the variants that replace a numbered variant at an index, and the repeated variant.
@@ -124,15 +80,4 @@ fn a_repeat_among_few_variants() {
 #[test]
 fn a_repeat_among_many_variants() {
     are_repeated(&MANY);
-}
-
-#[test]
-fn a_repeat_after_all_singletons() {
-    let mut text = String::from("en");
-    for letter in "0123456789abcdefghijklmnopqrstuvwyz".chars() {
-        text.push_str(&format!("-{letter}-aa"));
-    }
-    assert_eq!(repeated_singleton(&normal(&text)), None);
-    text.push_str("-Z-aa");
-    assert_eq!(repeated_singleton(&normal(&text)), Some(b'Z'));
 }

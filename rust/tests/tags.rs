@@ -1,8 +1,5 @@
 //! Tags of every kind, borrowed and owned: how they are displayed, stored and converted.
 #![cfg(all(feature = "alloc", feature = "data"))]
-use std::collections::HashMap;
-
-use langtag::registry::{preferred_language, validate, InvalidSubtag, FILE_DATE};
 use langtag::*;
 
 fn tag(text: &str) -> LangTag<'_> {
@@ -140,58 +137,6 @@ fn a_tag_is_made_of_its_parts() {
 }
 
 #[test]
-fn refusals_are_handed_on() {
-    fn kind_of(text: &str) -> Result<Kind, InvalidLangTag<&str>> {
-        let tag = LangTag::new(text)?;
-        Ok(tag.kind())
-    }
-    fn measured(text: &str) -> Result<(NormalLangTag<'_>, usize), InvalidNormalLangTag<&str>> {
-        let tag = NormalLangTag::new(text)?;
-        Ok((tag, tag.as_str().len()))
-    }
-    fn region(text: &str) -> Option<&str> {
-        let region = LangTag::new(text).ok()?.region()?;
-        Some(region.as_str())
-    }
-    fn registered(bytes: &[u8]) -> Result<GrandfatheredLangTag, InvalidGrandfatheredTag<&[u8]>> {
-        let tag = GrandfatheredLangTag::try_from(bytes)?;
-        Ok(tag)
-    }
-    assert_eq!(kind_of("x-a").unwrap(), Kind::PrivateUse);
-    assert_eq!(kind_of("ab--ab").unwrap_err().0, "ab--ab");
-    assert_eq!(measured("fr-FR").unwrap().1, 5);
-    assert_eq!(measured("x-a").unwrap_err().0, "x-a");
-    assert_eq!(
-        (region("fr-FR"), region("fr"), region("x-FR")),
-        (Some("FR"), None, None)
-    );
-    assert_eq!(registered(b"I-AMI").unwrap().as_str(), "i-ami");
-    assert_eq!(registered(b"\xff").unwrap_err().0, b"\xff");
-    let refused = registered(b"zh").unwrap_err();
-    assert_eq!(
-        format!("{refused:?}"),
-        "InvalidGrandfatheredTag([122, 104])"
-    );
-}
-
-#[test]
-fn owned_tags_are_handed_on() {
-    fn again(owned: LangTagBuf) -> Result<LangTagBuf, InvalidLangTag<String>> {
-        let again = LangTagBuf::new(owned.into_string())?;
-        Ok(again)
-    }
-    fn normal_again(
-        owned: NormalLangTagBuf,
-    ) -> Result<NormalLangTagBuf, InvalidNormalLangTag<String>> {
-        let again = NormalLangTagBuf::new(owned.into_string())?;
-        Ok(again)
-    }
-    assert_eq!(again(tag("i-ami").to_owned()).unwrap().as_str(), "i-ami");
-    let owned = normal("fr-FR").try_to_owned().unwrap();
-    assert_eq!(normal_again(owned).unwrap().as_str(), "fr-FR");
-}
-
-#[test]
 fn tags_are_chosen_by_a_closure() {
     /// Returns the first private use subtag, by a match on the type of the tag.
     fn first_private<'a>(tag: &TypedLangTag<'a>) -> Option<&'a str> {
@@ -215,62 +160,4 @@ fn tags_are_chosen_by_a_closure() {
     );
     let first = tags.map(|tag| first_private(&tag.as_typed()));
     assert_eq!(first, [None, Some("a"), None]);
-}
-
-/// The error of a caller for a text that is not a valid tag.
-#[derive(Debug)]
-enum Refused<'a> {
-    NotATag(InvalidLangTag<&'a str>),
-    NotValid(InvalidSubtag<'a>),
-}
-
-impl<'a> From<InvalidLangTag<&'a str>> for Refused<'a> {
-    fn from(refusal: InvalidLangTag<&'a str>) -> Self {
-        Refused::NotATag(refusal)
-    }
-}
-
-impl<'a> From<InvalidSubtag<'a>> for Refused<'a> {
-    fn from(fault: InvalidSubtag<'a>) -> Self {
-        Refused::NotValid(fault)
-    }
-}
-
-fn valid_tag(text: &str) -> Result<LangTag<'_>, Refused<'_>> {
-    let tag = LangTag::new(text)?;
-    validate(tag)?;
-    Ok(tag)
-}
-
-#[test]
-fn the_refusal_of_a_caller_tells_the_fault() {
-    for (text, wanted) in [
-        ("de-CH-1996", "valid"),
-        ("de--CH", "invalid language tag `de--CH`: empty subtag"),
-        ("Qt-FQ", "language Qt is not registered"),
-    ] {
-        let told = match valid_tag(text) {
-            Ok(_) => "valid".into(),
-            Err(Refused::NotATag(refusal)) => refusal.to_string(),
-            Err(Refused::NotValid(fault)) => fault.to_string(),
-        };
-        assert_eq!(told, wanted);
-    }
-}
-
-#[test]
-fn callers_of_the_registry() {
-    fn preferred(text: &str) -> Option<&'static str> {
-        let tag = valid_tag(text).ok()?;
-        Some(preferred_language(tag.as_normal()?.language().primary())?.as_str())
-    }
-    assert_eq!((preferred("IW-IL"), preferred("iw-FQ")), (Some("he"), None));
-    let mut counts = HashMap::new();
-    for text in ["de-1997", "DE-1997", "fr-FQ"] {
-        if let Err(Refused::NotValid(fault)) = valid_tag(text) {
-            *counts.entry(fault).or_insert(0) += 1;
-        }
-    }
-    assert_eq!(counts.len(), 2);
-    assert_eq!(FILE_DATE.len(), 10);
 }

@@ -7,7 +7,7 @@
 export const counts = (content) => Object.fromEntries(content.match(/^[\w-]+ \d$/gm).map((line) => [line.split(" ")[0], Number(line.at(-1))]));
 
 /** Returns [file, the least number of rows to be run] for each file of rows, from the content of rows/floors.txt. */
-export const floors = (content) => content.match(/^\w+\.txt.*/gm).map((line) => line.split(/ +/)).map((words) => [words[0], Number(words[4])]);
+export const floors = (content) => content.match(/^\w+\.txt.*/gm).map((line) => line.split(/ +/)).filter((words) => words[4] !== "-").map((words) => [words[0], Number(words[4])]);
 
 const expand = (line) => line.replace(/\{(\d+):([^}]*)\}/g, (_, count, piece) => piece.repeat(Number(count)));
 

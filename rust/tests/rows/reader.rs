@@ -38,19 +38,28 @@ fn folder() -> PathBuf {
         .expect("the rows are there")
 }
 
-/// Compares the answers to the given calls with the rows of a file, and prints the answers to questions. Panics if
-/// answers differ, with the first three differences, or if there are fewer rows than `floor`.
-pub fn ask(file: &str, calls: &[&str], floor: usize, answer: impl Fn(&Row) -> String) {
+/// Returns the least number of rows of a file, by the column `Rust` of floors.txt. A file that is not listed has many rows.
+fn floor_of(file: &str) -> usize {
+    let text = std::fs::read_to_string(folder().join("floors.txt")).unwrap();
+    let mut lines = text.lines().map(|line| line.split_whitespace());
+    let column = lines.nth(1).unwrap().position(|name| name == "Rust");
+    let floor = lines.find_map(|mut line| match line.next() {
+        Some(name) if name == file => line.nth(column.unwrap() - 1),
+        _ => None,
+    });
+    floor.map_or(1000, |number| number.parse().unwrap())
+}
+
+/// Compares the answers with the rows of a file, and prints the answers to questions. Panics if answers differ, with the
+/// first three differences, or if there are too few rows.
+pub fn ask(file: &str, answer: impl Fn(&Row) -> String) {
     let path = if file.contains('/') {
         PathBuf::from(file)
     } else {
         folder().join(file)
     };
-    let (mut asked, mut differing) = (Vec::new(), Vec::new());
+    let (mut asked, mut differing) = (0, Vec::new());
     for row in read(&path) {
-        if !calls.contains(&row.call.as_str()) {
-            continue;
-        }
         let found = catch_unwind(AssertUnwindSafe(|| answer(&row)));
         let found = found.unwrap_or_else(|_| "a panic, see above".into());
         if row.wanted.is_empty() {
@@ -61,15 +70,21 @@ pub fn ask(file: &str, calls: &[&str], floor: usize, answer: impl Fn(&Row) -> St
                 "{place}: {text:.300}\n  wanted {wanted:.300}\n  found  {found:.300}\n"
             ));
         }
-        asked.push(row.call);
+        asked += 1;
     }
-    println!("{file}: {} rows", asked.len());
+    println!("{file}: {asked} rows");
     let told = differing[..differing.len().min(3)].concat();
     assert!(differing.is_empty(), "{told}{} differ", differing.len());
-    assert!(asked.len() >= floor, "{file}: only {} rows", asked.len());
-    for call in calls {
-        assert!(asked.iter().any(|it| it == call), "no row asks {call}");
+    assert!(asked >= floor_of(file), "{file}: only {asked} rows");
+}
+
+/// Returns the calls that no row of some files asks.
+pub fn never_asked(files: &[&str]) -> Vec<String> {
+    let mut calls = argument_counts();
+    for row in files.iter().flat_map(|file| read(&folder().join(file))) {
+        calls.remove(&row.call);
     }
+    calls.into_keys().collect()
 }
 
 fn read(path: &PathBuf) -> Vec<Row> {
@@ -165,6 +180,26 @@ pub fn list<'a>(texts: impl Iterator<Item = &'a str>) -> String {
 /// Returns the length of what was written to a buffer, or the length that the buffer would have to have.
 pub fn length(written: Result<&str, langtag::TooShort>) -> usize {
     written.map_or_else(|error| error.needed(), str::len)
+}
+
+/// Checks that a call writes a form to a longer buffer and to a buffer of its length, and returns its length for any buffer.
+pub fn check_written(form: &str, write: impl Fn(&mut [u8]) -> usize) {
+    for room in [form.len() - 1, form.len(), form.len() + 1] {
+        let mut buffer = vec![b'~'; room];
+        assert_eq!(write(&mut buffer), form.len(), "{form}");
+        if let Some((begin, rest)) = buffer.split_at_checked(form.len()) {
+            assert_eq!(begin, form.as_bytes());
+            assert!(rest.iter().all(|byte| *byte == b'~'), "{form}");
+        }
+    }
+}
+
+/// Checks the same, and that nothing is written to a shorter buffer.
+pub fn check_buffer(form: &str, write: impl Fn(&mut [u8]) -> usize) {
+    check_written(form, &write);
+    let mut buffer = vec![b'~'; form.len() - 1];
+    write(&mut buffer);
+    assert!(buffer.iter().all(|byte| *byte == b'~'), "{form}");
 }
 
 /// Returns bytes as rows write them.

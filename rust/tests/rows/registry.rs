@@ -3,7 +3,7 @@ use langtag::erased::registry::fault_at;
 use langtag::registry::*;
 use langtag::*;
 
-use crate::reader::{length, words};
+use crate::reader::{check_buffer, length, words};
 
 /// Returns the first fault of a tag, and the offset of its subtag.
 pub fn validity(text: &str) -> String {
@@ -63,12 +63,7 @@ pub fn canonical_form(text: &str) -> String {
         (is_canonical(tag), is_canonical(form.as_lang_tag())),
         (tag == form, true)
     );
-    let (len, mut buffer) = (form.len(), vec![b'~'; form.len() + 1]);
-    assert_eq!(length(write_canonical(tag, &mut buffer)), len);
-    assert_eq!((&buffer[..len], buffer[len]), (form.as_bytes(), b'~'));
-    buffer.fill(b'~');
-    assert_eq!(length(write_canonical(tag, &mut buffer[..len - 1])), len);
-    assert!(buffer.iter().all(|byte| *byte == b'~'));
+    check_buffer(&form, |buffer| length(write_canonical(tag, buffer)));
     form.into_string()
 }
 

@@ -102,12 +102,8 @@ fn repeats(tag: &NormalLangTag<'_>, line: &mut impl FnMut(&str, &str)) {
     }
 }
 
-/// Checks that different calls return the same values for a tag.
-fn check_twice(tag: LangTag<'_>) {
-    let (text, owned) = (tag.as_str(), tag.to_owned());
-    let subtags: Vec<&str> = text.split('-').collect();
-    assert!(tag.subtags().eq(subtags.iter().copied()));
-    assert!(owned.subtags().rev().eq(subtags.iter().rev().copied()));
+/// Checks that an owned tag has the parts of another tag.
+pub fn check_parts(owned: &LangTagBuf, tag: LangTag<'_>) {
     assert_eq!(
         (owned.kind(), owned.language(), owned.script()),
         (tag.kind(), tag.language(), tag.script())
@@ -120,6 +116,15 @@ fn check_twice(tag: LangTag<'_>) {
         (owned.extensions(), owned.private_use()),
         (tag.extensions(), tag.private_use())
     );
+}
+
+/// Checks that different calls return the same values for a tag.
+fn check_twice(tag: LangTag<'_>) {
+    let (text, owned) = (tag.as_str(), tag.to_owned());
+    let subtags: Vec<&str> = text.split('-').collect();
+    assert!(tag.subtags().eq(subtags.iter().copied()));
+    assert!(owned.subtags().rev().eq(subtags.iter().rev().copied()));
+    check_parts(&owned, tag);
     assert_eq!(
         (tag.is_normal(), tag.as_normal().is_some()),
         (tag.kind().is_normal(), tag.is_normal())

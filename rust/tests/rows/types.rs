@@ -68,6 +68,7 @@ macro_rules! seen {
                 assert!(
                     lent == upper.as_str()
                         && upper == owned
+                        && owned == upper
                         && owned == lent
                         && lent == $name::from(&owned)
                 );
@@ -96,72 +97,39 @@ macro_rules! seen {
     }};
 }
 
-/// All text types except the type of ranges, which accepts many texts that are not a part of a tag.
-const TYPES: [&str; 15] = [
-    "PrimaryLanguage",
-    "ExtendedLangTag",
-    "LanguageExtension",
-    "Language",
-    "Script",
-    "Region",
-    "Variant",
-    "Variants",
-    "ExtensionSubtag",
-    "Extension",
-    "Extensions",
-    "PrivateUseSubtag",
-    "PrivateUse",
-    "NormalLangTag",
-    "LangTag",
-];
+macro_rules! types {
+    ($($name:ident $owned:ident $lend:ident;)+) => {
+        /// The text types.
+        const TYPES: &[&str] = &[$(stringify!($name)),+];
 
-/// Returns `accepted` if a type accepts a text, or otherwise the message of the error.
-pub fn new(name: &str, text: &str) -> String {
-    match name {
-        "PrimaryLanguage" => seen!(
-            PrimaryLanguage,
-            PrimaryLanguageBuf,
-            as_primary_language,
-            text
-        ),
-        "ExtendedLangTag" => seen!(
-            ExtendedLangTag,
-            ExtendedLangTagBuf,
-            as_extended_lang_tag,
-            text
-        ),
-        "LanguageExtension" => seen!(
-            LanguageExtension,
-            LanguageExtensionBuf,
-            as_language_extension,
-            text
-        ),
-        "Language" => seen!(Language, LanguageBuf, as_language, text),
-        "Script" => seen!(Script, ScriptBuf, as_script, text),
-        "Region" => seen!(Region, RegionBuf, as_region, text),
-        "Variant" => seen!(Variant, VariantBuf, as_variant, text),
-        "Variants" => seen!(Variants, VariantsBuf, as_variants, text),
-        "ExtensionSubtag" => seen!(
-            ExtensionSubtag,
-            ExtensionSubtagBuf,
-            as_extension_subtag,
-            text
-        ),
-        "Extension" => seen!(Extension, ExtensionBuf, as_extension, text),
-        "Extensions" => seen!(Extensions, ExtensionsBuf, as_extensions, text),
-        "PrivateUseSubtag" => seen!(
-            PrivateUseSubtag,
-            PrivateUseSubtagBuf,
-            as_private_use_subtag,
-            text
-        ),
-        "PrivateUse" => seen!(PrivateUse, PrivateUseBuf, as_private_use, text),
-        "NormalLangTag" => seen!(NormalLangTag, NormalLangTagBuf, as_normal_lang_tag, text),
-        "LangTag" => seen!(LangTag, LangTagBuf, as_lang_tag, text),
-        "LanguageRange" => seen!(LanguageRange, LanguageRangeBuf, as_language_range, text),
-        "Singleton" => singleton(text),
-        _ => panic!("no type: {name}"),
-    }
+        /// Returns `accepted` if a type accepts a text, or otherwise the message of the error.
+        pub fn new(name: &str, text: &str) -> String {
+            match name {
+                $(stringify!($name) => seen!($name, $owned, $lend, text),)+
+                "Singleton" => singleton(text),
+                _ => panic!("no type: {name}"),
+            }
+        }
+    };
+}
+
+types! {
+    PrimaryLanguage PrimaryLanguageBuf as_primary_language;
+    ExtendedLangTag ExtendedLangTagBuf as_extended_lang_tag;
+    LanguageExtension LanguageExtensionBuf as_language_extension;
+    Language LanguageBuf as_language;
+    Script ScriptBuf as_script;
+    Region RegionBuf as_region;
+    Variant VariantBuf as_variant;
+    Variants VariantsBuf as_variants;
+    ExtensionSubtag ExtensionSubtagBuf as_extension_subtag;
+    Extension ExtensionBuf as_extension;
+    Extensions ExtensionsBuf as_extensions;
+    PrivateUseSubtag PrivateUseSubtagBuf as_private_use_subtag;
+    PrivateUse PrivateUseBuf as_private_use;
+    NormalLangTag NormalLangTagBuf as_normal_lang_tag;
+    LangTag LangTagBuf as_lang_tag;
+    LanguageRange LanguageRangeBuf as_language_range;
 }
 
 /// Returns how a singleton is displayed, or the message of the error.
@@ -181,11 +149,10 @@ fn singleton(text: &str) -> String {
     }
 }
 
+/// Returns the types that accept a text, without the type of ranges, which accepts many texts that are not a part of a tag.
 pub fn types(text: &str) -> String {
-    let accepted = TYPES
-        .iter()
-        .copied()
-        .filter(|name| new(name, text) == "accepted");
+    let parts = TYPES.iter().copied().filter(|it| *it != "LanguageRange");
+    let accepted = parts.filter(|name| new(name, text) == "accepted");
     let grandfathered = GrandfatheredLangTag::new(text.as_bytes()).is_ok();
     list(accepted.chain(grandfathered.then_some("GrandfatheredLangTag")))
 }

@@ -1,8 +1,8 @@
 //! Calls of the extensions `u` and `t`.
 use langtag::unicode::*;
-use langtag::{LangTag, LangTagBuf};
+use langtag::LangTag;
 
-use crate::reader::{length, list, words};
+use crate::reader::{check_written, length, list, words};
 
 fn tag(text: &str) -> LangTag<'_> {
     LangTag::new(text).expect("the row has a tag")
@@ -47,62 +47,29 @@ pub fn is_identifier(text: &str) -> String {
     is.into()
 }
 
-/// Returns the length of what is written to a buffer, or the length that the buffer would have to have.
-fn locale_len(text: &str, buffer: &mut [u8]) -> Option<usize> {
-    match write_locale_form(tag(text), buffer) {
-        Ok(written) => written.map(str::len),
-        Err(error) => Some(error.needed()),
-    }
-}
-
-/// Returns the form, which must be a Unicode locale identifier and its own form. It must be written to a buffer of its
-/// length, and its length returned for a shorter buffer.
+/// Returns the form, which must be a Unicode locale identifier and its own form.
 pub fn whole_form(text: &str) -> String {
-    let Some(len) = locale_len(text, &mut []) else {
+    let Some(form) = locale_form(tag(text)) else {
         assert!(!is_locale(tag(text)), "{text}");
+        assert_eq!(write_locale_form(tag(text), &mut []), Ok(None), "{text}");
         return "-".into();
     };
-    let mut buffer = vec![b'!'; len];
-    assert_eq!(locale_len(text, &mut buffer[1..]), Some(len), "{text}");
-    assert_eq!(buffer[0], b'!', "{text}");
-    assert_eq!(locale_len(text, &mut buffer), Some(len), "{text}");
-
-    let form = String::from_utf8(buffer).expect("the form is a text");
-    let mut again = vec![0; len];
-    assert!(is_locale(tag(&form)), "{text}");
-    assert_eq!(locale_len(&form, &mut again), Some(len), "{text}");
-    assert_eq!(form.as_bytes(), again, "{text}");
-    let owned = locale_form(tag(text));
-    assert_eq!(
-        owned.as_ref().map(LangTagBuf::as_str),
-        Some(&*form),
-        "{text}"
-    );
-    form
+    assert!(is_locale(&form), "{text}");
+    assert_eq!(locale_form(&form).unwrap().as_str(), form.as_str());
+    check_written(&form, |buffer| {
+        length(write_locale_form(tag(text), buffer).map(Option::unwrap))
+    });
+    form.into_string()
 }
 
-/// Returns the form. It must be its own form, and must be written to a buffer of its length, and its length returned for a
-/// shorter buffer.
+/// Returns the form, which must be its own form.
 pub fn form(text: &str) -> String {
     let form = extensions_form(tag(text));
-    let again = extensions_form(&form);
-    assert_eq!(again.as_str(), form.as_str(), "{text}");
-
-    let mut buffer = vec![b'!'; form.as_str().len()];
-    let short = buffer.len() - 1;
-    assert_eq!(
-        length(write_extensions_form(tag(text), &mut buffer[..short])),
-        short + 1,
-        "{text}"
-    );
-    assert_eq!(buffer[short], b'!', "{text}");
-    assert_eq!(
-        length(write_extensions_form(tag(text), &mut buffer)),
-        short + 1,
-        "{text}"
-    );
-    assert_eq!(buffer, form.as_str().as_bytes(), "{text}");
-    form.as_str().into()
+    assert_eq!(extensions_form(&form).as_str(), form.as_str(), "{text}");
+    check_written(&form, |buffer| {
+        length(write_extensions_form(tag(text), buffer))
+    });
+    form.into_string()
 }
 
 /// Returns the tag with a keyword set, or removed if the value is `-`, as an owned tag becomes it. A buffer of the length that the

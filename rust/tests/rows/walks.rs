@@ -28,48 +28,27 @@ macro_rules! walked {
 }
 
 pub fn walk(list: &str, pattern: &str, text: &str) -> String {
+    /// A walk over a list, unless the text is none.
+    macro_rules! of {
+        ($name:ident, $walk:ident, $back:ident) => {
+            walked!($name::new(text).ok().map(|it| it.$walk()), pattern, $back)
+        };
+    }
     match list {
         "Subtags" => walked!(Some(Subtags::new(text)), pattern, next_back),
-        "LangTag" => walked!(
-            LangTag::new(text).ok().map(|tag| tag.subtags()),
-            pattern,
-            next_back
-        ),
-        "NormalLangTag" => walked!(
-            NormalLangTag::new(text).ok().map(|tag| tag.subtags()),
-            pattern,
-            next_back
-        ),
-        "Variants" => walked!(
-            Variants::new(text).ok().map(|list| {
-                let (mut first, mut last) = (list.iter(), list.iter());
-                assert_eq!(list.first(), first.next(), "{text}");
-                assert_eq!(list.last(), last.next_back(), "{text}");
-                list.iter()
-            }),
-            pattern,
-            next_back
-        ),
-        "LanguageExtension" => walked!(
-            LanguageExtension::new(text).ok().map(|list| list.iter()),
-            pattern,
-            next
-        ),
-        "Extensions" => walked!(
-            Extensions::new(text).ok().map(|list| list.into_iter()),
-            pattern,
-            next
-        ),
-        "Extension" => walked!(
-            Extension::new(text).ok().map(|list| list.into_iter()),
-            pattern,
-            next
-        ),
-        "PrivateUse" => walked!(
-            PrivateUse::new(text).ok().map(|list| list.into_iter()),
-            pattern,
-            next
-        ),
+        "LangTag" => of!(LangTag, subtags, next_back),
+        "NormalLangTag" => of!(NormalLangTag, subtags, next_back),
+        "Variants" => {
+            if let Ok(list) = Variants::new(text) {
+                assert_eq!(list.first(), list.iter().next(), "{text}");
+                assert_eq!(list.last(), list.iter().next_back(), "{text}");
+            }
+            of!(Variants, iter, next_back)
+        }
+        "LanguageExtension" => of!(LanguageExtension, iter, next),
+        "Extensions" => of!(Extensions, into_iter, next),
+        "Extension" => of!(Extension, into_iter, next),
+        "PrivateUse" => of!(PrivateUse, into_iter, next),
         _ => panic!("no list: {list}"),
     }
 }

@@ -21,16 +21,16 @@ pub struct Answer {
 }
 
 impl Answer {
-    /// Returns the answer for a line: its columns, after the text itself if they are separated by
-    /// tabs.
-    fn of(text: &[u8], columns: &[&str], options: &Options, between: &str) -> Answer {
-        let mut line = Vec::new();
+    /// Returns the answer about a text: some words, or with `--tsv` the text and the columns.
+    fn of(text: &[u8], columns: &[&str], words: &str, options: &Options) -> Answer {
+        let mut line = words.as_bytes().to_vec();
         if options.tsv {
-            line.extend_from_slice(&without_tabs(text));
-            line.push(b'\t');
+            line = without_tabs(text);
+            for column in columns {
+                line.push(b'\t');
+                line.extend_from_slice(column.as_bytes());
+            }
         }
-        let between = if options.tsv { "\t" } else { between };
-        line.extend_from_slice(columns.join(between).as_bytes());
         Answer {
             line: Some(line),
             good: true,
@@ -92,17 +92,16 @@ impl<'a> Asked<'a> {
     }
 
     fn form(&self, tag: LangTag<'_>, form: &LangTagBuf) -> Answer {
-        Answer::of(tag.as_bytes(), &[form.as_str()], self.options, "")
+        Answer::of(tag.as_bytes(), &[form], form, self.options)
     }
 
     fn refused(&self, text: &[u8]) -> Answer {
         let columns: &[&str] = match self.command {
-            Command::Show if self.options.tsv => &["refused", "", "", "", "", "", "", ""],
-            Command::Check if self.options.tsv => &["refused", "", "", ""],
-            Command::Show | Command::Check => &["refused"],
+            Command::Show => &["refused", "", "", "", "", "", "", ""],
+            Command::Check => &["refused", "", "", ""],
             _ => &["-"],
         };
-        let mut answer = Answer::of(text, columns, self.options, "");
+        let mut answer = Answer::of(text, columns, columns[0], self.options);
         if self.command == Command::Match && !self.options.tsv {
             answer.line = None;
         }
@@ -117,17 +116,11 @@ impl<'a> Asked<'a> {
                 range.matches_extended(tag)
             }
         });
-        let columns = if is_matched { "yes" } else { "no" };
-        let line = match (self.options.tsv, is_matched) {
-            (true, _) => Answer::of(tag.as_bytes(), &[columns], self.options, "").line,
-            (false, true) => Some(tag.as_bytes().to_vec()),
-            (false, false) => None,
-        };
-        Answer {
-            line,
-            good: is_matched,
-            reason: None,
-        }
+        let column = if is_matched { "yes" } else { "no" };
+        let mut answer = Answer::of(tag.as_bytes(), &[column], &tag, self.options);
+        answer.line = answer.line.filter(|_| self.options.tsv || is_matched);
+        answer.good = is_matched;
+        answer
     }
 }
 
@@ -145,27 +138,24 @@ fn show(tag: LangTag<'_>, options: &Options) -> Answer {
     match tag.as_typed() {
         TypedLangTag::Normal(tag) => {
             let parts = parts_of(&tag);
-            if options.tsv {
-                let mut columns = vec!["normal"];
-                columns.extend(parts.map(|(_, part)| part));
-                return Answer::of(text, &columns, options, "");
-            }
+            let mut columns = vec!["normal"];
+            columns.extend(parts.map(|(_, part)| part));
             let named = parts.map(|(name, part)| format!(" {name}={part}"));
-            Answer::of(text, &[&format!("normal{}", named.concat())], options, "")
+            Answer::of(
+                text,
+                &columns,
+                &format!("normal{}", named.concat()),
+                options,
+            )
         }
-        TypedLangTag::PrivateUse(tag) => whole("private", text, tag.as_str(), options),
-        TypedLangTag::Grandfathered(tag) => whole("irregular", text, tag.as_str(), options),
-    }
-}
-
-/// Returns the answer for a tag that is not made of parts.
-fn whole(kind: &str, text: &[u8], tag: &str, options: &Options) -> Answer {
-    match options.tsv {
-        true if kind == "private" => {
-            Answer::of(text, &[kind, "", "", "", "", "", tag, ""], options, "")
+        TypedLangTag::PrivateUse(tag) => {
+            let columns = ["private", "", "", "", "", "", &tag, ""];
+            Answer::of(text, &columns, &format!("private {tag}"), options)
         }
-        true => Answer::of(text, &[kind, "", "", "", "", "", "", ""], options, ""),
-        false => Answer::of(text, &[kind, tag], options, " "),
+        TypedLangTag::Grandfathered(tag) => {
+            let columns = ["irregular", "", "", "", "", "", "", ""];
+            Answer::of(text, &columns, &format!("irregular {tag}"), options)
+        }
     }
 }
 
@@ -188,75 +178,52 @@ fn parts_of<'a>(tag: &NormalLangTag<'a>) -> [(&'static str, &'a str); 7] {
 
 /// Returns the line of `check`. The proved program prints the same line.
 fn check(tag: LangTag<'_>, options: &Options) -> Result<Answer, Failure> {
-    let form = try_canonical(tag)?;
+    let (text, form) = (tag.as_bytes(), try_canonical(tag)?);
     let Err(invalid) = validate(tag) else {
-        let columns: &[&str] = if options.tsv {
-            &["valid", "", "", &form]
-        } else {
-            &["valid", &format!("canonical={form}")]
-        };
-        return Ok(Answer::of(tag.as_bytes(), columns, options, " "));
+        let words = format!("valid canonical={form}");
+        return Ok(Answer::of(text, &["valid", "", "", &form], &words, options));
     };
-    let (what, subtag) = fault_of(&invalid);
-    let answer = if options.tsv {
-        Answer::of(
-            tag.as_bytes(),
-            &["invalid", what, &subtag, &form],
-            options,
-            "",
-        )
-    } else {
-        Answer::of(
-            tag.as_bytes(),
-            &[
-                "invalid",
-                &format!("{what}={subtag}"),
-                &format!("canonical={form}"),
-            ],
-            options,
-            " ",
-        )
-    };
-    Ok(answer.because(pointer::invalid(tag, &invalid)))
+    let (what, subtag) = fault_of(tag, &invalid);
+    let words = format!("invalid {what}={subtag} canonical={form}");
+    let answer = Answer::of(text, &["invalid", what, subtag, &form], &words, options);
+    Ok(answer.because(pointer::invalid(tag, &invalid, subtag)))
 }
 
-/// Returns the word for the fault, and the subtag.
-fn fault_of(invalid: &InvalidSubtag<'_>) -> (&'static str, String) {
+/// Returns the word for the fault, and the subtag, which is a slice of the tag.
+fn fault_of<'a>(tag: LangTag<'a>, invalid: &InvalidSubtag<'a>) -> (&'static str, &'a str) {
     match invalid {
-        InvalidSubtag::Language(subtag) => ("language", subtag.to_string()),
-        InvalidSubtag::Extlang(subtag) => ("extlang", subtag.to_string()),
-        InvalidSubtag::SecondExtlang(subtag) => ("second-extlang", subtag.to_string()),
-        InvalidSubtag::Script(subtag) => ("script", subtag.to_string()),
-        InvalidSubtag::Region(subtag) => ("region", subtag.to_string()),
-        InvalidSubtag::Variant(subtag) => ("variant", subtag.to_string()),
-        InvalidSubtag::RepeatedVariant(subtag) => ("repeated-variant", subtag.to_string()),
-        InvalidSubtag::RepeatedSingleton(singleton) => {
-            ("repeated-singleton", singleton.to_string())
-        }
-        _ => ("fault", invalid.to_string()),
+        InvalidSubtag::Language(subtag) => ("language", subtag.as_str()),
+        InvalidSubtag::Extlang(subtag) => ("extlang", subtag.as_str()),
+        InvalidSubtag::SecondExtlang(subtag) => ("second-extlang", subtag.as_str()),
+        InvalidSubtag::Script(subtag) => ("script", subtag.as_str()),
+        InvalidSubtag::Region(subtag) => ("region", subtag.as_str()),
+        InvalidSubtag::Variant(subtag) => ("variant", subtag.as_str()),
+        InvalidSubtag::RepeatedVariant(subtag) => ("repeated-variant", subtag.as_str()),
+        _ => ("repeated-singleton", repeated_singleton(tag)),
     }
+}
+
+/// Returns the first singleton that repeats an earlier singleton, as a slice of the tag.
+fn repeated_singleton(tag: LangTag<'_>) -> &str {
+    let index = tag
+        .as_normal()
+        .and_then(|tag| tag.repeated_singleton_index());
+    let extension = index.and_then(|index| tag.extensions().iter().nth(index));
+    extension.map_or(tag.as_str(), |extension| &extension.as_str()[..1])
 }
 
 /// Returns the answer of `best`: the best tag for the header.
 pub fn best(options: &Options, texts: &[Vec<u8>]) -> Result<Answer, Failure> {
+    let told = |tag: &str| Answer::of(&options.first, &[tag], tag, options);
     let mut tags = Vec::new();
     for text in texts {
         match LangTag::from_bytes(text) {
             Ok(tag) => tags.push(tag),
-            Err(_) => {
-                return Ok(
-                    Answer::of(&options.first, &["-"], options, "").because(pointer::refused(text))
-                )
-            }
+            Err(_) => return Ok(told("-").because(pointer::refused(text))),
         }
     }
     let best = best_for_header(&options.first, &tags).map(|index| tags[index]);
-    let mut answer = Answer::of(
-        &options.first,
-        &[best.map_or("-", |tag| tag.as_str())],
-        options,
-        "",
-    );
+    let mut answer = told(best.map_or("-", |tag| tag.as_str()));
     answer.good = best.is_some();
     Ok(answer)
 }
@@ -283,10 +250,5 @@ pub fn distance_of(desired: &[u8], supported: &[u8], options: &Options) -> Answe
 
 fn between(desired: &[u8], supported: &[u8], distance: &str, options: &Options) -> Answer {
     let supported = String::from_utf8_lossy(supported);
-    let columns: &[&str] = if options.tsv {
-        &[&supported, distance]
-    } else {
-        &[distance]
-    };
-    Answer::of(desired, columns, options, "")
+    Answer::of(desired, &[&supported, distance], distance, options)
 }

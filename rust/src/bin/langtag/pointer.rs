@@ -18,32 +18,14 @@ pub fn refused(text: &[u8]) -> String {
     format!("{error}{}", underlined(text, marked))
 }
 
-/// Says why a tag is not valid.
-pub fn invalid(tag: LangTag<'_>, invalid: &InvalidSubtag<'_>) -> String {
-    let text = tag.as_str();
-    let subtag = match invalid {
-        InvalidSubtag::Language(subtag) => subtag.as_str(),
-        InvalidSubtag::Extlang(subtag) | InvalidSubtag::SecondExtlang(subtag) => subtag.as_str(),
-        InvalidSubtag::Script(subtag) => subtag.as_str(),
-        InvalidSubtag::Region(subtag) => subtag.as_str(),
-        InvalidSubtag::Variant(subtag) | InvalidSubtag::RepeatedVariant(subtag) => subtag.as_str(),
-        _ => repeated_singleton(tag),
-    };
-    let start = subtag.as_ptr() as usize - text.as_ptr() as usize;
-    let shown = shown(tag.as_bytes());
+/// Says why a tag is not valid. The subtag is a slice of the tag.
+pub fn invalid(tag: LangTag<'_>, invalid: &InvalidSubtag<'_>, subtag: &str) -> String {
+    let start = subtag.as_ptr() as usize - tag.as_str().as_ptr() as usize;
+    let marked = underlined(tag.as_bytes(), start..start + subtag.len());
     format!(
-        "`{shown}` is not valid: {invalid}{}",
-        underlined(tag.as_bytes(), start..start + subtag.len())
+        "`{}` is not valid: {invalid}{marked}",
+        shown(tag.as_bytes())
     )
-}
-
-/// Returns the first singleton that repeats an earlier singleton, as a slice of the tag.
-fn repeated_singleton(tag: LangTag<'_>) -> &str {
-    let index = tag
-        .as_normal()
-        .and_then(|tag| tag.repeated_singleton_index());
-    let extension = index.and_then(|index| tag.extensions().iter().nth(index));
-    extension.map_or(tag.as_str(), |extension| &extension.as_str()[..1])
 }
 
 /// Returns a text that a terminal can show: without control characters, and shortened if it is
