@@ -116,7 +116,8 @@ mod text_types;
 mod forms;
 
 // The modules that rust/erase makes. Some items are only for the C library, or for crates of
-// Rattle.
+// Rattle. It is public because the examples of proved functions run as tests, which see only
+// public items.
 #[doc(hidden)]
 #[allow(dead_code, unused_imports, missing_docs)]
 // For a few keys, `contains` takes longer than `iter().any()`.
