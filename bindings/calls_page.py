@@ -1,5 +1,5 @@
 """Writes docs/CALLS.md and the table of README from bindings/calls.txt: a row for a task, and a column for a language. A name is linked to
-the first section of the language's page that shows it in code, if there is one."""
+the first section of the language's page that shows it in code, or else names it, if there is one."""
 from __future__ import annotations
 
 import pathlib
@@ -67,14 +67,32 @@ def pattern(name: str) -> str:
     return rf"(?<![\w]){re.escape(last)}(?!\w)"
 
 
-def sections(text: str) -> list[tuple[str, str]]:
-    """Returns the anchor of each section of a page, and the code in it."""
+def shown_in(block: str) -> str:
+    """Returns the code of a fenced block without its strings, comments, imports and the output of Python's sessions."""
+    session = re.findall(r"(?m)^(?:>>>|\.\.\.) .*", block)
+    block = "\n".join(session) or block
+    block = re.sub(r'"[^"\n]*"|\'[^\'\n]*\'|/\*.*?\*/|(?://|-- |# ).*', " ", block)
+    return re.sub(r"(?m)^.*\bimport\b.*|^use .*|^```.*", "", block)
+
+
+class Section(NamedTuple):
+    """A section of a page: its anchor, the code that it shows, and the names that its text has in backticks."""
+
+    anchor: str
+    shown: str
+    named: str
+
+
+def sections(text: str) -> list[Section]:
+    """Returns the sections of a page, without those that install something."""
     found = []
     for part in re.split(r"(?m)^(?=## )", text)[1:]:
         heading, _, body = part.partition("\n")
         anchor = re.sub(r"[^\w -]", "", heading[3:].lower()).replace(" ", "-")
-        found.append((anchor, "\n".join(re.findall(r"(?ms)^```.*?^```|`[^`\n]+`", body))))
-    return [it for it in found if it[0] != "install"]
+        blocks = re.findall(r"(?ms)^```(?!sh|console).*?^```", body)
+        named = re.findall(r"`[^`\n]+`", re.sub(r"(?ms)^```.*?^```", "", body))
+        found.append(Section(anchor, "\n".join(map(shown_in, blocks)), "\n".join(named)))
+    return [it for it in found if it.anchor != "install"]
 
 
 class Linker:
@@ -86,10 +104,11 @@ class Linker:
         self.known = "".join((root / name).read_text(encoding="utf-8") for name in language.names.split())
 
     def linked(self, name: str) -> str:
-        """Returns a name with a link to the first section of the language's page that has it."""
-        for anchor, code in self.sections:
-            if re.search(pattern(name), code) and len(name) > 2:
-                return f"[`{name}`]({relative(self.language.page)}#{anchor})"
+        """Returns a name with a link to the first section of the language's page that shows it in code, or else names it."""
+        for code in ("shown", "named") if len(name) > 2 else ():
+            for section in self.sections:
+                if re.search(pattern(name), getattr(section, code)):
+                    return f"[`{name}`]({relative(self.language.page)}#{section.anchor})"
         return f"`{name}`"
 
     def cell(self, text: str) -> str:

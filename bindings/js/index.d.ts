@@ -188,20 +188,20 @@ export declare class LanguageTag {
     get repeatedVariant(): string | undefined;
     /** The first singleton that equals an earlier one, ignoring case. Such a tag is well-formed but not valid. */
     get repeatedSingleton(): string | undefined;
-    /** Whether the tag is valid (RFC 5646 section 2.2.9) by the registry of REGISTRY_DATE. Deprecated subtags are valid. */
+    /** Whether the tag is valid (RFC 5646 section 2.2.9) according to the registry of REGISTRY_DATE. Deprecated subtags are valid. */
     get isValid(): boolean;
     /** The first subtag that makes the tag invalid, or undefined if it is valid. */
     get invalidSubtag(): InvalidSubtag | undefined;
     /** Whether the tag equals its canonical form, ignoring case. */
     get isCanonical(): boolean;
-    /** Returns the canonical form (RFC 5646 section 4.5) by the registry of REGISTRY_DATE: iw becomes he, zh-yue becomes yue. */
+    /** Returns the canonical form (RFC 5646 section 4.5) according to that registry: iw becomes he, zh-yue becomes yue. */
     canonical(): LanguageTag;
     /**
-     * Returns the tag with its likely subtags (UTS #35), by CLDR_VERSION: zh-TW becomes zh-Hant-TW. Deprecated subtags stay, and get the
+     * Returns the tag with its likely subtags (UTS #35): zh-TW becomes zh-Hant-TW. Deprecated subtags stay, and get the
      * likely subtags of their replacements: iw becomes iw-Hebr-IL. To replace them, call localeForm first.
      */
     maximize(): LanguageTag;
-    /** Returns the tag without its likely subtags (UTS #35), by CLDR_VERSION: zh-Hant-TW becomes zh-TW. */
+    /** Returns the tag without its likely subtags (UTS #35): zh-Hant-TW becomes zh-TW. */
     minimize(): LanguageTag;
     /** Whether the tag is written from right to left, by its script or its likely script: true for he, pa-PK and az-Arab. */
     get isRightToLeft(): boolean;
@@ -212,15 +212,15 @@ export declare class LanguageTag {
     /** Returns the 64-bit FNV-1a hash of the lowercase text, which is the same in every program. It is not safe against hash flooding. */
     fnv1a(): bigint;
     /**
-     * Returns the tag with its extensions u and t in canonical form (UTS #35, part 1, Annex C), by CLDR_VERSION: de-u-nu-thai-ca-roc becomes
-     * de-u-ca-roc-nu-thai. Each key stands once, with its first value. The rest of the tag stays.
+     * Returns the tag with its extensions u and t in canonical form (UTS #35, part 1, Annex C): de-u-nu-thai-ca-roc becomes
+     * de-u-ca-roc-nu-thai. A repeated key keeps only its first value. The rest of the tag stays.
      */
     extensionsForm(): LanguageTag;
     /** The tag without extensions and private use, as baseName of Intl.Locale: de-CH for de-CH-u-co-phonebk. It keeps its case. */
     get base(): LanguageTag;
     /**
      * Returns the POSIX locale name for the tag, or undefined if no name expresses the whole tag: sr_RS@latin for sr-Latn-RS, zh_TW for
-     * zh-Hant-TW. A script that is likely anyway is left out. The codeset is yours, as in zh_TW.UTF-8. `fromPosix` reads the name.
+     * zh-Hant-TW. A likely script is left out. Add the codeset yourself, as in zh_TW.UTF-8. `fromPosix` reads the name.
      */
     toPosix(): string | undefined;
     /**
@@ -229,16 +229,16 @@ export declare class LanguageTag {
      */
     get parent(): LanguageTag | undefined;
     /**
-     * The tag and its parents, in which order to search a catalogue: pt-Latn-AO, pt-AO, pt-PT and pt. A script that is likely anyway goes
+     * The tag and its parents, in the order in which to search a catalogue: pt-Latn-AO, pt-AO, pt-PT and pt. A script that is likely anyway goes
      * first, then extensions and private use, then the variants one by one, and then the region. The variants come back with each parent.
      */
     get parents(): LanguageTag[];
     /** Whether the tag is a Unicode locale identifier (UTS #35), as Intl requires: false for zh-yue, i-klingon and x-a. */
     get isLocale(): boolean;
     /**
-     * Returns the canonical form of a Unicode locale identifier (UTS #35, part 1, Annex C), by CLDR_VERSION: eng becomes en, and ger-UK
-     * becomes de-GB. A tag that is not such an identifier is first replaced by the registry of REGISTRY_DATE: zh-yue becomes yue. Returns
-     * undefined if it is not one then, either: x-a, i-default.
+     * Returns the canonical form of a Unicode locale identifier (UTS #35, part 1, Annex C): eng becomes en, and ger-UK
+     * becomes de-GB. A tag that is not such an identifier is first replaced according to the registry of REGISTRY_DATE: zh-yue becomes yue.
+     * If the result is not such an identifier, either, returns undefined: x-a, i-default.
      */
     localeForm(): LanguageTag | undefined;
     /** Returns the tag with other parts; throws EditError if a string is not such a part, or the tag is not a normal tag. */
@@ -320,7 +320,7 @@ export declare function tagForHeader<Tag extends Text, Otherwise>(header: Header
 export declare function tagForHeaderLenient<Tag extends Text>(header: Header, tags: Iterable<Tag>): Tag | undefined;
 export declare function tagForHeaderLenient<Tag extends Text, Otherwise>(header: Header, tags: Iterable<Tag>, otherwise: Otherwise): Tag | Otherwise;
 /**
- * Returns the distance from the tag that a reader desires to a supported tag (UTS #35, Language Matching), by CLDR_VERSION. It is at most
+ * Returns the distance from the desired tag to a supported tag (UTS #35, Language Matching). It is at most
  * 134, or 255 if the tags differ and one of them has no known language, such as und.
  *
  *     distance("zh-TW", "zh-Hant"); // 0

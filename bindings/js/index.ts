@@ -446,7 +446,7 @@ export class LanguageTag {
         return this.#at(...calls.repeats(this.text).slice(3)) || undefined;
     }
 
-    /** Whether the tag is valid (RFC 5646 section 2.2.9) by the registry of REGISTRY_DATE. Deprecated subtags are valid. */
+    /** Whether the tag is valid (RFC 5646 section 2.2.9) according to the registry of REGISTRY_DATE. Deprecated subtags are valid. */
     get isValid(): boolean {
         return calls.validity(this.text)[0] === 1;
     }
@@ -462,20 +462,20 @@ export class LanguageTag {
         return calls.isCanonical(this.text);
     }
 
-    /** Returns the canonical form (RFC 5646 section 4.5) by the registry of REGISTRY_DATE: iw becomes he, zh-yue becomes yue. */
+    /** Returns the canonical form (RFC 5646 section 4.5) according to that registry: iw becomes he, zh-yue becomes yue. */
     canonical(): LanguageTag {
         return new LanguageTag(calls.canonical(this.text));
     }
 
     /**
-     * Returns the tag with its likely subtags (UTS #35), by CLDR_VERSION: zh-TW becomes zh-Hant-TW. Deprecated subtags stay, and get the
+     * Returns the tag with its likely subtags (UTS #35): zh-TW becomes zh-Hant-TW. Deprecated subtags stay, and get the
      * likely subtags of their replacements: iw becomes iw-Hebr-IL. To replace them, call localeForm first.
      */
     maximize(): LanguageTag {
         return new LanguageTag(calls.maximized(this.text));
     }
 
-    /** Returns the tag without its likely subtags (UTS #35), by CLDR_VERSION: zh-Hant-TW becomes zh-TW. */
+    /** Returns the tag without its likely subtags (UTS #35): zh-Hant-TW becomes zh-TW. */
     minimize(): LanguageTag {
         return new LanguageTag(calls.minimized(this.text));
     }
@@ -501,8 +501,8 @@ export class LanguageTag {
     }
 
     /**
-     * Returns the tag with its extensions u and t in canonical form (UTS #35, part 1, Annex C), by CLDR_VERSION: de-u-nu-thai-ca-roc becomes
-     * de-u-ca-roc-nu-thai. Each key stands once, with its first value. The rest of the tag stays.
+     * Returns the tag with its extensions u and t in canonical form (UTS #35, part 1, Annex C): de-u-nu-thai-ca-roc becomes
+     * de-u-ca-roc-nu-thai. A repeated key keeps only its first value. The rest of the tag stays.
      */
     extensionsForm(): LanguageTag {
         return new LanguageTag(calls.extensionsForm(this.text));
@@ -515,7 +515,7 @@ export class LanguageTag {
 
     /**
      * Returns the POSIX locale name for the tag, or undefined if no name expresses the whole tag: sr_RS@latin for sr-Latn-RS, zh_TW for
-     * zh-Hant-TW. A script that is likely anyway is left out. The codeset is yours, as in zh_TW.UTF-8. `fromPosix` reads the name.
+     * zh-Hant-TW. A likely script is left out. Add the codeset yourself, as in zh_TW.UTF-8. `fromPosix` reads the name.
      */
     toPosix(): string | undefined {
         return calls.toPosix(this.text) || undefined;
@@ -531,7 +531,7 @@ export class LanguageTag {
     }
 
     /**
-     * The tag and its parents, in which order to search a catalogue: pt-Latn-AO, pt-AO, pt-PT and pt. A script that is likely anyway goes
+     * The tag and its parents, in the order in which to search a catalogue: pt-Latn-AO, pt-AO, pt-PT and pt. A script that is likely anyway goes
      * first, then extensions and private use, then the variants one by one, and then the region. The variants come back with each parent.
      */
     get parents(): LanguageTag[] {
@@ -546,9 +546,9 @@ export class LanguageTag {
     }
 
     /**
-     * Returns the canonical form of a Unicode locale identifier (UTS #35, part 1, Annex C), by CLDR_VERSION: eng becomes en, and ger-UK
-     * becomes de-GB. A tag that is not such an identifier is first replaced by the registry of REGISTRY_DATE: zh-yue becomes yue. Returns
-     * undefined if it is not one then, either: x-a, i-default.
+     * Returns the canonical form of a Unicode locale identifier (UTS #35, part 1, Annex C): eng becomes en, and ger-UK
+     * becomes de-GB. A tag that is not such an identifier is first replaced according to the registry of REGISTRY_DATE: zh-yue becomes yue.
+     * If the result is not such an identifier, either, returns undefined: x-a, i-default.
      */
     localeForm(): LanguageTag | undefined {
         const form = calls.localeForm(this.text);
@@ -773,7 +773,7 @@ export function tagForHeaderLenient(header: any, tags: any, otherwise?: any) {
 }
 
 /**
- * Returns the distance from the tag that a reader desires to a supported tag (UTS #35, Language Matching), by CLDR_VERSION. It is at most
+ * Returns the distance from the desired tag to a supported tag (UTS #35, Language Matching). It is at most
  * 134, or 255 if the tags differ and one of them has no known language, such as und.
  *
  *     distance("zh-TW", "zh-Hant"); // 0

@@ -1,4 +1,8 @@
 //! Looking up a string in a map whose keys are tags.
+//!
+//! A map is searched with a `dyn CaselessText`. `Borrow<str>` would break its contract, because a
+//! `str` is hashed with its case. A wrapper over `str` that ignores case needs an unsafe cast, and a
+//! trait object needs none.
 use core::borrow::Borrow;
 use core::cmp::Ordering;
 use core::fmt;

@@ -45,7 +45,7 @@
 //! - [`matching`]: language ranges, filters and lookup (RFC 4647); `Accept-Language` (RFC 9110)
 #![cfg_attr(
     feature = "data",
-    doc = "- [`registry`]: valid tags and canonical forms, by IANA's registry (RFC 5646)"
+    doc = "- [`registry`]: valid tags and canonical forms, according to IANA's registry (RFC 5646)"
 )]
 #![cfg_attr(
     feature = "data",
@@ -62,8 +62,8 @@
 //! `==`, `cmp` and `Hash` ignore the case of ASCII letters. A tag sorts after every longer tag that
 //! begins with it: `de-AT` comes before `de`. [`CaselessText`] searches a map by a string.
 //!
-//! Tags deref to `str`, and a `str` has a case. So `len`, `starts_with` and other methods of `str`
-//! are there, but `as_deref()` makes a `str` of an optional tag, whose `==` does not ignore case:
+//! Tags deref to `str`, so `len`, `starts_with` and other methods of `str` are there. But the `==`
+//! of a `str` does not ignore case, so `as_deref()` of an optional tag compares with its case:
 //!
 //! ```
 //! use langtag::LangTagBuf;
@@ -80,10 +80,10 @@
 //! - `data` (default): `choice`, `likely`, `registry` and `unicode`, with their data
 //! - `names`: the module `names`, with names of languages in English and in themselves
 //! - `oxilangtag`: the module `oxilangtag`, with the names of that crate
-//! - `serde` (releases only): tags, parts and ranges as strings
+//! - `serde` (in a clone, README says how): tags, parts and ranges as strings
 //!
 //! The crate never needs std. If allocation fails, calls whose names begin with `try_`, and the
-//! setters, return an error and leave the tag unchanged. Others, such as `to_owned` and
+//! setters, return an error and leave the tag unchanged. Other calls, such as `to_owned` and
 //! `canonical`, abort, as is usual in Rust.
 //!
 //! # What is proved
@@ -91,7 +91,7 @@
 //! The modules that compute are the source of a library in Rattle, which is Rust with contracts,
 //! with the contracts taken out. Each function of that source is proved to do what its contract
 //! says. The crate itself is not proved: you also trust rustc, `core`, and the differences that
-//! `checker/kinds.txt` lists. README says which files are written by hand, and more.
+//! `checker/kinds.txt` lists. README says what else you trust.
 #![no_std]
 #![forbid(unsafe_code)]
 #![warn(missing_docs, missing_debug_implementations)]
@@ -116,7 +116,8 @@ mod text_types;
 mod forms;
 
 // The modules that rust/erase makes. Some items are only for the C library, or for crates of
-// Rattle.
+// Rattle. It is public because the examples of proved functions run as tests, which see only
+// public items.
 #[doc(hidden)]
 #[allow(dead_code, unused_imports, missing_docs)]
 // For a few keys, `contains` takes longer than `iter().any()`.

@@ -74,8 +74,8 @@ pub fn write_from_posix(
 
 form! {
     /// Returns the POSIX locale name for a tag: `pt_BR` for `pt-BR`, `sr_RS@latin` for `sr-Latn-RS`,
-    /// `ca_ES@valencia` for `ca-ES-valencia`, `zh_TW` for `zh-Hant-TW`. Returns `None` if a name cannot
-    /// say all of the tag.
+    /// `ca_ES@valencia` for `ca-ES-valencia`, `zh_TW` for `zh-Hant-TW`. Returns `None` if no name
+    /// expresses the whole tag.
     ///
     /// The modifiers are `latin`, `cyrillic`, `devanagari`, `valencia`, `tarask`, `ijekavian` and
     /// `ijekavianlatin`. A likely script is left out. Another script or variant has no name, nor have

@@ -1,4 +1,7 @@
 //! Owned forms of the errors that contain more than a string. They do not borrow the string.
+//!
+//! An error that prints the error within it has no `source()`, because a program that prints the
+//! whole chain would print it twice.
 use alloc::string::String;
 use core::error::Error;
 use core::fmt;

@@ -30,8 +30,8 @@ pub use crate::erased::registry::{
 #[cfg(feature = "alloc")]
 pub use crate::owned_errors::InvalidSubtagBuf;
 
-/// Checks that a tag is valid ([RFC 5646 section 2.2.9]): each subtag is registered, and no variant
-/// or singleton is repeated.
+/// Checks that a tag is valid ([RFC 5646 section 2.2.9]): its language, script, region and variants
+/// are registered, and no variant or singleton is repeated.
 ///
 /// # Errors
 ///

@@ -11,9 +11,9 @@ use alloc::vec::Vec;
 /// The tags of a site that are known before the requests.
 ///
 /// What a choice needs of each tag is computed once, so each choice takes less time. It returns the
-/// same tag as [`best_for_header`](crate::choice::best_for_header) and its neighbours.
+/// same tag as [`best_for_header`](crate::choice::best_for_header) and similar functions.
 ///
-/// A `Site` can be shared by threads. It does not change: if the tags do, make another.
+/// A `Site` does not change, so threads can share it. If the tags change, make a new `Site`.
 ///
 /// ```
 /// use langtag::choice::Site;

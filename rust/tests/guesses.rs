@@ -1,5 +1,22 @@
-//! What programmers write who know Rust and not this crate: each compiles, and does what it says. docs/DECISIONS.md names the few
-//! guesses that do not compile.
+//! What programmers write who know Rust and not this crate: each compiles, and does what it says. These guesses do not compile, because
+//! Rust does not allow them, or because they would be wrong:
+//!
+//! - `LangTag::new(text)?` in a function that returns `Box<dyn Error>`: the error borrows the string. Write `text.parse::<LangTagBuf>()?`,
+//!   or `map_err(InvalidLangTag::into_owned)`.
+//! - `LangTag::new` in a `const` or a `static`: the recogniser calls a trait. `from_static` and the macro `langtag` read a slice instead.
+//!   Parts and ranges have no such call, because a tag gives its parts, and few programs name a range.
+//! - `tag.language() == Some("de")`: Rust compares only options of one type. Write `is_some_and(|language| language == "de")`.
+//! - `set_script(Some("Latn"))`, and `from_parts` of strings: a string may be no script. Write `Script::new("Latn")?`.
+//! - `text.parse::<LangTag>()`, `header.parse::<AcceptLanguage>()`: `FromStr` cannot return a value that borrows. Write `LangTag::new(text)`.
+//! - `from_parts(..)?`: its arguments are parts that are already checked, so it returns the tag.
+//! - `filter_basic` of owned ranges or tags: its iterator is the proved one, over slices of borrowed values. Collect the
+//!   `as_language_range()` of each range and the `as_lang_tag()` of each tag first.
+//! - `tag.parents()` without `alloc`: the parent of `zh-TW` is `zh-Hant`, which is no slice of it. `likely::write_parent` does not allocate.
+//! - `&LangTag`, `Cow<LangTag>`, `Arc<LangTag>`, `impl AsRef<LangTag>`: a `LangTag` is a value, and an owned tag contains none to borrow.
+//! - `tag.subtags().map(|it| it.as_str())`: a subtag is a `&str`, because subtags of all types follow each other.
+//! - `map.get("en")` and `map.get(&tag)`: a `str` is hashed with its case. Write `map.get("en".caseless())`.
+//! - `tag.primary_language()`: only normal tags have one. Write `tag.language().map(|language| language.primary())`.
+//! - a type `Locale`, a builder of tags, and descriptions of the registry: a `LangTag` is read and set directly, and `names` has CLDR's names.
 #![cfg(all(feature = "alloc", feature = "data"))]
 #![allow(clippy::needless_borrows_for_generic_args)] // references are taken, too
 use std::borrow::Cow;
