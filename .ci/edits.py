@@ -65,12 +65,12 @@ class Edit:
         return found
 
     def of_refusal(self):
-        """Returns a hash of what its refusal depends on: the edit, the items that it changes, and the definitions below them."""
+        """Returns a hash of what its refusal depends on: the edit, the items that it changes, their traits, and the definitions below them."""
         try:
             items = [old for _, old, _ in self.changes if old]
         except ValueError:  # .ci/twins cannot read a file
             return digest(*self.lines, *((CRATES / self.crate / name).read_text() for name in self.texts))
-        return digest(*self.lines, *(word for item in items for word in words_of(item)), *definitions(items))
+        return digest(*self.lines, *(word for item in items for word in (*words_of(item), *trait_of(item))), *definitions(items))
 
     def of_shown(self):
         """Returns a hash of what shows that it is wrong: the edit, and its call in shown.txt."""
@@ -84,6 +84,20 @@ def items_of(path):
 
 def words_of(item):
     return [word for piece in item.pieces for word in piece.words] if item else []
+
+
+@functools.cache
+def traits():
+    """Returns the words of each trait. Its clauses are the contracts of the functions in its impls."""
+    texts = (path.read_text() for path in sorted(CRATES.glob("*/src/*.rt")))
+    return {name: twins.words_of(body, "//") for text in texts for name, body in re.findall(r"(?ms)^pub trait (\w+)(.*?)^\}", text)}
+
+
+def trait_of(item):
+    """Returns the words of the trait if the item is its impl."""
+    words = words_of(item)
+    head = words[: words.index("for")] if "for" in words else []
+    return next((traits()[word] for word in head if word in traits()), []) if "impl" in head[:1] else []
 
 
 def definitions(items):

@@ -46,6 +46,7 @@ class Kinds(unittest.TestCase):
 
     def test_the_invalid_character(self):
         self.assertEqual((caught(Tag, "dé").subtag, caught(Tag, "d\udc80").subtag, caught(Tag, b"d\xff").subtag), ("dé", "d\udc80", "d\\xff"))
+        self.assertEqual((langtag.unknown_modifier("de@\udc80"), langtag.unknown_modifier(b"de@\xff")), ("\udc80", "\\xff"))
         for text, shown in (("d\ud800", "\\u{d800}"), ("d\udc80", "\\x80"), (b"d\xed\xb2\x80", "\\xed")):
             self.assertIn(f"invalid character `{shown}`: ", str(caught(Tag, text)))
 

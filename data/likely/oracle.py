@@ -267,7 +267,7 @@ def variants(text):
 def nearest(wish, near, tags):
     """Returns the best of several indices of tags at the same distance: of those that lack the fewest variants of the range, the tag
     that look-up finds, or else the most likely tag."""
-    lacking = [len(set(variants(wish)) - set(variants(tags[index]))) for index in near]
+    lacking = [sum(variant not in variants(tags[index]) for variant in variants(wish)) for index in near]
     near = [index for index, lack in zip(near, lacking) if lack == min(lacking)]
     found = look_up(wish, [tags[index] for index in near])
     return min(near, key=lambda index: unlikely(tags[index])) if found is None else near[found]
