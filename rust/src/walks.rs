@@ -5,37 +5,28 @@ use core::iter::FusedIterator;
 use crate::erased::tag::*;
 use crate::matching::{Fallbacks, Filtered, WantedRanges};
 
+/// Lets `for` walk through a type that has `iter`.
+macro_rules! walked {
+    ($($(#[$feature:meta])? $list:ty: $walk:ident of $item:ident;)+) => {$(
+        $(#[$feature])?
+        impl<'a> IntoIterator for $list {
+            type Item = $item<'a>;
+            type IntoIter = $walk<'a>;
+
+            #[inline]
+            fn into_iter(self) -> $walk<'a> {
+                self.iter()
+            }
+        }
+    )+};
+}
+
 macro_rules! listed {
     ($($list:ident, $owned:ident: $walk:ident of $item:ident;)+) => {$(
-        impl<'a> IntoIterator for $list<'a> {
-            type Item = $item<'a>;
-            type IntoIter = $walk<'a>;
-
-            #[inline]
-            fn into_iter(self) -> $walk<'a> {
-                self.iter()
-            }
-        }
-
-        impl<'a> IntoIterator for &$list<'a> {
-            type Item = $item<'a>;
-            type IntoIter = $walk<'a>;
-
-            #[inline]
-            fn into_iter(self) -> $walk<'a> {
-                self.iter()
-            }
-        }
-
-        #[cfg(feature = "alloc")]
-        impl<'a> IntoIterator for &'a $owned {
-            type Item = $item<'a>;
-            type IntoIter = $walk<'a>;
-
-            #[inline]
-            fn into_iter(self) -> $walk<'a> {
-                self.iter()
-            }
+        walked! {
+            $list<'a>: $walk of $item;
+            &$list<'a>: $walk of $item;
+            #[cfg(feature = "alloc")] &'a $owned: $walk of $item;
         }
 
         impl FusedIterator for $walk<'_> {}
