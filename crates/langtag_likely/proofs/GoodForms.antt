@@ -1,10 +1,10 @@
--- The maximal and the minimal record of a well-formed one are well-formed, and not much longer; the laws of both forms, over texts.
-use Rattle.langtag_scan.proofs.Prelude.{◌≡◌, ℕ, ◌≤◌, true, Bool, cond, List, [], ◌∷◌, length, Option, Some, option_map, IfSome, IsTrue, refl, arith, rules, codes, ◌+◌, length-append, sym, ap, ◌∙◌, and_parts, list_all, AllByRecursion, option_map_or, nat_tests}
-use Rattle.langtag_scan.specs.Grammar.{is_primary, is_extended, is_script, is_region, Record, IsWellFormed, one_flat, spell, IsNormal}
-use Rattle.langtag_scan.proofs.Laws.{script_four, region_short, hyphenated, length-spell, of_primary, spelled_once}
+-- The maximal and the minimal record of a well-formed one are well-formed; the laws of both forms, over texts.
+use Rattle.langtag_scan.proofs.Prelude.{◌≡◌, ℕ, true, Bool, cond, List, [], ◌∷◌, Option, Some, option_map, IsTrue, refl, arith, rules, codes, sym, ap, ◌∙◌, and_parts, list_all, AllByRecursion, option_map_or}
+use Rattle.langtag_scan.specs.Grammar.{is_primary, is_extended, Record, IsWellFormed}
+use Rattle.langtag_scan.proofs.Laws.{spelled_once}
 use Rattle.langtag_text.specs.FieldClasses.{is_language_field, is_script_field, is_region_field}
 use Rattle.langtag_text.specs.Fields.{Fields}
-use Rattle.langtag.specs.Definitions.{IsForm, IsAlikeForm}
+use Rattle.langtag.specs.Definitions.{IsAlikeForm}
 use Rattle.langtag_cldr.specs.Definitions.{Likely, likely_for, looked_up, or_else, filled, known_fields, add_likely, language_alone, without_script, without_region, likely_subtags, language_aliases, region_aliases, language_replaced, region_alone, region_replaced, add_likely_subtags, canonical_fields, least, remove_likely_subtags}
 use Rattle.langtag_likely.proofs.Definitions.{fields_of, language_field, put_fields, maximal_record, minimal_record, IsMaximalForm, IsMinimalForm}
 use Rattle.langtag_cldr.proofs.RowLaws.{aliases_listed, region_aliases_listed}
@@ -107,37 +107,6 @@ removed-good f good = mapped-good least (add_likely_subtags f) least-good (likel
 pub minimal_well_formed : (r : Record) → IsWellFormed r → IsWellFormed (minimal_record r)
 unfolding minimal_record
 minimal_well_formed r well = put-well_formed r (remove_likely_subtags (fields_of r)) well (removed-good (fields_of r) (fields_of-good r well))
-
--- ---- how long they are
-
--- a script and a region with the hyphen before them
-script_size : (o : Option (List ℕ)) → IfSome o (λ s. IsTrue (is_script s)) → length (hyphenated (one_flat o)) ≤ 5
-script_size o is = grind (arith, script_four, length-append)
-
-region_size : (o : Option (List ℕ)) → IfSome o (λ s. IsTrue (is_region s)) → length (hyphenated (one_flat o)) ≤ 4
-region_size o is = grind (arith, region_short, length-append)
-
--- the fields of another tag
-put_length : (r : Record) (f : Fields) → IsWellFormed (put_fields r f) → length (spell (put_fields r f)) ≤ length (spell r) + 17
-put_length r f well = grind (arith, nat_tests, length-spell r, length-spell (put_fields r f), of_primary, script_size, region_size)
-
-by_fields : (r : Record) (o : Option Fields) → IsWellFormed (option_map_or (put_fields r) o r) → length (spell (option_map_or (put_fields r) o r)) ≤ length (spell r) + 17
-by_fields r o well = grind (arith, put_length)
-
-pub maximal_length : (r : Record) → IsWellFormed r → length (spell (maximal_record r)) ≤ length (spell r) + 17
-unfolding maximal_record
-maximal_length r well = by_fields r (add_likely_subtags (fields_of r)) (maximal_well_formed r well)
-
-pub minimal_length : (r : Record) → IsWellFormed r → length (spell (minimal_record r)) ≤ length (spell r) + 17
-unfolding minimal_record
-minimal_length r well = by_fields r (remove_likely_subtags (fields_of r)) (minimal_well_formed r well)
-
--- of every text
-pub form_bounded :
-    (form_of : Record → Record) → ((r : Record) → IsWellFormed r → length (spell (form_of r)) ≤ length (spell r) + 17) → (old new : List ℕ) → IsForm form_of old new →
-    length new ≤ length old + 17
-unfolding IsNormal
-form_bounded form_of longer old new is = grind arith
 
 -- ---- the laws
 

@@ -1,8 +1,9 @@
 -- A tag with other fields, piece by piece.
 use Rattle.langtag_scan.proofs.Prelude.{◌≡◌, ℕ, ◌+◌, ◌≤◌, true, List, [], ◌∷◌, ◌++◌, length, drop, arith, append_assoc, rules, codes, flat_map, length-append, append-nil, common_steps, nat_tests}
 use Rattle.langtag_scan.specs.Grammar.{are_alike, ends_of, Record, one_flat, extension_flat, private_part_flat, spell, join}
-use Rattle.langtag_scan.proofs.Laws.{hyphenated, hyphenated-append, join-append, drop-join, ends_in_order, length-spell}
+use Rattle.langtag_scan.proofs.Laws.{region_two_three, hyphenated, hyphenated-append, join-append, drop-join, ends_in_order, length-spell}
 use Rattle.langtag_text.specs.Fields.{Fields, subtag_of}
+use Rattle.langtag_text.specs.FieldClasses.{is_region_field}
 use Rattle.langtag.specs.Definitions.{SpellsLanguage}
 use Rattle.langtag_text.proofs.Letters.{primary_length, extended_primary}
 use Rattle.langtag_cldr.specs.Definitions.{or_other}
@@ -42,6 +43,9 @@ subtag-length s = grind (arith, append-nil)
 
 put_language-length : (p : List ℕ) (es : List (List ℕ)) (l : List ℕ) → length (put_language p es l) ≤ length p + length l
 put_language-length p es l = grind arith
+
+pub region_three : (text : List ℕ) → is_region_field text ≡ true → length text ≤ 3
+region_three text good = grind (arith, region_two_three)
 
 -- a tag with other fields is longer by no more than these and two hyphens
 pub put_length : (r : Record) (f : Fields) → length (spell (put_fields r f)) ≤ length (spell r) + (length f.language + (length f.script + (length f.region + 2)))

@@ -1,14 +1,15 @@
 //! The maximal and minimal forms of a tag (UTS #35, part 1, section 'Likely Subtags').
-ghost use Rattle.std.specs.Prelude.{◌≡◌, ◌+◌, ◌-◌, ◌^◌, length, min, IfOk};
+ghost use Rattle.std.specs.Prelude.{◌≡◌, ◌+◌, ◌-◌, ◌^◌, ◌≤◌, flat_map, length, min, IfOk};
+ghost use Rattle.langtag_scan.specs.Grammar.{IsTag};
 ghost use Rattle.langtag.specs.Definitions.{lang_tag_text, lang_tag_buf_text, Writes, IsOnlyForm, IsAlikeForm};
 ghost use Rattle.langtag_likely.specs.Maximal.{IsMaximalForm, IsMinimalForm, maximal_record, minimal_record};
 ghost use Rattle.langtag_likely.specs.MaximalLaws.{KeepsOthers, TellsAsMaximal, UndoesMaximal, UndoesMinimal};
 
 use crate::fields::fields_of;
-use crate::put::write_changed;
+use crate::put::{changed, whole};
 use langtag::{LangTag, LangTagBuf, tag_of};
 use langtag_cldr::{add_likely_subtags, remove_likely_subtags};
-use langtag_text::write_text;
+use langtag_text::write_pieces;
 use std::alloc::{AllocError, Global};
 
 /// Adds the likely subtags to a tag (UTS #35, Add Likely Subtags): `zh-TW` becomes `zh-Hant-TW`, `en` and `und` become
@@ -42,7 +43,7 @@ pub fn maximized(alloc: Global, tag: LangTag<'_>) -> Result<LangTagBuf, AllocErr
     // law: everything but language, script and region stays
     ensures others { IfOk result (λ form. KeepsOthers (lang_tag_text tag.entry) (lang_tag_buf_text form)) }
 {
-    Ok(tag_of(maximal_bytes(alloc, tag)?))
+    build(alloc, tag, &maximal_pieces(tag))
 }
 
 /// Removes the likely subtags from a tag (UTS #35, Remove Likely Subtags): `zh-Hant-TW` becomes `zh-TW`, and
@@ -73,7 +74,7 @@ pub fn minimized(alloc: Global, tag: LangTag<'_>) -> Result<LangTagBuf, AllocErr
     // law: everything but language, script and region stays
     ensures others { IfOk result (λ form. KeepsOthers (lang_tag_text tag.entry) (lang_tag_buf_text form)) }
 {
-    Ok(tag_of(minimal_bytes(alloc, tag)?))
+    build(alloc, tag, &minimal_pieces(tag))
 }
 
 /// Writes a tag with its likely subtags to a buffer, as `maximized` returns it, and returns its length in bytes. If
@@ -90,10 +91,7 @@ pub fn minimized(alloc: Global, tag: LangTag<'_>) -> Result<LangTagBuf, AllocErr
 pub fn write_maximized(tag: LangTag<'_>, buffer: &mut [u8]) -> usize
     ensures { Writes (IsMaximalForm (lang_tag_text tag.entry)) buffer.old buffer.new result }
 {
-    let Some(normal) = tag.as_normal() else {
-        return write_text(tag.as_bytes(), buffer);
-    };
-    write_changed(normal, add_likely_subtags(fields_of(normal)), buffer)
+    write_pieces(&maximal_pieces(tag), buffer)
 }
 
 /// Writes a tag without its likely subtags to a buffer, as `minimized` returns it, and returns its length in bytes.
@@ -110,10 +108,31 @@ pub fn write_maximized(tag: LangTag<'_>, buffer: &mut [u8]) -> usize
 pub fn write_minimized(tag: LangTag<'_>, buffer: &mut [u8]) -> usize
     ensures { Writes (IsMinimalForm (lang_tag_text tag.entry)) buffer.old buffer.new result }
 {
-    let Some(normal) = tag.as_normal() else {
-        return write_text(tag.as_bytes(), buffer);
-    };
-    write_changed(normal, remove_likely_subtags(fields_of(normal)), buffer)
+    write_pieces(&minimal_pieces(tag), buffer)
+}
+
+/// Returns the maximal form of a tag, in pieces.
+#[inline(always)]
+fn maximal_pieces<'a>(tag: LangTag<'a>) -> [&'a [u8]; 6]
+    ensures form { IsMaximalForm (lang_tag_text tag.entry) (flat_map (λ piece. piece.now) result) }
+    ensures short { length (flat_map (λ piece. piece.now) result) ≤ length (lang_tag_text tag.entry) + 17 }
+{
+    match tag.as_normal() {
+        Some(normal) => changed(normal, add_likely_subtags(fields_of(normal))),
+        None => whole(tag.as_bytes()),
+    }
+}
+
+/// Returns the minimal form of a tag, in pieces.
+#[inline(always)]
+fn minimal_pieces<'a>(tag: LangTag<'a>) -> [&'a [u8]; 6]
+    ensures form { IsMinimalForm (lang_tag_text tag.entry) (flat_map (λ piece. piece.now) result) }
+    ensures short { length (flat_map (λ piece. piece.now) result) ≤ length (lang_tag_text tag.entry) + 17 }
+{
+    match tag.as_normal() {
+        Some(normal) => changed(normal, remove_likely_subtags(fields_of(normal))),
+        None => whole(tag.as_bytes()),
+    }
 }
 
 /// Returns a buffer that is long enough for the maximal and the minimal form of a tag.
@@ -124,20 +143,15 @@ fn form_buffer(alloc: Global, tag: LangTag<'_>) -> Result<Vec<u8>, AllocError>
     vec![in alloc; 0; tag.as_bytes().len().saturating_add(17)]
 }
 
-fn maximal_bytes(alloc: Global, tag: LangTag<'_>) -> Result<Vec<u8>, AllocError>
-    ensures { IfOk result (λ bytes. IsMaximalForm (lang_tag_text tag.entry) bytes.items) }
+/// Returns the tag of these pieces, which are those of a form of `tag`. It is inlined, so that the loop is unrolled.
+#[inline(always)]
+fn build(alloc: Global, tag: LangTag<'_>, pieces: &[&[u8]]) -> Result<LangTagBuf, AllocError>
+    requires tag { IsTag (flat_map (λ piece. piece.now) pieces.now) }
+    requires short { length (flat_map (λ piece. piece.now) pieces.now) ≤ length (lang_tag_text tag) + 17 }
+    ensures { IfOk result (λ form. lang_tag_buf_text form ≡ flat_map (λ piece. piece.now) pieces.now) }
 {
     let mut bytes = form_buffer(alloc, tag)?;
-    let len = write_maximized(tag, &mut bytes);
+    let len = write_pieces(pieces, &mut bytes);
     bytes.truncate(len);
-    Ok(bytes)
-}
-
-fn minimal_bytes(alloc: Global, tag: LangTag<'_>) -> Result<Vec<u8>, AllocError>
-    ensures { IfOk result (λ bytes. IsMinimalForm (lang_tag_text tag.entry) bytes.items) }
-{
-    let mut bytes = form_buffer(alloc, tag)?;
-    let len = write_minimized(tag, &mut bytes);
-    bytes.truncate(len);
-    Ok(bytes)
+    Ok(tag_of(bytes))
 }

@@ -1,7 +1,7 @@
-//! Writes a tag with other fields.
-ghost use Rattle.std.specs.Prelude.{◌≡◌, ◌∷◌, ◌++◌, drop, flat_map, option_map};
+//! A tag with other fields, in pieces.
+ghost use Rattle.std.specs.Prelude.{◌≡◌, ◌+◌, ◌≤◌, ◌∷◌, ◌++◌, drop, flat_map, length, option_map};
 ghost use Rattle.langtag_scan.specs.Grammar.{option_map_or, ends_of, EachRecord, one_flat, spell, join};
-ghost use Rattle.langtag.specs.Definitions.{EachLanguageSpelling, language_text, normal_lang_tag_text, Writes};
+ghost use Rattle.langtag.specs.Definitions.{EachLanguageSpelling, language_text, normal_lang_tag_text};
 ghost use Rattle.langtag_likely.specs.Maximal.{put_fields, put_language};
 ghost use Rattle.langtag_text.specs.Fields.{subtag_of};
 ghost use Rattle.langtag_cldr.specs.Definitions.{field_texts};
@@ -9,38 +9,41 @@ ghost use Rattle.langtag_cldr.specs.Definitions.{field_texts};
 use langtag::NormalLangTag;
 use langtag_cldr::{TagFields, or_other};
 use langtag_language::Language;
-use langtag_text::{write_pieces, write_text};
 
-/// Writes a tag with the given fields to a buffer, or the unchanged tag if `None` is given.
-pub(crate) fn write_changed(
-    tag: NormalLangTag<'_>,
-    fields: Option<TagFields<'_>>,
-    buffer: &mut [u8],
-) -> usize
-    ensures { EachRecord (normal_lang_tag_text tag.entry)
-        (λ r. Writes (λ form. form ≡ spell (option_map_or (put_fields r) (option_map field_texts fields.entry) r)) buffer.old buffer.new result) }
+/// Returns a tag with the given fields, in pieces, or the unchanged tag if `None` is given.
+#[inline(always)]
+pub(crate) fn changed<'a>(tag: NormalLangTag<'a>, fields: Option<TagFields<'a>>) -> [&'a [u8]; 6]
+    ensures whole { EachRecord (normal_lang_tag_text tag.entry)
+        (λ r. flat_map (λ piece. piece.now) result ≡ spell (option_map_or (put_fields r) (option_map field_texts fields.entry) r)) }
+    ensures short { EachRecord (normal_lang_tag_text tag.entry) (λ r. length (flat_map (λ piece. piece.now) result) ≤ length (normal_lang_tag_text tag.entry) + 17) }
 {
     match fields {
-        Some(fields) => write_fields(tag, fields, buffer),
-        None => write_text(tag.as_str().as_bytes(), buffer),
+        Some(fields) => pieces(tag, fields),
+        None => whole(tag.as_str().as_bytes()),
     }
 }
 
-/// Writes a tag with these fields into a buffer, if it fits, and returns the length of that tag.
-#[inline(always)]
-fn write_fields<'a>(tag: NormalLangTag<'a>, fields: TagFields<'a>, buffer: &mut [u8]) -> usize
-    ensures { EachRecord (normal_lang_tag_text tag.entry)
-        (λ r. Writes (λ form. form ≡ spell (put_fields r (field_texts fields.entry))) buffer.old buffer.new result) }
+/// Returns a whole string as the first piece, before pieces that are empty.
+pub(crate) fn whole(text: &[u8]) -> [&[u8]; 6]
+    ensures { flat_map (λ piece. piece.now) result ≡ text.now }
 {
-    let pieces = [
+    [text, b"", b"", b"", b"", b""]
+}
+
+/// Returns the pieces of a tag with these fields. It is inlined, so that the pieces are not copied.
+#[inline(always)]
+fn pieces<'a>(tag: NormalLangTag<'a>, fields: TagFields<'a>) -> [&'a [u8]; 6]
+    ensures whole { EachRecord (normal_lang_tag_text tag.entry) (λ r. flat_map (λ piece. piece.now) result ≡ spell (put_fields r (field_texts fields.entry))) }
+    ensures short { EachRecord (normal_lang_tag_text tag.entry) (λ r. length (flat_map (λ piece. piece.now) result) ≤ length (normal_lang_tag_text tag.entry) + 17) }
+{
+    [
         put_language(tag.language(), fields.language),
         hyphen_before(fields.script),
         fields.script,
         hyphen_before(fields.region),
         fields.region,
         after_region(tag),
-    ];
-    write_pieces(&pieces, buffer)
+    ]
 }
 
 /// Returns the hyphen before a subtag, or nothing if the subtag is empty.

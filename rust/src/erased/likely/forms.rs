@@ -4,11 +4,11 @@
 
 use crate::erased::cldr::{add_likely_subtags, remove_likely_subtags};
 use crate::erased::likely::fields::fields_of;
-use crate::erased::likely::put::write_changed;
+use crate::erased::likely::put::{changed, whole};
 use crate::erased::tag::LangTag;
 #[cfg(feature = "alloc")]
 use crate::erased::tag::{tag_of, LangTagBuf};
-use crate::erased::text::write_text;
+use crate::erased::text::write_pieces;
 #[cfg(feature = "alloc")]
 use crate::shim::{try_vec, AllocError};
 #[cfg(feature = "alloc")]
@@ -39,7 +39,7 @@ use alloc::vec::Vec;
 #[cfg(feature = "alloc")]
 #[inline]
 pub fn maximized(tag: LangTag<'_>) -> Result<LangTagBuf, AllocError> {
-    Ok(tag_of(maximal_bytes(tag)?))
+    build(tag, &maximal_pieces(tag))
 }
 
 /// Removes the likely subtags from a tag (UTS #35, Remove Likely Subtags): `zh-Hant-TW` becomes
@@ -62,7 +62,7 @@ pub fn maximized(tag: LangTag<'_>) -> Result<LangTagBuf, AllocError> {
 #[cfg(feature = "alloc")]
 #[inline]
 pub fn minimized(tag: LangTag<'_>) -> Result<LangTagBuf, AllocError> {
-    Ok(tag_of(minimal_bytes(tag)?))
+    build(tag, &minimal_pieces(tag))
 }
 
 /// Writes a tag with its likely subtags to a buffer, as `maximized` returns it, and returns its
@@ -80,11 +80,9 @@ pub fn minimized(tag: LangTag<'_>) -> Result<LangTagBuf, AllocError> {
 /// # Ok(())
 /// # }
 /// ```
+#[inline]
 pub fn write_maximized(tag: LangTag<'_>, buffer: &mut [u8]) -> usize {
-    let Some(normal) = tag.as_normal() else {
-        return write_text(tag.as_bytes(), buffer);
-    };
-    write_changed(normal, add_likely_subtags(fields_of(normal)), buffer)
+    write_pieces(&maximal_pieces(tag), buffer)
 }
 
 /// Writes a tag without its likely subtags to a buffer, as `minimized` returns it, and returns its
@@ -101,11 +99,27 @@ pub fn write_maximized(tag: LangTag<'_>, buffer: &mut [u8]) -> usize {
 /// # Ok(())
 /// # }
 /// ```
+#[inline]
 pub fn write_minimized(tag: LangTag<'_>, buffer: &mut [u8]) -> usize {
-    let Some(normal) = tag.as_normal() else {
-        return write_text(tag.as_bytes(), buffer);
-    };
-    write_changed(normal, remove_likely_subtags(fields_of(normal)), buffer)
+    write_pieces(&minimal_pieces(tag), buffer)
+}
+
+/// Returns the maximal form of a tag, in pieces.
+#[inline(always)]
+fn maximal_pieces<'a>(tag: LangTag<'a>) -> [&'a [u8]; 6] {
+    match tag.as_normal() {
+        Some(normal) => changed(normal, add_likely_subtags(fields_of(normal))),
+        None => whole(tag.as_bytes()),
+    }
+}
+
+/// Returns the minimal form of a tag, in pieces.
+#[inline(always)]
+fn minimal_pieces<'a>(tag: LangTag<'a>) -> [&'a [u8]; 6] {
+    match tag.as_normal() {
+        Some(normal) => changed(normal, remove_likely_subtags(fields_of(normal))),
+        None => whole(tag.as_bytes()),
+    }
 }
 
 /// Returns a buffer that is long enough for the maximal and the minimal form of a tag.
@@ -116,20 +130,13 @@ fn form_buffer(tag: LangTag<'_>) -> Result<Vec<u8>, AllocError> {
     try_vec(0, tag.as_bytes().len().saturating_add(17))
 }
 
+/// Returns the tag of these pieces, which are those of a form of `tag`. It is inlined, so that the
+/// loop is unrolled.
 #[cfg(feature = "alloc")]
-#[inline]
-fn maximal_bytes(tag: LangTag<'_>) -> Result<Vec<u8>, AllocError> {
+#[inline(always)]
+fn build(tag: LangTag<'_>, pieces: &[&[u8]]) -> Result<LangTagBuf, AllocError> {
     let mut bytes = form_buffer(tag)?;
-    let len = write_maximized(tag, &mut bytes);
+    let len = write_pieces(pieces, &mut bytes);
     bytes.truncate(len);
-    Ok(bytes)
-}
-
-#[cfg(feature = "alloc")]
-#[inline]
-fn minimal_bytes(tag: LangTag<'_>) -> Result<Vec<u8>, AllocError> {
-    let mut bytes = form_buffer(tag)?;
-    let len = write_minimized(tag, &mut bytes);
-    bytes.truncate(len);
-    Ok(bytes)
+    Ok(tag_of(bytes))
 }

@@ -1,37 +1,36 @@
 // Made by rust/erase from crates/langtag_likely/src/put.rt. Change that file, not this one.
 
-//! Writes a tag with other fields.
+//! A tag with other fields, in pieces.
 
 use crate::erased::cldr::{or_other, TagFields};
 use crate::erased::language::Language;
 use crate::erased::tag::NormalLangTag;
-use crate::erased::text::{write_pieces, write_text};
 
-/// Writes a tag with the given fields to a buffer, or the unchanged tag if `None` is given.
-#[inline]
-pub(crate) fn write_changed(
-    tag: NormalLangTag<'_>,
-    fields: Option<TagFields<'_>>,
-    buffer: &mut [u8],
-) -> usize {
+/// Returns a tag with the given fields, in pieces, or the unchanged tag if `None` is given.
+#[inline(always)]
+pub(crate) fn changed<'a>(tag: NormalLangTag<'a>, fields: Option<TagFields<'a>>) -> [&'a [u8]; 6] {
     match fields {
-        Some(fields) => write_fields(tag, fields, buffer),
-        None => write_text(tag.as_str().as_bytes(), buffer),
+        Some(fields) => pieces(tag, fields),
+        None => whole(tag.as_str().as_bytes()),
     }
 }
 
-/// Writes a tag with these fields into a buffer, if it fits, and returns the length of that tag.
+/// Returns a whole string as the first piece, before pieces that are empty.
+pub(crate) fn whole(text: &[u8]) -> [&[u8]; 6] {
+    [text, b"", b"", b"", b"", b""]
+}
+
+/// Returns the pieces of a tag with these fields. It is inlined, so that the pieces are not copied.
 #[inline(always)]
-fn write_fields<'a>(tag: NormalLangTag<'a>, fields: TagFields<'a>, buffer: &mut [u8]) -> usize {
-    let pieces = [
+fn pieces<'a>(tag: NormalLangTag<'a>, fields: TagFields<'a>) -> [&'a [u8]; 6] {
+    [
         put_language(tag.language(), fields.language),
         hyphen_before(fields.script),
         fields.script,
         hyphen_before(fields.region),
         fields.region,
         after_region(tag),
-    ];
-    write_pieces(&pieces, buffer)
+    ]
 }
 
 /// Returns the hyphen before a subtag, or nothing if the subtag is empty.

@@ -1,4 +1,5 @@
-use Rattle.std.proofs.Common.{sym, subst}
+use Rattle.std.proofs.Common.{IfOk, sym, subst}
+use Rattle.std.proofs.lemmas.Result.{IfOk-weaker}
 use Rattle.langtag.proofs.KeptFound.{found_kept}
 use Rattle.langtag.specs.Text.{lang_tag_text, lang_tag_buf_text}
 use Rattle.langtag_likely.specs.Maximal.{IsMaximalForm, maximal_record}
@@ -6,19 +7,19 @@ use Rattle.langtag.proofs.FormLaws.{form_is_tag, one_form}
 use Rattle.langtag_likely.proofs.GoodForms.{maximal_well_formed, maximal_settled, alike_maximal, minimal_undone, maximal_keeps}
 use Rattle.langtag_likely.proofs.forms.maximized.Goals as goal
 
-pub tag_of-requires : goal.tag_of-requires
-tag_of-requires c = form_is_tag maximal_record maximal_well_formed _ _ (found_kept _ _ c.args.tag.kept_found).tag c.in_ok-maximal_bytes.ensures
+pub build-requires-clause-tag : goal.build-requires-clause-tag
+build-requires-clause-tag c = form_is_tag maximal_record maximal_well_formed _ _ (found_kept _ _ c.args.tag.kept_found).tag c.maximal_pieces.ensures.form
 
 pub returns : goal.returns
 returns c =
     let old = lang_tag_text c.args.tag in
-    let is : IsMaximalForm old (lang_tag_buf_text c.tag_of.result) = subst (IsMaximalForm old) (sym c.tag_of.ensures) c.in_ok-maximal_bytes.ensures in
-    let form = lang_tag_buf_text c.tag_of.result in
+    let made : IfOk c.build.result (λ form. IsMaximalForm old (lang_tag_buf_text form)) =
+    IfOk-weaker c.build.result _ _ (λ form same. subst (IsMaximalForm old) (sym same) c.maximal_pieces.ensures.form) c.build.ensures in
     record {
-      maximal = is;
-      one = λ other is_other. one_form maximal_record old other form is_other is;
-      settled = maximal_settled old form is;
-      alike = alike_maximal old form is;
-      undoes = minimal_undone old form is;
-      others = maximal_keeps old form is;
+      maximal = made;
+      one = IfOk-weaker c.build.result _ _ (λ form is. λ other is_other. one_form maximal_record old other (lang_tag_buf_text form) is_other is) made;
+      settled = IfOk-weaker c.build.result _ _ (λ form is. maximal_settled old (lang_tag_buf_text form) is) made;
+      alike = IfOk-weaker c.build.result _ _ (λ form is. alike_maximal old (lang_tag_buf_text form) is) made;
+      undoes = IfOk-weaker c.build.result _ _ (λ form is. minimal_undone old (lang_tag_buf_text form) is) made;
+      others = IfOk-weaker c.build.result _ _ (λ form is. maximal_keeps old (lang_tag_buf_text form) is) made;
     }
