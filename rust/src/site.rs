@@ -57,7 +57,7 @@ use alloc::vec::Vec;
 #[derive(Clone)]
 pub struct Site<E> {
     tags: Vec<E>,
-    forms: Vec<Option<PreparedForm>>,
+    forms: Vec<PreparedForm>,
 }
 
 impl<E: TagEntry> Site<E> {
@@ -79,7 +79,7 @@ impl<E: TagEntry> Site<E> {
         forms.try_reserve_exact(tags.len())?;
         forms.extend(
             tags.iter()
-                .map(|entry| entry.tag().map(|tag| PreparedForm::of(tag.as_bytes()))),
+                .map(|entry| PreparedForm::of(entry.tag_bytes())),
         );
         Ok(Site { tags, forms })
     }
@@ -190,7 +190,7 @@ impl<E: TagEntry> TagList for Site<E> {
 
     #[inline]
     fn form_at(&self, index: usize) -> Option<&PreparedForm> {
-        self.forms[index].as_ref()
+        Some(&self.forms[index])
     }
 }
 

@@ -1,14 +1,16 @@
 -- What loops over ranges and over tags have found, and that it is the choice.
-use Rattle.langtag_scan.proofs.Prelude.{◌≡◌, ℕ, true, List, get_or, Option, Some, None, option_map, ap, refl, sym, subst, ◌∙◌, ◌-◌, ◌==◌, false, ◌&&◌, ◌||◌, nat_lt, arith, Bool, [], ◌∷◌, ◌+◌, ◌<◌, zero, suc, length, min, inl, inr, slice_get, replicate, or-true, eqb_tells, nat_tests, and_parts, eq-eqb, eqb-true, not-true, or_cases, cases_lt, get_or_from_slice_get, slice_get-get_or, slice_get_within, list_any, ForSome}
+use Rattle.langtag_scan.proofs.Prelude.{◌≡◌, ℕ, true, List, get_or, Option, Some, None, option_map, ap, refl, sym, subst, ◌∙◌, ◌-◌, ◌==◌, ◌≤◌, false, ◌&&◌, ◌||◌, nat_lt, arith, Bool, [], ◌∷◌, ◌+◌, ◌<◌, zero, suc, length, min, inl, inr, slice_get, replicate, or-true, eqb_tells, nat_tests, and_parts, eq-eqb, eqb-true, not-true, or_cases, cases_lt, get_or_from_slice_get, slice_get-get_or, slice_get_within, list_any, ForSome}
 use Rattle.std.proofs.lemmas.Option.{slice_get_cases}
+use Rattle.std.specs.Bool.{nat_le}
 use Rattle.langtag_range.specs.Definitions.{Element, basic_text}
-use Rattle.langtag_choice.specs.Serves.{serves, is_excluded}
+use Rattle.langtag_choice.specs.Nearness.{kept}
+use Rattle.langtag_choice.specs.Serves.{serves, is_excluded, reach}
 use Rattle.langtag_choice.specs.Serves.{IsAtMost, rank}
 use Rattle.langtag_choice.specs.Best.{IsChoice, IsMatchOf, Pair, rank_of_pair, is_refused, longest}
 use Rattle.langtag_choice.specs.Distance.{distance_of_texts}
 use Rattle.langtag_choice.specs.Near.{wish_element}
 use Rattle.langtag_choice.specs.Candidates.{IsNotAfter, Takes}
-use Rattle.langtag_choice.specs.Found.{IsBestFound, IsBestOf, Tries, TriesOf, TriesRange, TriesRangeOf, is_flagged, is_unrefused_at}
+use Rattle.langtag_choice.specs.Found.{AddsNothing, IsBestFound, IsBestOf, Tries, TriesOf, TriesRange, TriesRangeOf, is_flagged, is_unrefused_at}
 use Rattle.langtag_choice.specs.KnownTexts.{is_known, known_text}
 use Rattle.langtag_choice.specs.declared.best_match.BestMatch.{BestMatch}
 use Rattle.langtag_choice.specs.declared.candidate.Candidate.{Candidate}
@@ -197,6 +199,35 @@ takes_at tags wish known index old new inside at takes elements wanted = record 
   ];
   apart = λ apart. apart;
 }
+
+-- a tag that is far adds nothing
+far_serves : (wish : Wish) (text : List ℕ) → 50 ≤ distance_of_texts (basic_text wish.range.now) text → kept (basic_text wish.range.now) text ≡ 0 → serves (wish_element wish) text ≡ false
+unfolding serves reach
+far_serves wish text far none = grind (arith, nat_tests)
+
+pub far_at :
+    (tags : List (Option (List ℕ))) (wish : Wish) (index : ℕ) → ForSome (get_or tags index None) (λ text. 50 ≤ distance_of_texts (basic_text wish.range.now) text) →
+    ForSome (get_or tags index None) (λ text. kept (basic_text wish.range.now) text ≡ 0) → AddsNothing wish tags (λ there. there == index)
+far_at tags wish index far none found elements wanted = record {
+  keeps = λ there r is. is;
+  covers = λ place element there tag tried asked at served.
+      let parts = and_parts (there == index) (place == wish.place) tried in
+      let same_index = eqb-true there index parts.0 in
+      let same_place = eqb-true place wish.place parts.1 in
+      let same_element : element ≡ wish_element wish = cc in
+      let here : get_or tags index None ≡ Some tag = get_or_from_slice_get tags index (Some tag) None (cc) in
+      absurd (cc (far_serves wish tag (far tag here) (none tag here), same_element, served));
+  from = λ c is. inl is;
+  apart = λ apart. apart;
+}
+
+-- one more entry that adds nothing
+pub far_next :
+    (tags : List (Option (List ℕ))) (wish : Wish) (from index : ℕ) → from ≤ index → AddsNothing wish tags (λ there. nat_le from there && nat_lt there index) → AddsNothing wish tags (λ there. there == index) →
+    AddsNothing wish tags (λ there. nat_le from there && nat_lt there (index + 1))
+far_next tags wish from index after before here found =
+    one_more_entry _ _ _ tags wish (wish_element wish) wish.place (λ there. nat_le from there && nat_lt there index) (λ there. there == index) _ found found found refl refl (before found) (here found)
+    (λ there. grind (arith, nat_tests, eqb_tells))
 
 -- ---- flags
 

@@ -1,7 +1,7 @@
 -- What a prepared form says of the tag for which it was prepared.
-use Rattle.langtag_scan.proofs.Prelude.{◌≡◌, ℕ, Bool, true, List, [], ◌∷◌, ◌==◌, Option, Some, refl, subst, sym, ap, ◌∙◌, ◌&&◌, ◌||◌, get_or, arith, bytes_eq, ◌≤◌, length, ◌<◌, false, nat_tests, and_parts, eqb-true, or_cases, false_from_ne_true, bytes_eq-Decides, ForSome, MatchOption}
+use Rattle.langtag_scan.proofs.Prelude.{◌≡◌, ℕ, Bool, cond, codes, true, List, [], ◌∷◌, ◌==◌, Option, Some, refl, subst, sym, ap, ◌∙◌, ◌&&◌, ◌||◌, get_or, arith, bytes_eq, ◌≤◌, length, ◌<◌, false, nat_tests, and_parts, eqb-true, or_cases, false_from_ne_true, bytes_eq-Decides, ForSome, MatchOption}
 use Rattle.std.proofs.lemmas.Grind.{same_number_lists}
-use Rattle.langtag_choice.specs.Distance.{distance_of_texts, fields_distance}
+use Rattle.langtag_choice.specs.Distance.{RegionSet, americas, by_language, by_side, cnsar, distance_of_texts, en_us, english, fields_distance, is_british, maghreb, on_one_side, region_distance}
 use Rattle.langtag_choice.specs.Near.{IsNearer}
 use Rattle.langtag_choice.specs.declared.nearness.Nearness.{Nearness}
 use Rattle.langtag_text.specs.Fields.{Fields}
@@ -12,7 +12,7 @@ use Rattle.langtag_choice.specs.declared.prepared_form.PreparedForm.{PreparedFor
 use Rattle.std.specs.Bool.{nat_le}
 use Rattle.std.proofs.lemmas.Bool.{eq-eqb}
 use Rattle.std.specs.Cmp.Derive.{both_true}
-use Rattle.langtag_scan.specs.Grammar.{are_alphanumeric, are_letters, is_alphanumeric, is_digit, is_letter, is_primary}
+use Rattle.langtag_scan.specs.Grammar.{are_alike, are_alphanumeric, are_letters, is_alphanumeric, is_digit, is_letter, is_primary}
 use Rattle.langtag_text.specs.Numbers.{letter_number}
 use Rattle.langtag_text.specs.FieldClasses.{is_language_field, is_script_field, is_region_field}
 use Rattle.langtag_scan.proofs.Laws.{script_four, region_two_three}
@@ -142,6 +142,39 @@ pub near_forms :
     MatchOption result (limit ≤ distance_of_texts range tag) (IsNearer limit (distance_of_texts range tag) (matching_form tag))
 unfolding distance_of_texts
 near_forms result limit range tag d s range_is tag_is near = grind arith
+
+-- ---- another region
+
+either_some : (b : Bool) (x y : ℕ) → 1 ≤ x → 1 ≤ y → 1 ≤ cond b x y
+either_some true x y one other = one
+either_some false x y one other = other
+
+side_some : (set : RegionSet) (a b : List ℕ) → 1 ≤ by_side set a b
+side_some set a b = either_some (on_one_side set a b) 4 5 (omega arith) (omega arith)
+
+english_some : (a b : List ℕ) → 1 ≤ english a b
+english_some a b = either_some (is_british a b || is_british b a) 3 (by_side en_us a b) (omega arith) (side_some en_us a b)
+
+language_some : (d s : Fields) → 1 ≤ by_language d s
+language_some d s =
+    let chinese = either_some (are_alike (codes "zh") d.language && (are_alike (codes "Hant") d.script && are_alike (codes "Hant") s.script)) (by_side cnsar d.region s.region) 4 (side_some cnsar d.region s.region) (omega arith) in
+    let american = either_some (are_alike (codes "es") d.language || are_alike (codes "pt") d.language) (by_side americas d.region s.region) _ (side_some americas d.region s.region) chinese in
+    either_some (are_alike (codes "ar") d.language) (by_side maghreb d.region s.region) _ (side_some maghreb d.region s.region)
+    (either_some (are_alike (codes "en") d.language) (english d.region s.region) _ (english_some d.region s.region) american)
+
+region_some : (d s : Fields) → are_alike d.region s.region ≡ false → 1 ≤ region_distance d s
+unfolding region_distance
+region_some d s other = rw other (either_some (are_alike d.language s.language) _ 4 (language_some d s) (omega arith))
+
+pub region_apart :
+    (range tag : List ℕ) (p : PreparedForm) (d : Fields) → matching_form range ≡ Some d → is_prepared_for tag p ≡ true → (p.number ≡ 0 → ⊥) → are_alike d.region (name_text p.region) ≡ false →
+    1 ≤ distance_of_texts range tag
+unfolding distance_of_texts
+region_apart range tag p d range_is is some other =
+    let kept = kept_of tag p is some in
+    let region : name_text p.region ≡ kept.form.region = (bytes_eq-Decides (name_text p.region) kept.form.region).0 (and_parts (bytes_eq (name_text p.script) kept.form.script) _ (and_parts (bytes_eq (name_text p.language) kept.form.language) _ kept.fields).1).1 in
+    let apart = region_some d kept.form (ap (are_alike d.region) (sym region) ∙ other) in
+    grind (arith, range_is, kept.form_is, apart)
 
 -- ---- equal strings
 

@@ -27,10 +27,3 @@ pub settled_nearer :
     c.rank.distance < reach element.range tag → ((c.rank.lack == (1000 - element.weight)) && (c.rank.place == place)) ≡ true → IsAtMost (rank_of c) (rank place element index tag)
 unfolding rank
 settled_nearer c place element index tag serves nearer same = grind (arith, common_steps, ltb-true, and_parts, eqb-true, nat_tests, ltb-false, eqb_tells)
-
--- an entry that is far is not taken
-pub far_takes :
-    (wish : Wish) (known : KnownTag) (index : ℕ) (found : Option Candidate) → (is_known known ≡ true → 50 ≤ distance_of_texts (basic_text wish.range.now) (known_text known)) →
-    (is_known known ≡ true → kept (basic_text wish.range.now) (known_text known) ≡ 0) → Takes wish known index found found
-unfolding serves reach
-far_takes wish known index found far none = grind (arith, nat_tests)

@@ -3,9 +3,11 @@ use Rattle.std.specs.Prelude.{◌≡◌, ◌⊎◌, ◌==◌, ◌&&◌, ℕ, ◌
 use Rattle.langtag_scan.specs.Prelude.{option_map_or}
 use Rattle.langtag_range.specs.Definitions.{Element, basic_text}
 use Rattle.langtag_choice.specs.Candidates.{IsNotAfter, Keeps, rank_of}
+use Rattle.langtag_choice.specs.Near.{wish_element}
 use Rattle.langtag_choice.specs.Serves.{IsAtMost, rank, serves}
 use Rattle.langtag_choice.specs.Best.{Pair, is_refused, rank_of_pair}
 use Rattle.langtag_choice.specs.declared.candidate.Candidate.{Candidate}
+use Rattle.langtag_choice.specs.declared.wish.Wish.{Wish}
 
 -- the candidate is a tag, for one of the ranges
 pub record IsAt (elements : List Element) (text : List ℕ) (c : Candidate) : Type 0 where
@@ -44,6 +46,10 @@ Tries = TriesOf (λ found index. IsNotAfter found) (λ found c. found ≡ Some c
 
 abbrev pub TriesRange : Element → ℕ → List (Option (List ℕ)) → (ℕ → Bool) → Option Candidate → Option Candidate → Type 0
 TriesRange = TriesRangeOf (λ found index. IsNotAfter found) (λ found c. found ≡ Some c) (λ found. Unit)
+
+-- what was found stays if some entries are tried for the range of a wish
+abbrev pub AddsNothing : Wish → List (Option (List ℕ)) → (ℕ → Bool) → Type 0
+AddsNothing wish tags is_tried = (found : Option Candidate) → TriesRange (wish_element wish) wish.place tags is_tried found found
 
 -- ---- several candidates
 

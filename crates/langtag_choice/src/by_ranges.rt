@@ -7,7 +7,7 @@ ghost use Rattle.langtag_choice.specs.Found.{Tries, TriesRange};
 
 use crate::candidate::Candidate;
 use crate::improve::limit;
-use crate::known_at::improve_entry;
+use crate::known_at::{improve_at, next_near};
 use crate::range_list::RangeList;
 use crate::tag_list::TagList;
 use crate::wish::Wish;
@@ -50,7 +50,9 @@ fn improve_for_range<'a, 't, T: TagList>(
     let Some(wish) = Wish::new(wanted, place) else {
         return;
     };
-    for index in 0..tags.count() {
-        improve_entry(found, &wish, tags, index);
+    let mut from = 0;
+    while let Some(index) = next_near(tags, &wish, from) {
+        improve_at(found, &wish, tags, index);
+        from = index + 1;
     }
 }

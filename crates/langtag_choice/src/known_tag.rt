@@ -1,11 +1,10 @@
 //! A tag as the choice reads it.
-ghost use Rattle.std.specs.Prelude.{◌≡◌, IsTrue, option_map, ◌≤◌};
+ghost use Rattle.std.specs.Prelude.{◌≡◌, IsTrue, option_map};
 ghost use Rattle.langtag_choice.specs.KnownTexts.{is_known, known_text};
 ghost use Rattle.langtag_choice.specs.Prepared.{is_prepared_for};
 ghost use Rattle.langtag_cldr.specs.Definitions.{matching_form, field_texts};
 
 use crate::prepared_form::PreparedForm;
-use crate::wish::Wish;
 use langtag_cldr::{TagFields, matching_form};
 
 /// A tag as the choice reads it: a string, or a string with what was kept of it. What was kept may be untrue of an entry
@@ -17,10 +16,6 @@ pub(crate) enum KnownTag<'t> {
 }
 
 impl<'t> KnownTag<'t> {
-    ghost use Rattle.langtag_choice.specs.Distance.{distance_of_texts};
-    ghost use Rattle.langtag_choice.specs.Nearness.{kept};
-    ghost use Rattle.langtag_range.specs.Definitions.{basic_text};
-
     /// Returns the string of the tag.
     pub(crate) fn bytes(self) -> &'t [u8]
         ensures { result.now ≡ known_text self.entry }
@@ -38,18 +33,6 @@ impl<'t> KnownTag<'t> {
         match self {
             KnownTag::Text(text) => matching_form(text),
             KnownTag::Prepared(text, prepared) => prepared_form(text, prepared),
-        }
-    }
-
-    /// Returns whether the first letters of the tag show that it cannot serve a range.
-    #[inline(always)]
-    pub(crate) fn is_far_from(self, wish: &Wish<'_>) -> bool
-        ensures far { IsTrue (is_known self.entry) → IsTrue result → 50 ≤ distance_of_texts (basic_text wish.now.range.now) (known_text self.entry) }
-        ensures kept { IsTrue (is_known self.entry) → IsTrue result → kept (basic_text wish.now.range.now) (known_text self.entry) ≡ 0 }
-    {
-        match self {
-            KnownTag::Text(text) => wish.is_far_from(text),
-            KnownTag::Prepared(_, prepared) => prepared.is_far_from(wish),
         }
     }
 }

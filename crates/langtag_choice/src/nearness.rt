@@ -28,6 +28,7 @@ pub(crate) struct Nearness<'t> {
 /// Returns how near a tag is to a range that the tag may serve, if the distance is below a limit. The distance is 50
 /// if only lookup finds the tag.
 #[tactic(auto, unfolding(crate::specs::Serves::reach))]
+#[inline(always)]
 pub(crate) fn measured<'t>(limit: u8, wish: &Wish<'_>, tag: KnownTag<'t>) -> Option<Nearness<'t>>
     ensures near { IsTrue (is_known tag.entry) → MatchOption result (IsTrue (may_serve (basic_text wish.now.range.now) (known_text tag.entry)) → limit ≤ reach (basic_text wish.now.range.now) (known_text tag.entry))
         (IsNear (basic_text wish.now.range.now) (known_text tag.entry)) }
@@ -46,6 +47,7 @@ pub(crate) fn measured<'t>(limit: u8, wish: &Wish<'_>, tag: KnownTag<'t>) -> Opt
 }
 
 /// Returns how near a tag is to a range (UTS #35, Language Matching), if it is nearer than a limit.
+#[inline(always)]
 fn nearer_than<'t>(limit: u8, wish: &Wish<'_>, tag: KnownTag<'t>) -> Option<Nearness<'t>>
     ensures { IsTrue (is_known tag.entry) → MatchOption result (limit ≤ distance_of_texts (basic_text wish.now.range.now) (known_text tag.entry))
         (IsNearer limit (distance_of_texts (basic_text wish.now.range.now) (known_text tag.entry)) (matching_form (known_text tag.entry))) }
@@ -70,6 +72,7 @@ fn nearer_text<'t>(limit: u8, wish: &Wish<'_>, tag: &'t [u8]) -> Option<Nearness
 
 /// Returns how near a prepared tag is to a range, if it is nearer than a limit.
 #[tactic(auto, unfolding(crate::specs::Distance::distance_of_texts))]
+#[inline(always)]
 fn nearer_prepared<'t>(
     limit: u8,
     wish: &Wish<'_>,
@@ -79,6 +82,9 @@ fn nearer_prepared<'t>(
     ensures { IsTrue (is_prepared_for tag.now prepared.now) → MatchOption result (limit ≤ distance_of_texts (basic_text wish.now.range.now) tag.now)
         (IsNearer limit (distance_of_texts (basic_text wish.now.range.now) tag.now) (matching_form tag.now)) }
 {
+    if limit <= 1 && prepared.has_other_region(wish) {
+        return None;
+    }
     let Some(form) = prepared.form() else {
         return nearer_text(limit, wish, tag);
     };

@@ -9,7 +9,7 @@ ghost use Rattle.langtag_cldr.specs.Definitions.{matching_form, name_text, field
 use crate::first_letters::first_two;
 use crate::wish::Wish;
 use langtag_cldr::{TagFields, language_number, matching_form};
-use langtag_scan::{is_primary, is_region, is_script};
+use langtag_scan::{case_insensitive_eq, is_primary, is_region, is_script};
 
 /// What the choice computes of a tag: the fields of its matching form, the number of its language, and its first
 /// letters. It has no reference to the tag, so that it can be stored and copied as plain bytes.
@@ -142,6 +142,16 @@ impl PreparedForm {
     {
         match wish.language {
             Some(own) => self.number != 0 && own.number == u32::from(self.number),
+            None => false,
+        }
+    }
+
+    /// Returns whether the region of the tag is not that of a range.
+    pub(crate) fn has_other_region(&self, wish: &Wish<'_>) -> bool
+        ensures { IsTrue result → (tag : List ℕ) → IsTrue (is_prepared_for tag self.now) → 1 ≤ distance_of_texts (basic_text wish.now.range.now) tag }
+    {
+        match wish.form {
+            Some(form) => self.number != 0 && !case_insensitive_eq(form.region, name(&self.region)),
             None => false,
         }
     }

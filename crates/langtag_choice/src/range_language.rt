@@ -12,10 +12,11 @@ use crate::read_range::starts;
 use crate::rule_distance::language_rule_keys;
 use langtag_cldr::{TagFields, language_number};
 
-/// The language with which a range begins, and the keys of the rules for it as the desired language.
+/// The language of a range, the letters with which the range begins, and the keys of the rules for the language as the
+/// desired one.
 #[derive(Clone, Copy)]
 pub(crate) struct RangeLanguage {
-    /// The first two letters of the language, in lowercase.
+    /// The first two bytes of the range, in lowercase. They are not those of the language if the language was replaced.
     pub(crate) letters: (u8, u8),
     pub(crate) number: u32,
     keys: &'static [u32],
@@ -24,19 +25,19 @@ pub(crate) struct RangeLanguage {
 }
 
 impl RangeLanguage {
-    /// Returns the language of a range with this matching form, or `None` if the range does not begin with it.
+    /// Returns the language of a range with this matching form, or `None` if the language has more than three letters.
     #[tactic(auto, using(crate::proofs::FarTags::number_has, langtag_cldr::proofs::FieldClasses::language_letters))]
     pub(crate) fn of(range: &[u8], form: Option<TagFields<'_>>) -> Option<RangeLanguage>
         ensures number { ForSome result (λ own. form_number (option_map field_texts form.entry) ≡ Some own.number) }
         ensures begins { ForSome result (λ own. first_two (basic_text range.now) ≡ Some own.letters) }
     {
         let language = form?.language;
-        if language.len() > 3 || !starts(range, language) {
+        if language.len() > 3 || range.len() < 2 || !starts(range, &range[..2]) {
             return None;
         }
         let number = language_number(language);
         Some(RangeLanguage {
-            letters: first_two(language)?,
+            letters: first_two(range)?,
             number,
             keys: rule_keys(number * 32768),
         })
@@ -51,11 +52,17 @@ impl RangeLanguage {
     }
 }
 
-/// Returns whether a key is among a few keys. For so few, `contains` takes longer.
+/// Returns whether a key is among a few keys. For so few, `contains` takes longer. Most languages have one key or none, so
+/// for these the compiler makes a loop over tags without a loop over keys.
+#[inline(always)]
 fn has_key(keys: &[u32], key: u32) -> bool
     ensures { result ≡ is_among_numbers keys.now key }
 {
-    keys.iter().any(|own| *own == key)
+    match keys {
+        [] => false,
+        [own] => *own == key,
+        _ => keys.iter().any(|own| *own == key),
+    }
 }
 
 /// Returns the keys of the rules from a number on, as far as 32,768 numbers go.

@@ -5,7 +5,7 @@
 
 use crate::erased::choice::candidate::Candidate;
 use crate::erased::choice::improve::limit;
-use crate::erased::choice::known_at::improve_entry;
+use crate::erased::choice::known_at::{improve_at, next_near};
 use crate::erased::choice::range_list::RangeList;
 use crate::erased::choice::tag_list::TagList;
 use crate::erased::choice::wish::Wish;
@@ -43,7 +43,9 @@ fn improve_for_range<'a, 't, T: TagList>(
     let Some(wish) = Wish::new(wanted, place) else {
         return;
     };
-    for index in 0..tags.count() {
-        improve_entry(found, &wish, tags, index);
+    let mut from = 0;
+    while let Some(index) = next_near(tags, &wish, from) {
+        improve_at(found, &wish, tags, index);
+        from = index + 1;
     }
 }

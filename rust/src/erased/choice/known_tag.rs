@@ -3,7 +3,6 @@
 //! A tag as the choice reads it.
 
 use crate::erased::choice::prepared_form::PreparedForm;
-use crate::erased::choice::wish::Wish;
 use crate::erased::cldr::{matching_form, TagFields};
 
 /// A tag as the choice reads it: a string, or a string with what was kept of it. What was kept may
@@ -30,15 +29,6 @@ impl<'t> KnownTag<'t> {
         match self {
             KnownTag::Text(text) => matching_form(text),
             KnownTag::Prepared(text, prepared) => prepared_form(text, prepared),
-        }
-    }
-
-    /// Returns whether the first letters of the tag show that it cannot serve a range.
-    #[inline(always)]
-    pub(crate) fn is_far_from(self, wish: &Wish<'_>) -> bool {
-        match self {
-            KnownTag::Text(text) => wish.is_far_from(text),
-            KnownTag::Prepared(_, prepared) => prepared.is_far_from(wish),
         }
     }
 }

@@ -21,6 +21,7 @@ pub(crate) struct Nearness<'t> {
 
 /// Returns how near a tag is to a range that the tag may serve, if the distance is below a limit.
 /// The distance is 50 if only lookup finds the tag.
+#[inline(always)]
 pub(crate) fn measured<'t>(limit: u8, wish: &Wish<'_>, tag: KnownTag<'t>) -> Option<Nearness<'t>> {
     if let Some(near) = nearer_than(limit.min(50), wish, tag) {
         return Some(near);
@@ -35,6 +36,7 @@ pub(crate) fn measured<'t>(limit: u8, wish: &Wish<'_>, tag: KnownTag<'t>) -> Opt
 }
 
 /// Returns how near a tag is to a range (UTS #35, Language Matching), if it is nearer than a limit.
+#[inline(always)]
 fn nearer_than<'t>(limit: u8, wish: &Wish<'_>, tag: KnownTag<'t>) -> Option<Nearness<'t>> {
     match tag {
         KnownTag::Text(text) => nearer_text(limit, wish, text),
@@ -51,12 +53,16 @@ fn nearer_text<'t>(limit: u8, wish: &Wish<'_>, tag: &'t [u8]) -> Option<Nearness
 }
 
 /// Returns how near a prepared tag is to a range, if it is nearer than a limit.
+#[inline(always)]
 fn nearer_prepared<'t>(
     limit: u8,
     wish: &Wish<'_>,
     tag: &'t [u8],
     prepared: &'t PreparedForm,
 ) -> Option<Nearness<'t>> {
+    if limit <= 1 && prepared.has_other_region(wish) {
+        return None;
+    }
     let Some(form) = prepared.form() else {
         return nearer_text(limit, wish, tag);
     };

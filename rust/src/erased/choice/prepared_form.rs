@@ -5,7 +5,7 @@
 use crate::erased::choice::first_letters::first_two;
 use crate::erased::choice::wish::Wish;
 use crate::erased::cldr::{language_number, matching_form, TagFields};
-use crate::erased::scan::{is_primary, is_region, is_script};
+use crate::erased::scan::{case_insensitive_eq, is_primary, is_region, is_script};
 
 /// What the choice computes of a tag: the fields of its matching form, the number of its language,
 /// and its first letters. It has no reference to the tag, so that it can be stored and copied as
@@ -115,6 +115,14 @@ impl PreparedForm {
     pub(crate) fn has_language_of(&self, wish: &Wish<'_>) -> bool {
         match wish.language {
             Some(own) => self.number != 0 && own.number == u32::from(self.number),
+            None => false,
+        }
+    }
+
+    /// Returns whether the region of the tag is not that of a range.
+    pub(crate) fn has_other_region(&self, wish: &Wish<'_>) -> bool {
+        match wish.form {
+            Some(form) => self.number != 0 && !case_insensitive_eq(form.region, name(&self.region)),
             None => false,
         }
     }

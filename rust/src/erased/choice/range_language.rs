@@ -7,27 +7,28 @@ use crate::erased::choice::read_range::starts;
 use crate::erased::choice::rule_distance::language_rule_keys;
 use crate::erased::cldr::{language_number, TagFields};
 
-/// The language with which a range begins, and the keys of the rules for it as the desired
-/// language.
+/// The language of a range, the letters with which the range begins, and the keys of the rules for
+/// the language as the desired one.
 #[derive(Clone, Copy)]
 pub(crate) struct RangeLanguage {
-    /// The first two letters of the language, in lowercase.
+    /// The first two bytes of the range, in lowercase. They are not those of the language if the
+    /// language was replaced.
     pub(crate) letters: (u8, u8),
     pub(crate) number: u32,
     keys: &'static [u32],
 }
 
 impl RangeLanguage {
-    /// Returns the language of a range with this matching form, or `None` if the range does not
-    /// begin with it.
+    /// Returns the language of a range with this matching form, or `None` if the language has more
+    /// than three letters.
     pub(crate) fn of(range: &[u8], form: Option<TagFields<'_>>) -> Option<RangeLanguage> {
         let language = form?.language;
-        if language.len() > 3 || !starts(range, language) {
+        if language.len() > 3 || range.len() < 2 || !starts(range, &range[..2]) {
             return None;
         }
         let number = language_number(language);
         Some(RangeLanguage {
-            letters: first_two(language)?,
+            letters: first_two(range)?,
             number,
             keys: rule_keys(number * 32768),
         })
@@ -40,10 +41,15 @@ impl RangeLanguage {
     }
 }
 
-/// Returns whether a key is among a few keys. For so few, `contains` takes longer.
-#[inline]
+/// Returns whether a key is among a few keys. For so few, `contains` takes longer. Most languages
+/// have one key or none, so for these the compiler makes a loop over tags without a loop over keys.
+#[inline(always)]
 fn has_key(keys: &[u32], key: u32) -> bool {
-    keys.iter().any(|own| *own == key)
+    match keys {
+        [] => false,
+        [own] => *own == key,
+        _ => keys.iter().any(|own| *own == key),
+    }
 }
 
 /// Returns the keys of the rules from a number on, as far as 32,768 numbers go.
