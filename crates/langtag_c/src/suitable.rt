@@ -20,7 +20,7 @@ use langtag_choice::write_suitable;
 /// for (size_t i = 0; i < count; i++) printf("%zu ", found[i]); // 2 3 1
 /// ```
 ///
-/// The rest of the array stays unchanged. The time is that of a choice for every 16 indices, and of a comparison with
+/// The rest of the array stays unchanged. The time is that of a choice for every 64 indices, and of a comparison with
 /// each earlier index for each tag, so `found_len` limits the time.
 #[unsafe(no_mangle)]
 pub extern "C" fn langtag_suitable_for_header(

@@ -63,6 +63,10 @@ module _ (candidate : Candidate) (old : List (Option Candidate)) (worst place : 
       | inr other ↦ subst (λ o. IsNotAfter o r) (sym (put_other k other.1)) (all k (subst (λ n. k < n) (length-set old place (Some candidate)) within))
     ]
 
+    -- the worst entry stays the worst if another entry got better
+    pub stays_worst : worst ≢ place → IsWorst put worst
+    stays_worst differs = λ k within r at. put_all r (λ j below. last j below r (subst (λ o. IsNotAfter o r) (put_other worst differs) at)) k within
+
     put_entry : (index : ℕ) (r : List ℕ) → HasEntry old index r → IsCovered put index r
     put_entry index r has = elim (eqb_tells has.k place) [
       | inl same ↦

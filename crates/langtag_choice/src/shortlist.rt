@@ -55,7 +55,22 @@ fn put<'a, 't>(
         return worst;
     }
     best[place] = next;
-    worst_of(best)
+    worst_after(best, worst, place)
+}
+
+/// Returns the place of the worst candidate after the entry at `place` got better, where `worst` was the place of the
+/// worst before. If another entry got better, the worst stays the worst.
+fn worst_after(best: &[Option<Candidate<'_, '_>>], worst: usize, place: usize) -> usize
+    requires inside { worst < length best.now }
+    requires stays { (worst ≡ place → ⊥) → IsWorst best.now worst }
+    ensures inside { result < length best.now }
+    ensures last { IsWorst best.now result }
+{
+    if worst == place {
+        worst_of(best)
+    } else {
+        worst
+    }
 }
 
 /// Takes out the best candidate.

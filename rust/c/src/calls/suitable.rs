@@ -19,7 +19,7 @@ use crate::erased::choice::write_suitable;
 /// for (size_t i = 0; i < count; i++) printf("%zu ", found[i]); // 2 3 1
 /// ```
 ///
-/// The rest of the array stays unchanged. The time is that of a choice for every 16 indices, and of
+/// The rest of the array stays unchanged. The time is that of a choice for every 64 indices, and of
 /// a comparison with each earlier index for each tag, so `found_len` limits the time.
 #[inline]
 pub fn langtag_suitable_for_header(

@@ -41,7 +41,18 @@ fn put<'a, 't>(
         return worst;
     }
     best[place] = next;
-    worst_of(best)
+    worst_after(best, worst, place)
+}
+
+/// Returns the place of the worst candidate after the entry at `place` got better, where `worst`
+/// was the place of the worst before. If another entry got better, the worst stays the worst.
+#[inline]
+fn worst_after(best: &[Option<Candidate<'_, '_>>], worst: usize, place: usize) -> usize {
+    if worst == place {
+        worst_of(best)
+    } else {
+        worst
+    }
 }
 
 /// Takes out the best candidate.

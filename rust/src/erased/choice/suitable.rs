@@ -18,7 +18,7 @@ use alloc::vec::Vec;
 /// the tag that it chooses among the others, and so on. For `de-CH,fr;q=0.7` and the tags `en`,
 /// `fr`, `de` and `de-AT`, they are 2, 3 and 1.
 ///
-/// The time is that of a choice for every 16 indices. To limit it, call [`write_suitable`] with a
+/// The time is that of a choice for every 64 indices. To limit it, call [`write_suitable`] with a
 /// short array.
 ///
 /// # Errors
@@ -140,7 +140,7 @@ pub fn write_suitable<'a, R: RangeList<'a>, T: TagList>(
 }
 
 /// The number of tags that one pass over all tags finds.
-const BLOCK: usize = 16;
+const BLOCK: usize = 64;
 
 /// Writes the indices of the tags that are chosen in turn to an array, and returns their number.
 fn choose_in_turn<'a, R: RangeList<'a>, T: TagList>(

@@ -11,7 +11,7 @@ loop-end-init g c = record {
   within = search rules;
   some = search rules;
   shortlist = subst (λ bar. IsShortlist (g.R.RangeList.elements c.args.ranges) (without_all (g.T.TagList.texts c.args.tags.now) (take c.args.start c.args.found.now)) bar c.best_by_tags.new.best)
-      (sym (sym c.index-best-worst_of.is ∙ get_or_read c.best_by_tags.new.best c.worst_of.result c.index-best-worst_of.result c.worst_of.ensures.inside c.index-best-worst_of.is None)) (shortlist (g.R.RangeList.elements c.args.ranges) (g.T.TagList.texts c.args.tags.now) (take c.args.start c.args.found.now) _ c.best_by_tags.new.best c.worst_of.result (none_listed 16) c.worst_of.ensures.inside c.worst_of.ensures.worst c.best_by_tags.ensures);
+      (sym (sym c.index-best-worst_of.is ∙ get_or_read c.best_by_tags.new.best c.worst_of.result c.index-best-worst_of.result c.worst_of.ensures.inside c.index-best-worst_of.is None)) (shortlist (g.R.RangeList.elements c.args.ranges) (g.T.TagList.texts c.args.tags.now) (take c.args.start c.args.found.now) _ c.best_by_tags.new.best c.worst_of.result (none_listed 64) c.worst_of.ensures.inside c.worst_of.ensures.worst c.best_by_tags.ensures);
   chosen = λ goes. goes;
   rest = refl;
   moved = inl (refl, refl);
