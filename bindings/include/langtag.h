@@ -692,7 +692,7 @@ void langtag_prepare(const char *bytes, size_t len, langtag_prepared_tag *tag);
 
 /*
  * Returns what langtag_best_for_header returns for the same string and the spans of the tags. For 40 tags it takes
- * about 0.6 of the time, and for a few tags nearly as much. Each tag was prepared by langtag_prepare for this string.
+ * about half of the time, and for a few tags nearly as much. Each tag was prepared by langtag_prepare for this string.
  * A tag that was not is skipped: any values of `opaque` are safe.
  */
 LANGTAG_PURE size_t langtag_site_best_for_header(const char *header, size_t header_len, const char *bytes, size_t len,

@@ -136,7 +136,7 @@ impl PreparedForm {
         }
     }
 
-    /// Returns whether the language of the tag is the language with which a range begins.
+    /// Returns whether the language of the tag is that of a range.
     pub(crate) fn has_language_of(&self, wish: &Wish<'_>) -> bool
         ensures { IsTrue result → (tag : List ℕ) → IsTrue (is_prepared_for tag self.now) → HaveOneLanguage (matching_form (basic_text wish.now.range.now)) (matching_form tag) }
     {

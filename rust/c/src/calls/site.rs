@@ -10,7 +10,7 @@ use crate::calls::spanned_ranges::SpannedRanges;
 use crate::erased::choice::{best_among, match_among};
 
 /// Returns what `langtag_best_for_header` returns for the same string and the spans of the tags.
-/// For 40 tags it takes about 0.6 of the time, and for a few tags nearly as much. Each tag was
+/// For 40 tags it takes about half of the time, and for a few tags nearly as much. Each tag was
 /// prepared by `langtag_prepare` for this string. A tag that was not is skipped: any values of
 /// `opaque` are safe.
 #[inline]

@@ -110,7 +110,7 @@ impl PreparedForm {
         }
     }
 
-    /// Returns whether the language of the tag is the language with which a range begins.
+    /// Returns whether the language of the tag is that of a range.
     #[inline]
     pub(crate) fn has_language_of(&self, wish: &Wish<'_>) -> bool {
         match wish.language {

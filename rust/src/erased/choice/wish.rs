@@ -10,8 +10,8 @@ use crate::erased::cldr::{matching_form, TagFields};
 use crate::erased::range::WantedRange;
 
 /// A range other than `*`, its weight, which is not 0, and the number of ranges before it. The
-/// matching form of the range is computed once for many tags, and so is its language if the range
-/// begins with it.
+/// matching form of the range is computed once for many tags, and so is its language if that has at
+/// most three letters.
 #[derive(Clone, Copy)]
 pub(crate) struct Wish<'a> {
     pub(crate) range: &'a [u8],
