@@ -1,7 +1,7 @@
 //! A tag with what the choice computes of it.
 ghost use Rattle.std.specs.Prelude.{◌≡◌, IsTrue};
 ghost use Rattle.langtag.specs.Definitions.{lang_tag_text};
-ghost use Rattle.langtag_choice.specs.Prepared.{is_prepared_for};
+ghost use Rattle.langtag_choice.specs.Prepared.{KeepsForm, is_prepared_for};
 
 use crate::prepared_form::PreparedForm;
 use langtag::LangTag;
@@ -27,6 +27,7 @@ impl<'t> PreparedTag<'t> {
     /// value.
     pub fn new(tag: LangTag<'t>) -> PreparedTag<'t>
         ensures tag { result.tag ≡ tag.entry }
+        ensures kept { KeepsForm (lang_tag_text tag.entry) result.form }
         ensures cloned { (prepared copy : PreparedTag) → ⟦<PreparedTag<'t> as Clone>⟧.is_clone prepared copy → copy ≡ prepared }
         ensures clone_succeeds { (prepared : PreparedTag) → ⟦<PreparedTag<'t> as Clone>⟧.is_infallible prepared }
     {
