@@ -1,14 +1,9 @@
 -- How ranks compare, and that a tag that is far is not taken.
-use Rattle.langtag_scan.proofs.Prelude.{◌≡◌, ℕ, true, List, Option, ◌-◌, ◌==◌, ◌≤◌, ◌&&◌, ◌||◌, nat_lt, arith, ◌<◌, eqb_tells, nat_tests, and_parts, eqb-true, ltb-false, ltb-true, or_cases, common_steps}
-use Rattle.langtag_range.specs.Definitions.{Element, basic_text}
+use Rattle.langtag_scan.proofs.Prelude.{◌≡◌, ℕ, true, List, ◌-◌, ◌==◌, ◌≤◌, ◌&&◌, ◌||◌, nat_lt, arith, ◌<◌, eqb_tells, nat_tests, and_parts, eqb-true, ltb-false, ltb-true, or_cases, common_steps}
+use Rattle.langtag_range.specs.Definitions.{Element}
 use Rattle.langtag_choice.specs.Serves.{serves, reach, IsAtMost, rank, service}
-use Rattle.langtag_choice.specs.Distance.{distance_of_texts}
-use Rattle.langtag_choice.specs.Candidates.{Takes, rank_of, service_number}
-use Rattle.langtag_choice.specs.KnownTexts.{is_known, known_text}
-use Rattle.langtag_choice.specs.Nearness.{kept}
+use Rattle.langtag_choice.specs.Candidates.{rank_of, service_number}
 use Rattle.langtag_choice.specs.declared.candidate.Candidate.{Candidate}
-use Rattle.langtag_choice.specs.declared.known_tag.KnownTag.{KnownTag}
-use Rattle.langtag_choice.specs.declared.wish.Wish.{Wish}
 
 pub reach_most : (range tag : List ℕ) → reach range tag ≤ 50
 unfolding reach

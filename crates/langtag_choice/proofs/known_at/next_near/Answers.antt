@@ -1,4 +1,4 @@
-use Rattle.langtag_scan.proofs.Prelude.{◌&&◌, nat_lt, arith, nat_tests, rules}
+use Rattle.langtag_scan.proofs.Prelude.{arith, nat_tests, rules}
 use Rattle.langtag_choice.proofs.FoundLaws.{far_next, tries_same}
 use Rattle.langtag_choice.proofs.known_at.next_near.Goals as goal
 
