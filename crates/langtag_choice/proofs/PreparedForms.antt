@@ -1,5 +1,5 @@
 -- What a prepared form says of the tag for which it was prepared.
-use Rattle.langtag_scan.proofs.Prelude.{◌≡◌, ℕ, Bool, cond, codes, true, List, [], ◌∷◌, ◌==◌, Option, Some, refl, subst, sym, ap, ◌∙◌, ◌&&◌, ◌||◌, get_or, arith, bytes_eq, ◌≤◌, length, ◌<◌, false, nat_tests, and_parts, eqb-true, or_cases, false_from_ne_true, bytes_eq-Decides, ForSome, MatchOption}
+use Rattle.langtag_scan.proofs.Prelude.{◌≡◌, ℕ, Bool, cond, codes, true, List, [], ◌∷◌, ◌==◌, Option, Some, refl, subst, sym, ap, ◌∙◌, ◌&&◌, ◌||◌, get_or, arith, bytes_eq, ◌≤◌, length, ◌<◌, false, nat_tests, and_parts, eqb-true, or_cases, false_from_ne_true, bytes_eq-Decides, ForSome, MatchOption, None, option_map_or}
 use Rattle.std.proofs.lemmas.Grind.{same_number_lists}
 use Rattle.langtag_choice.specs.Distance.{RegionSet, americas, by_language, by_side, cnsar, distance_of_texts, en_us, english, fields_distance, is_british, maghreb, on_one_side, region_distance}
 use Rattle.langtag_choice.specs.Near.{IsNearer}
@@ -7,6 +7,7 @@ use Rattle.langtag_choice.specs.declared.nearness.Nearness.{Nearness}
 use Rattle.langtag_text.specs.Fields.{Fields}
 use Rattle.langtag_choice.specs.FirstLetters.{first_two}
 use Rattle.langtag_choice.specs.NearLanguages.{HasNumber}
+use Rattle.langtag_choice.specs.Nearness.{unlikely, unlikely_form, unlikely_kept, unlikely_of}
 use Rattle.langtag_choice.specs.Prepared.{has_fields, has_head, is_prepared_for}
 use Rattle.langtag_choice.specs.declared.prepared_form.PreparedForm.{PreparedForm}
 use Rattle.std.specs.Bool.{nat_le}
@@ -60,6 +61,25 @@ name_of_four (a ∷ b ∷ c ∷ d ∷ []) least most is =
     rw (not_zero b (and_parts (is_alphanumeric b) _ rest).0, not_zero c (and_parts (is_alphanumeric c) _ more).0, not_zero d (and_parts (is_alphanumeric d) true last).0) refl
 name_of_four (a ∷ b ∷ c ∷ d ∷ e ∷ s) least most is = absurd (omega arith)
 
+pub language_of_two :
+    (language : List ℕ) → 2 ≤ length language → length language < 3 → are_alphanumeric language ≡ true → name_text (get_or language 0 0 ∷ get_or language 1 0 ∷ 0 ∷ []) ≡ language
+language_of_two [] least most is = absurd (omega arith)
+language_of_two (a ∷ []) least most is = absurd (omega arith)
+language_of_two (a ∷ b ∷ []) least most is = rw (not_zero b (and_parts (is_alphanumeric b) true (and_parts (is_alphanumeric a) _ is).1).0) refl
+language_of_two (a ∷ b ∷ c ∷ s) least most is = absurd (omega arith)
+
+pub language_of_three :
+    (language : List ℕ) → 3 ≤ length language → length language < 4 → are_alphanumeric language ≡ true →
+    name_text (get_or language 0 0 ∷ get_or language 1 0 ∷ get_or language 2 0 ∷ []) ≡ language
+language_of_three [] least most is = absurd (omega arith)
+language_of_three (a ∷ []) least most is = absurd (omega arith)
+language_of_three (a ∷ b ∷ []) least most is = absurd (omega arith)
+language_of_three (a ∷ b ∷ c ∷ []) least most is =
+    let rest = (and_parts (is_alphanumeric a) _ is).1 in
+    let last = (and_parts (is_alphanumeric b) _ rest).1 in
+    rw (not_zero b (and_parts (is_alphanumeric b) _ rest).0, not_zero c (and_parts (is_alphanumeric c) true last).0) refl
+language_of_three (a ∷ b ∷ c ∷ d ∷ s) least most is = absurd (omega arith)
+
 -- no field has one byte
 pub language_counted : (text : List ℕ) → is_language_field text ≡ true → length text ≡ 1 → ⊥
 unfolding is_primary
@@ -77,15 +97,16 @@ region_counted text good = grind (arith, region_two_three)
 pub form_is_kept :
     (f : Fields) (first second : ℕ) (p : PreparedForm) → length f.language ≤ 3 → are_letters f.language ≡ true → letter_number f.language ≡ p.number →
     p.letters ≡ first ∷ second ∷ [] → name_text p.language ≡ f.language → name_text p.script ≡ f.script → name_text p.region ≡ f.region →
-    (has_head f (first, second) p && has_fields f p) ≡ true
-form_is_kept f first second p short are number letters language script region =
+    unlikely_form f ≡ p.unlikely → (has_head f (first, second) p && has_fields f p) ≡ true
+form_is_kept f first second p short are number letters language script region unlikely =
     let counted : nat_le (length f.language) 3 ≡ true = grind (arith, nat_tests) in
     let one : (first == get_or p.letters 0 0) ≡ true = eq-eqb first _ (rw letters refl) in
     let two : (second == get_or p.letters 1 0) ≡ true = eq-eqb second _ (rw letters refl) in
     both_true
     (both_true (both_true (both_true counted are) (eq-eqb (letter_number f.language) p.number number)) (both_true one two))
-    (both_true ((bytes_eq-Decides (name_text p.language) f.language).1 language)
+    (both_true (both_true ((bytes_eq-Decides (name_text p.language) f.language).1 language)
     (both_true ((bytes_eq-Decides (name_text p.script) f.script).1 script) ((bytes_eq-Decides (name_text p.region) f.region).1 region)))
+    (eq-eqb (unlikely_form f) p.unlikely unlikely))
 
 pub or_second : (a b : Bool) → b ≡ true → (a || b) ≡ true
 or_second a b is = grind (arith, nat_tests)
@@ -114,7 +135,8 @@ pub form_kept :
     fields.language ≡ name_text p.language → fields.script ≡ name_text p.script → fields.region ≡ name_text p.region → matching_form tag ≡ Some fields
 form_kept tag p fields is some language script region =
     let kept = kept_of tag p is some in
-    let parts = and_parts (bytes_eq (name_text p.language) kept.form.language) _ kept.fields in
+    let names = and_parts _ (unlikely_form kept.form == p.unlikely) kept.fields in
+    let parts = and_parts (bytes_eq (name_text p.language) kept.form.language) _ names.0 in
     let more = and_parts (bytes_eq (name_text p.script) kept.form.script) (bytes_eq (name_text p.region) kept.form.region) parts.1 in
     kept.form_is ∙ ap Some (same_fields kept.form fields
     (sym ((bytes_eq-Decides (name_text p.language) kept.form.language).0 parts.0) ∙ sym language)
@@ -126,6 +148,19 @@ pub number_kept : (tag : List ℕ) (p : PreparedForm) (number : ℕ) → is_prep
 number_kept tag p number is some same =
     let kept = kept_of tag p is some in
     grind (arith, nat_tests, and_parts, eqb-true)
+
+-- what is kept of the region is how unlikely the tag is
+pub unlikely_is_kept : (tag : List ℕ) (p : PreparedForm) → is_prepared_for tag p ≡ true → (p.number ≡ 0 → ⊥) → p.unlikely ≡ unlikely tag
+unfolding unlikely unlikely_of
+unlikely_is_kept tag p is some =
+    let kept = kept_of tag p is some in
+    sym (ap (λ form. option_map_or unlikely_form form 2) kept.form_is ∙ eqb-true (unlikely_form kept.form) p.unlikely (and_parts _ (unlikely_form kept.form == p.unlikely) kept.fields).1)
+
+-- how unlikely a form is, whether it was kept or not
+pub unlikely_either : (kept : Option ℕ) (form : Option Fields) (tag : List ℕ) → ForSome kept (λ n. n ≡ unlikely tag) → form ≡ matching_form tag → unlikely_kept kept form ≡ unlikely tag
+unfolding unlikely
+unlikely_either None form tag kept is = ap unlikely_of is
+unlikely_either (Some n) form tag kept is = kept n refl
 
 -- the letters that are kept are the first letters of the tag
 pub letters_kept : (tag : List ℕ) (p : PreparedForm) → is_prepared_for tag p ≡ true → (p.number ≡ 0 → ⊥) → first_two tag ≡ Some (get_or p.letters 0 0, get_or p.letters 1 0)
@@ -172,7 +207,8 @@ pub region_apart :
 unfolding distance_of_texts
 region_apart range tag p d range_is is some other =
     let kept = kept_of tag p is some in
-    let region : name_text p.region ≡ kept.form.region = (bytes_eq-Decides (name_text p.region) kept.form.region).0 (and_parts (bytes_eq (name_text p.script) kept.form.script) _ (and_parts (bytes_eq (name_text p.language) kept.form.language) _ kept.fields).1).1 in
+    let names = and_parts _ (unlikely_form kept.form == p.unlikely) kept.fields in
+    let region : name_text p.region ≡ kept.form.region = (bytes_eq-Decides (name_text p.region) kept.form.region).0 (and_parts (bytes_eq (name_text p.script) kept.form.script) _ (and_parts (bytes_eq (name_text p.language) kept.form.language) _ names.0).1).1 in
     let apart = region_some d kept.form (ap (are_alike d.region) (sym region) ∙ other) in
     grind (arith, range_is, kept.form_is, apart)
 

@@ -1,5 +1,5 @@
 -- What decides among tags at the same distance from a range.
-use Rattle.std.specs.Prelude.{ℕ, Bool, ◌==◌, ◌&&◌, ◌||◌, not, if◌then◌else◌, List, codes, length, take, drop, Option}
+use Rattle.std.specs.Prelude.{ℕ, Bool, ◌==◌, ◌&&◌, ◌||◌, not, if◌then◌else◌, List, codes, length, take, drop, Option, None, Some}
 use Rattle.langtag_scan.specs.Grammar.{option_map_or, are_alike}
 use Rattle.langtag_cldr.specs.Definitions.{without_region, matching_form, suffices}
 use Rattle.langtag_text.specs.Fields.{Fields}
@@ -38,3 +38,8 @@ unlikely_of form = option_map_or unlikely_form form 2
 
 unfoldable pub unlikely : List ℕ → ℕ
 unlikely tag = unlikely_of (matching_form tag)
+
+-- how unlikely a form is: what was kept of it, or else what it is
+abbrev pub unlikely_kept : Option ℕ → Option Fields → ℕ
+unlikely_kept None form = unlikely_of form
+unlikely_kept (Some kept) form = kept

@@ -3,6 +3,7 @@ use Rattle.std.specs.Prelude.{◌≡◌, ℕ, ◌≤◌, ◌==◌, ◌&&◌, ◌
 use Rattle.langtag_scan.specs.Grammar.{are_letters}
 use Rattle.langtag_text.specs.Fields.{Fields}
 use Rattle.langtag_choice.specs.FirstLetters.{first_two}
+use Rattle.langtag_choice.specs.Nearness.{unlikely_form}
 use Rattle.langtag_choice.specs.declared.prepared_form.PreparedForm.{PreparedForm}
 use Rattle.langtag_cldr.specs.Definitions.{matching_form, name_text}
 use Rattle.langtag_text.specs.Numbers.{letter_number}
@@ -13,9 +14,11 @@ has_head f letters p =
     ((nat_le (length f.language) 3 && are_letters f.language) && (letter_number f.language == p.number)) &&
     ((letters.0 == slice_index_or p.letters 0 0) && (letters.1 == slice_index_or p.letters 1 0))
 
--- whether the fields are these
+-- whether the fields are these, and the form is as unlikely as this
 abbrev pub has_fields : Fields → PreparedForm → Bool
-has_fields f p = bytes_eq (name_text p.language) f.language && (bytes_eq (name_text p.script) f.script && bytes_eq (name_text p.region) f.region)
+has_fields f p =
+    (bytes_eq (name_text p.language) f.language && (bytes_eq (name_text p.script) f.script && bytes_eq (name_text p.region) f.region)) &&
+    (unlikely_form f == p.unlikely)
 
 -- whether nothing is kept, or a matching form and the first two letters of its tag
 abbrev pub keeps : Option Fields → Option (ℕ × ℕ) → PreparedForm → Bool

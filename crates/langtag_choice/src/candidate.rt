@@ -87,6 +87,8 @@ pub(crate) struct Candidate<'a, 't> {
     pub(crate) variants: usize,
     pub(crate) tag: &'t [u8],
     pub(crate) form: Option<TagFields<'t>>,
+    /// How unlikely the region of the tag is, if this was kept.
+    pub(crate) unlikely: Option<u8>,
     pub(crate) index: usize,
     pub ghost counted: { variants ≡ length (variants_of (basic_text range.now)) },
     pub ghost in_class: { IsTrue (is_language_range (hyphened range.now)) },
@@ -94,7 +96,8 @@ pub(crate) struct Candidate<'a, 't> {
 
 impl Candidate<'_, '_> {
     ghost use Rattle.langtag_choice.specs.Candidates.{rank_of};
-    ghost use Rattle.langtag_choice.specs.Nearness.{kept};
+    ghost use Rattle.langtag_choice.specs.Nearness.{kept, unlikely_kept};
+    ghost use Rattle.langtag_cldr.specs.Definitions.{field_texts};
 
     /// Returns whether this candidate is better than another.
     pub(crate) fn goes_before(&self, other: &Candidate<'_, '_>) -> bool
@@ -120,7 +123,7 @@ impl Candidate<'_, '_> {
         if lost != others_lost {
             return lost < others_lost;
         }
-        let (unlikely, others) = (unlikely(self.form), unlikely(other.form));
+        let (unlikely, others) = (self.unlikely(), other.unlikely());
         if unlikely != others {
             return unlikely < others;
         }
@@ -136,6 +139,16 @@ impl Candidate<'_, '_> {
             return self.variants;
         }
         lacking_variants(self.range, self.tag)
+    }
+
+    /// Returns how unlikely the region of the tag is.
+    fn unlikely(&self) -> u8
+        ensures { result ≡ unlikely_kept self.now.unlikely (option_map field_texts self.now.form) }
+    {
+        match self.unlikely {
+            Some(kept) => kept,
+            None => unlikely(self.form),
+        }
     }
 
     /// Returns how many bytes lookup removes from the range to find the tag, or the length of the range if lookup

@@ -16,6 +16,9 @@ pub(crate) enum KnownTag<'t> {
 }
 
 impl<'t> KnownTag<'t> {
+    ghost use Rattle.langtag_scan.specs.Prelude.{ForSome};
+    ghost use Rattle.langtag_choice.specs.Nearness.{unlikely};
+
     /// Returns the string of the tag.
     pub(crate) fn bytes(self) -> &'t [u8]
         ensures { result.now ≡ known_text self.entry }
@@ -33,6 +36,16 @@ impl<'t> KnownTag<'t> {
         match self {
             KnownTag::Text(text) => matching_form(text),
             KnownTag::Prepared(text, prepared) => prepared_form(text, prepared),
+        }
+    }
+
+    /// Returns how unlikely the region of the tag is, if this was kept.
+    pub(crate) fn kept_unlikely(self) -> Option<u8>
+        ensures { IsTrue (is_known self.entry) → ForSome result (λ kept. kept ≡ unlikely (known_text self.entry)) }
+    {
+        match self {
+            KnownTag::Text(_) => None,
+            KnownTag::Prepared(_, prepared) => prepared.unlikely(),
         }
     }
 }

@@ -9,7 +9,7 @@ use langtag_scan::case_insensitive_eq;
 /// Returns 0 if the region of a matching form is the likely region for its language and script, 1 if the form is one of
 /// CLDR's paradigm locales, and 2 otherwise.
 #[tactic(auto, unfolding(crate::specs::Nearness::unlikely_of))]
-pub(crate) fn unlikely(form: Option<TagFields<'_>>) -> u32
+pub(crate) fn unlikely(form: Option<TagFields<'_>>) -> u8
     ensures { result ≡ spec.unlikely_of (option_map field_texts form.entry) }
 {
     match form {
@@ -18,7 +18,8 @@ pub(crate) fn unlikely(form: Option<TagFields<'_>>) -> u32
     }
 }
 
-fn unlikely_form(form: TagFields<'_>) -> u32
+/// Returns how unlikely the region of a matching form is.
+pub(crate) fn unlikely_form(form: TagFields<'_>) -> u8
     ensures { result ≡ spec.unlikely_form (field_texts form.entry) }
 {
     if suffices(form, form.without_region()) {

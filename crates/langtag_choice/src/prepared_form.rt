@@ -7,6 +7,7 @@ ghost use Rattle.langtag_choice.specs.Prepared.{KeepsForm, is_prepared_for, has_
 ghost use Rattle.langtag_cldr.specs.Definitions.{matching_form, name_text, field_texts};
 
 use crate::first_letters::first_two;
+use crate::likely_region::unlikely_form;
 use crate::wish::Wish;
 use langtag_cldr::{TagFields, language_number, matching_form};
 use langtag_scan::{case_insensitive_eq, is_primary, is_region, is_script};
@@ -23,8 +24,10 @@ pub struct PreparedForm {
     number: u16,
     /// The first two letters of the tag, in lowercase.
     letters: [u8; 2],
-    // Each field of the matching form. Zeros fill it up to four bytes.
-    language: [u8; 4],
+    // Each field of the matching form. Zeros fill it up to three or four bytes.
+    language: [u8; 3],
+    /// How unlikely the region of the form is.
+    unlikely: u8,
     script: [u8; 4],
     region: [u8; 4],
 }
@@ -32,7 +35,7 @@ pub struct PreparedForm {
 impl PreparedForm {
     ghost use Rattle.langtag_choice.specs.Distance.{distance_of_texts};
     ghost use Rattle.langtag_choice.specs.NearLanguages.{HaveOneLanguage};
-    ghost use Rattle.langtag_choice.specs.Nearness.{kept};
+    ghost use Rattle.langtag_choice.specs.Nearness.{kept, unlikely};
     ghost use Rattle.langtag_range.specs.Definitions.{basic_text};
 
     /// Returns what the choice computes of a tag. It is proved that a clone is the same value.
@@ -55,7 +58,8 @@ impl PreparedForm {
         PreparedForm {
             number: 0,
             letters: [0, 0],
-            language: [0, 0, 0, 0],
+            language: [0, 0, 0],
+            unlikely: 2,
             script: [0, 0, 0, 0],
             region: [0, 0, 0, 0],
         }
@@ -72,7 +76,8 @@ impl PreparedForm {
         PreparedForm {
             number: language_number(form.language) as u16,
             letters: [letters.0, letters.1],
-            language: filled(form.language),
+            language: filled_language(form.language),
+            unlikely: unlikely_form(form),
             script: filled(form.script),
             region: filled(form.region),
         }
@@ -106,13 +111,14 @@ impl PreparedForm {
             && (letters.0 == self.letters[0] && letters.1 == self.letters[1])
     }
 
-    /// Returns whether the fields are these.
+    /// Returns whether the fields are these, and the form is as unlikely as this.
     fn has_fields(&self, form: TagFields<'_>) -> bool
         ensures { result ≡ has_fields (field_texts form.entry) self.now }
     {
-        are_equal(name(&self.language), form.language)
+        (are_equal(language_name(&self.language), form.language)
             && (are_equal(name(&self.script), form.script)
-                && are_equal(name(&self.region), form.region))
+                && are_equal(name(&self.region), form.region)))
+            && unlikely_form(form) == self.unlikely
     }
 
     /// Returns the matching form, or `None` if nothing is kept.
@@ -134,6 +140,16 @@ impl PreparedForm {
             }),
             _ => None,
         }
+    }
+
+    /// Returns how unlikely the region of the form is, or `None` if nothing is kept.
+    pub(crate) fn unlikely(&self) -> Option<u8>
+        ensures { ForSome result (λ kept. (tag : List ℕ) → IsTrue (is_prepared_for tag self.now) → kept ≡ unlikely tag) }
+    {
+        if self.number == 0 {
+            return None;
+        }
+        Some(self.unlikely)
     }
 
     /// Returns whether the language of the tag is that of a range.
@@ -166,6 +182,31 @@ impl PreparedForm {
         }
         let letters = (self.letters[0], self.letters[1]);
         wish.is_far_from_language(letters, u32::from(self.number))
+    }
+}
+
+/// Returns a language with zeros that fill it up to three bytes.
+fn filled_language(language: &[u8]) -> [u8; 3]
+    ensures { IsTrue (are_alphanumeric language.now) → (length language.now ≡ 1 → ⊥) → length language.now ≤ 3 → name_text result ≡ language.now }
+{
+    match language {
+        [first, second] => [*first, *second, 0],
+        [first, second, third] => [*first, *second, *third],
+        _ => [0, 0, 0],
+    }
+}
+
+/// Returns a language without the zeros that fill it up.
+fn language_name(field: &[u8; 3]) -> &[u8]
+    ensures { result.now ≡ name_text field.now }
+{
+    if field[1] == 0 {
+        return b"";
+    }
+    if field[2] == 0 {
+        &field[..2]
+    } else {
+        &field[..3]
     }
 }
 
@@ -215,10 +256,10 @@ fn are_equal(a: &[u8], b: &[u8]) -> bool
 }
 
 /// Returns the language in a field, unless it is malformed.
-fn language_in(field: &[u8; 4]) -> Option<&[u8]>
+fn language_in(field: &[u8; 3]) -> Option<&[u8]>
     ensures { ForSome result (λ text. (text.now ≡ name_text field.now) × IsTrue (is_language_field text.now)) }
 {
-    let language = name(field);
+    let language = language_name(field);
     if is_primary(language) || language.is_empty() {
         Some(language)
     } else {

@@ -79,6 +79,8 @@ pub(crate) struct Candidate<'a, 't> {
     pub(crate) variants: usize,
     pub(crate) tag: &'t [u8],
     pub(crate) form: Option<TagFields<'t>>,
+    /// How unlikely the region of the tag is, if this was kept.
+    pub(crate) unlikely: Option<u8>,
     pub(crate) index: usize,
 }
 
@@ -104,7 +106,7 @@ impl Candidate<'_, '_> {
         if lost != others_lost {
             return lost < others_lost;
         }
-        let (unlikely, others) = (unlikely(self.form), unlikely(other.form));
+        let (unlikely, others) = (self.unlikely(), other.unlikely());
         if unlikely != others {
             return unlikely < others;
         }
@@ -118,6 +120,15 @@ impl Candidate<'_, '_> {
             return self.variants;
         }
         lacking_variants(self.range, self.tag)
+    }
+
+    /// Returns how unlikely the region of the tag is.
+    #[inline]
+    fn unlikely(&self) -> u8 {
+        match self.unlikely {
+            Some(kept) => kept,
+            None => unlikely(self.form),
+        }
     }
 
     /// Returns how many bytes lookup removes from the range to find the tag, or the length of the

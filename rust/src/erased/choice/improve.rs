@@ -84,6 +84,7 @@ fn as_candidate<'a, 't>(
         variants: wish.variants,
         tag: tag.bytes(),
         form: near.form,
+        unlikely: tag.kept_unlikely(),
         index,
     })
 }

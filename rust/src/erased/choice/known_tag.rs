@@ -31,6 +31,15 @@ impl<'t> KnownTag<'t> {
             KnownTag::Prepared(text, prepared) => prepared_form(text, prepared),
         }
     }
+
+    /// Returns how unlikely the region of the tag is, if this was kept.
+    #[inline]
+    pub(crate) fn kept_unlikely(self) -> Option<u8> {
+        match self {
+            KnownTag::Text(_) => None,
+            KnownTag::Prepared(_, prepared) => prepared.unlikely(),
+        }
+    }
 }
 
 /// Returns the matching form that was kept of a string, or else computes it.

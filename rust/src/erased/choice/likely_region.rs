@@ -8,15 +8,16 @@ use crate::erased::scan::case_insensitive_eq;
 /// Returns 0 if the region of a matching form is the likely region for its language and script, 1
 /// if the form is one of CLDR's paradigm locales, and 2 otherwise.
 #[inline]
-pub(crate) fn unlikely(form: Option<TagFields<'_>>) -> u32 {
+pub(crate) fn unlikely(form: Option<TagFields<'_>>) -> u8 {
     match form {
         Some(form) => unlikely_form(form),
         None => 2,
     }
 }
 
+/// Returns how unlikely the region of a matching form is.
 #[inline]
-fn unlikely_form(form: TagFields<'_>) -> u32 {
+pub(crate) fn unlikely_form(form: TagFields<'_>) -> u8 {
     if suffices(form, form.without_region()) {
         0
     } else if is_paradigm(form) {

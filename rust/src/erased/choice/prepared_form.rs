@@ -3,6 +3,7 @@
 //! What is kept of a tag that is prepared.
 
 use crate::erased::choice::first_letters::first_two;
+use crate::erased::choice::likely_region::unlikely_form;
 use crate::erased::choice::wish::Wish;
 use crate::erased::cldr::{language_number, matching_form, TagFields};
 use crate::erased::scan::{case_insensitive_eq, is_primary, is_region, is_script};
@@ -20,8 +21,10 @@ pub struct PreparedForm {
     number: u16,
     /// The first two letters of the tag, in lowercase.
     letters: [u8; 2],
-    // Each field of the matching form. Zeros fill it up to four bytes.
-    language: [u8; 4],
+    // Each field of the matching form. Zeros fill it up to three or four bytes.
+    language: [u8; 3],
+    /// How unlikely the region of the form is.
+    unlikely: u8,
     script: [u8; 4],
     region: [u8; 4],
 }
@@ -40,7 +43,8 @@ impl PreparedForm {
         PreparedForm {
             number: 0,
             letters: [0, 0],
-            language: [0, 0, 0, 0],
+            language: [0, 0, 0],
+            unlikely: 2,
             script: [0, 0, 0, 0],
             region: [0, 0, 0, 0],
         }
@@ -54,7 +58,8 @@ impl PreparedForm {
         PreparedForm {
             number: language_number(form.language) as u16,
             letters: [letters.0, letters.1],
-            language: filled(form.language),
+            language: filled_language(form.language),
+            unlikely: unlikely_form(form),
             script: filled(form.script),
             region: filled(form.region),
         }
@@ -83,11 +88,12 @@ impl PreparedForm {
             && (letters.0 == self.letters[0] && letters.1 == self.letters[1])
     }
 
-    /// Returns whether the fields are these.
+    /// Returns whether the fields are these, and the form is as unlikely as this.
     fn has_fields(&self, form: TagFields<'_>) -> bool {
-        are_equal(name(&self.language), form.language)
+        (are_equal(language_name(&self.language), form.language)
             && (are_equal(name(&self.script), form.script)
-                && are_equal(name(&self.region), form.region))
+                && are_equal(name(&self.region), form.region)))
+            && unlikely_form(form) == self.unlikely
     }
 
     /// Returns the matching form, or `None` if nothing is kept.
@@ -108,6 +114,15 @@ impl PreparedForm {
             }),
             _ => None,
         }
+    }
+
+    /// Returns how unlikely the region of the form is, or `None` if nothing is kept.
+    #[inline]
+    pub(crate) fn unlikely(&self) -> Option<u8> {
+        if self.number == 0 {
+            return None;
+        }
+        Some(self.unlikely)
     }
 
     /// Returns whether the language of the tag is that of a range.
@@ -136,6 +151,27 @@ impl PreparedForm {
         }
         let letters = (self.letters[0], self.letters[1]);
         wish.is_far_from_language(letters, u32::from(self.number))
+    }
+}
+
+/// Returns a language with zeros that fill it up to three bytes.
+fn filled_language(language: &[u8]) -> [u8; 3] {
+    match language {
+        [first, second] => [*first, *second, 0],
+        [first, second, third] => [*first, *second, *third],
+        _ => [0, 0, 0],
+    }
+}
+
+/// Returns a language without the zeros that fill it up.
+fn language_name(field: &[u8; 3]) -> &[u8] {
+    if field[1] == 0 {
+        return b"";
+    }
+    if field[2] == 0 {
+        &field[..2]
+    } else {
+        &field[..3]
     }
 }
 
@@ -179,8 +215,8 @@ fn are_equal(a: &[u8], b: &[u8]) -> bool {
 }
 
 /// Returns the language in a field, unless it is malformed.
-fn language_in(field: &[u8; 4]) -> Option<&[u8]> {
-    let language = name(field);
+fn language_in(field: &[u8; 3]) -> Option<&[u8]> {
+    let language = language_name(field);
     if is_primary(language) || language.is_empty() {
         Some(language)
     } else {

@@ -12,14 +12,16 @@ returns-clause-kept c = λ short.
     let kept : PreparedForm = record {
       number = c.language_number.result;
       letters = letters.0 ∷ letters.1 ∷ [];
-      language = c.filled.result;
-      script = c.filled-2.result;
-      region = c.filled-3.result;
+      language = c.filled_language.result;
+      unlikely = c.unlikely_form.result;
+      script = c.filled.result;
+      region = c.filled-2.result;
     } in
     form_is_kept (field_texts form) letters.0 letters.1 kept short (language_letters form.language.now form.language_class) (sym c.language_number.ensures.number) refl
-    (c.filled.ensures (language_alphanumeric form.language.now form.language_class) (language_counted form.language.now form.language_class) (omega arith))
-    (c.filled-2.ensures (script_alphanumeric form.script.now form.script_class) (script_counted form.script.now form.script_class) (script_length form.script.now form.script_class))
-    (c.filled-3.ensures (region_alphanumeric form.region.now form.region_class) (region_counted form.region.now form.region_class) (region_length form.region.now form.region_class))
+    (c.filled_language.ensures (language_alphanumeric form.language.now form.language_class) (language_counted form.language.now form.language_class) short)
+    (c.filled.ensures (script_alphanumeric form.script.now form.script_class) (script_counted form.script.now form.script_class) (script_length form.script.now form.script_class))
+    (c.filled-2.ensures (region_alphanumeric form.region.now form.region_class) (region_counted form.region.now form.region_class) (region_length form.region.now form.region_class))
+    (sym c.unlikely_form.ensures)
 
 pub returns-clause-prepared : goal.returns-clause-prepared
 returns-clause-prepared c = or_second (c.language_number.result == 0) _ (returns-clause-kept c (omega arith))
