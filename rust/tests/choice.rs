@@ -188,6 +188,14 @@ fn none_and_one() {
 }
 
 #[test]
+fn the_best_come_last() {
+    let mut tags = vec!["de"; 64];
+    tags.extend(["en", "en"]);
+    let found = [64, 65].into_iter().chain(0..64).collect::<Vec<_>>();
+    assert_eq!(suitable_for_header("de;q=0.5,en", &tags), found);
+}
+
+#[test]
 fn refused_tags_are_left_out() {
     let tags = ["de", "de-CH", "en", "fr"];
     assert_eq!(suitable_for_header("de,en;q=0.5,de-CH;q=0", &tags), [0, 2]);
