@@ -170,6 +170,14 @@ fn random_tags_in_turn() {
 }
 
 #[test]
+fn the_best_come_last() {
+    let mut tags = vec!["de"; 64];
+    tags.extend(["en", "en"]);
+    let found = [64, 65].into_iter().chain(0..64).collect::<Vec<_>>();
+    assert_eq!(suitable_for_header("de;q=0.5,en", &tags), found);
+}
+
+#[test]
 fn a_parsed_header() {
     let accepted = AcceptLanguage::lenient("nn;q=0.5, de");
     assert_eq!(

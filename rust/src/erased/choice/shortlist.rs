@@ -87,11 +87,13 @@ fn place_of(best: &[Option<Candidate<'_, '_>>], index: usize) -> Option<usize> {
     None
 }
 
-/// Returns the place of the worst candidate, or of an empty entry if there is one.
+/// Returns the place of the worst candidate, or of the last empty entry if there is one. So the
+/// entries are filled from the last to the first, and no candidates are compared before all are
+/// filled.
 pub(crate) fn worst_of(best: &[Option<Candidate<'_, '_>>]) -> usize {
     let mut worst = 0;
     for place in 1..best.len() {
-        if is_before(&best[worst], &best[place]) {
+        if !is_before(&best[place], &best[worst]) {
             worst = place;
         }
     }
