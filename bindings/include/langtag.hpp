@@ -818,7 +818,7 @@ std::vector<tag> suitable_for_ranges(const Ranges &ranges, Tags &&tags, std::siz
 }
 
 /* The tags of a site that are known before the requests. What a choice needs of each tag is computed once, so a choice among
- * 40 tags takes less than half as many instructions. It returns what best_for_header and similar functions return for the same tags.
+ * 40 tags takes about half as many instructions. It returns what best_for_header and similar functions return for the same tags.
  *
  *     static const langtag::site site({"en", "zh-Hans", "zh-Hant"});
  *     site.best_for_header("zh-TW,zh;q=0.9,en;q=0.8")->text(); // "zh-Hant"

@@ -14,7 +14,7 @@ use crate::erased::header::LanguageRange;
 use crate::erased::tag::LangTag;
 
 /// The tags of a site, prepared for many choices. A choice among them is the same as among the tags
-/// themselves, but takes fewer instructions: 0.4 times as many for 40 tags, and 0.3 times for
+/// themselves, but takes fewer instructions: 0.4 times as many for 40 tags, and 0.2 times for
 /// 1,000. A site does not change: make another if its tags do.
 ///
 /// ```
