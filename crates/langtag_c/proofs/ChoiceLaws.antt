@@ -144,7 +144,7 @@ entry_bytes text p bytes tag same is =
 
 -- what is read beyond the entries
 abbrev pub no_entry : PreparedTag
-no_entry = record { tag = empty_at 0; form = record { number = 0; letters = []; language = []; script = []; region = [] } }
+no_entry = record { tag = empty_at 0; form = record { number = 0; letters = []; language = []; unlikely = 0; script = []; region = [] } }
 
 pub some_borrowed : (a b : Bor PreparedForm) → Some a ≡ Some b → a ≡ b
 some_borrowed a b is = cc
