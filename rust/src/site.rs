@@ -77,10 +77,7 @@ impl<E: TagEntry> Site<E> {
         let tags = tags.into();
         let mut forms = Vec::new();
         forms.try_reserve_exact(tags.len())?;
-        forms.extend(
-            tags.iter()
-                .map(|entry| PreparedForm::of(entry.tag_bytes())),
-        );
+        forms.extend(tags.iter().map(|entry| PreparedForm::of(entry.tag_bytes())));
         Ok(Site { tags, forms })
     }
 
