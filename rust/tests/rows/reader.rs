@@ -208,7 +208,7 @@ pub fn escaped(bytes: &[u8]) -> String {
         return "''".into();
     }
     let bytes = bytes.iter().map(|byte| match byte {
-        byte if byte.is_ascii_graphic() => char::from(*byte).to_string(),
+        byte if byte.is_ascii_graphic() && !b"\\{}".contains(byte) => char::from(*byte).to_string(),
         byte => format!("\\x{byte:02x}"),
     });
     bytes.collect()
