@@ -155,8 +155,8 @@ pub fn match_among<'a>(
 /// They are the tag that [`best_for_header`] chooses, the tag that it chooses among the others, and
 /// so on. A player offers its tracks in this order, and a catalogue looks for a message in it.
 ///
-/// The time is that of a choice for every 64 indices. Each tag is also compared with each earlier
-/// index. [`write_suitable`] stops after as many indices as you want, and does not allocate.
+/// For every 64 indices, each range is compared with each tag, and each tag with each earlier index.
+/// [`write_suitable`] stops after as many indices as you want, and does not allocate.
 ///
 /// ```
 /// use langtag::choice::suitable_for_header;
