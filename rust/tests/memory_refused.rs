@@ -24,28 +24,27 @@ thread_local! {
 struct Refusing;
 
 impl Refusing {
-    fn refuses() -> bool {
+    /// Counts a request, and returns whether it is refused.
+    fn refuses(size: usize) -> bool {
         match GRANTED.get() {
             Some(0) => {
                 REFUSED.set(REFUSED.get() + 1);
-                true
+                return true;
             }
-            Some(left) => {
-                GRANTED.set(Some(left - 1));
-                false
-            }
-            None => false,
+            Some(left) => GRANTED.set(Some(left - 1)),
+            None => {}
         }
+        BYTES.set(BYTES.get() + size);
+        false
     }
 }
 
 // SAFETY: each request is refused, or passed to the system's allocator.
 unsafe impl GlobalAlloc for Refusing {
     unsafe fn alloc(&self, layout: Layout) -> *mut u8 {
-        if Refusing::refuses() {
+        if Refusing::refuses(layout.size()) {
             return std::ptr::null_mut();
         }
-        BYTES.set(BYTES.get() + layout.size());
         unsafe { System.alloc(layout) }
     }
 
@@ -54,10 +53,9 @@ unsafe impl GlobalAlloc for Refusing {
     }
 
     unsafe fn realloc(&self, at: *mut u8, layout: Layout, size: usize) -> *mut u8 {
-        if Refusing::refuses() {
+        if Refusing::refuses(size) {
             return std::ptr::null_mut();
         }
-        BYTES.set(BYTES.get() + size);
         unsafe { System.realloc(at, layout, size) }
     }
 }

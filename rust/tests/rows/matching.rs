@@ -68,10 +68,7 @@ pub fn header(header: &str, tags: &str) -> String {
             part,
         }) => {
             assert_eq!(kept, header);
-            let part = match part {
-                ElementPart::Range => "range",
-                _ => "weight",
-            };
+            let part = part.to_string().replace("language ", "");
             format!("bad {index} {offset} {part} | {lenient}")
         }
         Err(error) => panic!("{error}"),
@@ -80,34 +77,29 @@ pub fn header(header: &str, tags: &str) -> String {
 
 /// Returns the ranges of a header with their weights, or the error message before the ranges of the lenient reading.
 pub fn elements(header: &str) -> String {
-    match AcceptLanguage::new(header) {
-        Ok(accepted) => weighted(accepted.ranges()),
-        Err(error) => {
-            let words = error.to_string();
-            let AcceptLanguageError::BadElement {
-                index,
-                offset,
-                part,
-                ..
-            } = error
-            else {
-                panic!("{error}");
-            };
-            let element = header[offset..].split(',').next().unwrap().trim();
-            let place = format!(
-                "element {} at offset {offset} has a bad {part}: `",
-                index + 1
-            );
-            assert!(words.starts_with(&place), "{words}");
-            let shown = element.escape_debug().to_string();
-            assert!(
-                words.contains(&shown) || element.len() > 80 || !element.is_ascii(),
-                "{words}"
-            );
-            let ranges = weighted(AcceptLanguage::lenient(header).ranges());
-            format!("element {index} has a bad {part} | {ranges}")
-        }
-    }
+    let error = match AcceptLanguage::new(header) {
+        Ok(accepted) => return weighted(accepted.ranges()),
+        Err(error) => error,
+    };
+    let words = error.to_string();
+    let AcceptLanguageError::BadElement {
+        index,
+        offset,
+        part,
+        ..
+    } = error
+    else {
+        panic!("{error}");
+    };
+    let element = header[offset..].split(',').next().unwrap().trim();
+    let number = index + 1;
+    let place = format!("element {number} at offset {offset} has a bad {part}: `");
+    assert!(words.starts_with(&place), "{words}");
+    let shown = element.escape_debug().to_string();
+    let is_cut = element.len() > 80 || !element.is_ascii();
+    assert!(is_cut || words.contains(&shown), "{words}");
+    let ranges = weighted(AcceptLanguage::lenient(header).ranges());
+    format!("element {index} has a bad {part} | {ranges}")
 }
 
 fn weighted(ranges: &[WeightedRange<'_>]) -> String {
