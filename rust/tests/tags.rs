@@ -38,7 +38,8 @@ fn refused_edits_are_shown_and_compared() {
         "NotNormal Memory(AllocError)"
     );
     assert_eq!([normal, memory], [normal, memory]);
-    assert!(normal != memory && memory != normal);
+    assert_ne!(normal, memory);
+    assert_ne!(memory, normal);
 }
 
 /// Normal tags of each shape, with and without optional parts.

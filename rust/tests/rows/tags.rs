@@ -65,10 +65,10 @@ pub fn tag(bytes: &[u8]) -> String {
         line("region", &region);
     }
     if !tag.variants().is_empty() {
-        line("variants", &list(&tag.variants()));
+        line("variants", &list(tag.variants()));
     }
     if !tag.extensions().is_empty() {
-        line("extensions", &list(&tag.extensions()));
+        line("extensions", &list(tag.extensions()));
     }
     // The C library also lists the `x` and the subtags of a private-use tag.
     if let Some(part) = tag.private_use().or(tag.as_private_use()) {
