@@ -1,4 +1,4 @@
-//! All tags that suit a reader, best first.
+//! All tags that suit a user, best first.
 ghost use Rattle.std.specs.Prelude.{◌≡◌, ◌≤◌, length, take, drop};
 ghost use Rattle.langtag_match.specs.Definitions.{wanted_elements};
 ghost use Rattle.langtag_c.specs.Choice.{AreBest};

@@ -1,4 +1,4 @@
-//! All tags that suit a reader, best first.
+//! All tags that suit a user, best first.
 ghost use Rattle.std.specs.Prelude.{◌≡◌, ◌<◌, ◌≤◌, IfOk, None, false, true, length, take, drop, All};
 ghost use Rattle.langtag_range.specs.Definitions.{wanted_elements};
 ghost use Rattle.langtag_choice.specs.Best.{IsChoice};

@@ -1,6 +1,6 @@
 // Made by rust/erase from crates/langtag_c/src/suitable.rt. Change that file, not this one.
 
-//! All tags that suit a reader, best first.
+//! All tags that suit a user, best first.
 
 use crate::calls::span::Span;
 use crate::calls::spanned_ranges::SpannedRanges;

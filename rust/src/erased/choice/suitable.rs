@@ -1,6 +1,6 @@
 // Made by rust/erase from crates/langtag_choice/src/suitable.rt. Change that file, not this one.
 
-//! All tags that suit a reader, best first.
+//! All tags that suit a user, best first.
 
 use crate::erased::choice::by_tags::best_by_tags;
 use crate::erased::choice::range_list::RangeList;
