@@ -1,6 +1,6 @@
 // Made by rust/erase from crates/langtag_c/src/suitable.rt. Change that file, not this one.
 
-//! All tags that suit a reader, best first.
+//! All tags that suit a user, best first.
 
 use crate::calls::span::Span;
 use crate::calls::spanned_ranges::SpannedRanges;
@@ -19,8 +19,8 @@ use crate::erased::choice::write_suitable;
 /// for (size_t i = 0; i < count; i++) printf("%zu ", found[i]); // 2 3 1
 /// ```
 ///
-/// The rest of the array stays unchanged. The time is that of a choice for every 64 indices, and of
-/// a comparison with each earlier index for each tag, so `found_len` limits the time.
+/// The rest of the array stays unchanged. For every 64 indices, each range of the header is
+/// compared with each tag, and each tag with each earlier index, so `found_len` limits the time.
 #[inline]
 pub fn langtag_suitable_for_header(
     header: &[u8],

@@ -1,6 +1,6 @@
 // Made by rust/erase from crates/langtag_choice/src/suitable.rt. Change that file, not this one.
 
-//! All tags that suit a reader, best first.
+//! All tags that suit a user, best first.
 
 use crate::erased::choice::by_tags::best_by_tags;
 use crate::erased::choice::range_list::RangeList;
@@ -18,8 +18,8 @@ use alloc::vec::Vec;
 /// the tag that it chooses among the others, and so on. For `de-CH,fr;q=0.7` and the tags `en`,
 /// `fr`, `de` and `de-AT`, they are 2, 3 and 1.
 ///
-/// The time is that of a choice for every 64 indices. To limit it, call [`write_suitable`] with a
-/// short array.
+/// For every 64 indices, each range is compared with each tag, and each tag with each earlier
+/// index. To limit the time, call [`write_suitable`] with a short array.
 ///
 /// # Errors
 ///
