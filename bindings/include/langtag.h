@@ -651,8 +651,8 @@ size_t langtag_match_for_header(const char *header, size_t header_len, const cha
  *     size_t found[4], count = langtag_suitable_for_header(header, strlen(header), have, strlen(have), tags, 4, found, 4);
  *     for (size_t i = 0; i < count; i++) printf("%zu ", found[i]); // 2 3 1
  *
- * The rest of the array stays unchanged. The time is that of a choice for every 64 indices, and of a comparison with
- * each earlier index for each tag, so `found_len` limits the time.
+ * The rest of the array stays unchanged. For every 64 indices, each range of the header is compared with each tag, and
+ * each tag with each earlier index, so `found_len` limits the time.
  */
 size_t langtag_suitable_for_header(const char *header, size_t header_len, const char *bytes, size_t len,
                                    const langtag_span *tags, size_t tags_len, size_t *found, size_t found_len);

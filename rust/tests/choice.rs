@@ -8,7 +8,7 @@ use langtag::choice::{
 use langtag::matching::AcceptLanguage;
 use langtag::LangTag;
 use numbers::Numbers;
-use std::time::{Duration, Instant};
+use std::time::Instant;
 
 mod numbers;
 
@@ -146,8 +146,7 @@ fn a_parsed_header() {
 }
 
 /// Headers of 8,192 bytes and 1,000 tags: with weights in ascending order, so that each range is better than all before it, and
-/// with 740 ranges of weight 0. If each answer repeated the whole choice, or if each tag read the whole header, this would take
-/// minutes even with optimization.
+/// with 740 ranges of weight 0. If each answer repeated the whole choice, the list would take as long as 1,000 choices.
 #[test]
 fn a_long_header_and_many_tags() {
     let numbered = |count: usize, before: &str, after: &str| {
@@ -162,7 +161,11 @@ fn a_long_header_and_many_tags() {
     let tags: Vec<_> = texts.iter().map(|tag| LangTag::new(tag).unwrap()).collect();
     for header in headers {
         let begun = Instant::now();
+        assert!(best_for_header(&header, &tags).is_some());
+        let choice = begun.elapsed();
+        let begun = Instant::now();
         assert_eq!(suitable_for_header(&header, &tags).len(), 1000);
-        assert!(begun.elapsed() < Duration::from_secs(60));
+        let list = begun.elapsed();
+        assert!(list < 500 * choice, "{list:?}, {choice:?}");
     }
 }

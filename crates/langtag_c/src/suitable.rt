@@ -1,4 +1,4 @@
-//! All tags that suit a reader, best first.
+//! All tags that suit a user, best first.
 ghost use Rattle.std.specs.Prelude.{◌≡◌, ◌≤◌, length, take, drop};
 ghost use Rattle.langtag_match.specs.Definitions.{wanted_elements};
 ghost use Rattle.langtag_c.specs.Choice.{AreBest};
@@ -20,8 +20,8 @@ use langtag_choice::write_suitable;
 /// for (size_t i = 0; i < count; i++) printf("%zu ", found[i]); // 2 3 1
 /// ```
 ///
-/// The rest of the array stays unchanged. The time is that of a choice for every 64 indices, and of a comparison with
-/// each earlier index for each tag, so `found_len` limits the time.
+/// The rest of the array stays unchanged. For every 64 indices, each range of the header is compared with each tag, and
+/// each tag with each earlier index, so `found_len` limits the time.
 #[unsafe(no_mangle)]
 pub extern "C" fn langtag_suitable_for_header(
     header: &[u8],

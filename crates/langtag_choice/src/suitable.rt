@@ -1,4 +1,4 @@
-//! All tags that suit a reader, best first.
+//! All tags that suit a user, best first.
 ghost use Rattle.std.specs.Prelude.{◌≡◌, ◌<◌, ◌≤◌, IfOk, None, false, true, length, take, drop, All};
 ghost use Rattle.langtag_range.specs.Definitions.{wanted_elements};
 ghost use Rattle.langtag_choice.specs.Best.{IsChoice};
@@ -18,7 +18,8 @@ use std::alloc::{AllocError, Global};
 /// that [`best_for_header`](crate::best_for_header) chooses, the tag that it chooses among the others, and so on. For
 /// `de-CH,fr;q=0.7` and the tags `en`, `fr`, `de` and `de-AT`, they are 2, 3 and 1.
 ///
-/// The time is that of a choice for every 64 indices. To limit it, call [`write_suitable`] with a short array.
+/// For every 64 indices, each range is compared with each tag, and each tag with each earlier index. To limit the time,
+/// call [`write_suitable`] with a short array.
 ///
 /// # Errors
 ///
