@@ -50,13 +50,9 @@ pub fn tag(bytes: &[u8]) -> String {
         let (first, rest) = language.split_once('-').unwrap_or((&language, ""));
         assert_eq!(primary.as_str(), first);
         assert_eq!(language.extension().map_or("", |it| it.as_str()), rest);
-        let subtags = language
-            .extension_subtags()
-            .map(|subtag| format!(" {subtag}"));
-        line(
-            "language",
-            &(primary.to_string() + &subtags.collect::<String>()),
-        );
+        let subtags = language.extension_subtags();
+        assert!(subtags.eq(rest.split_terminator('-')));
+        line("language", &language.replace('-', " "));
     }
     if let Some(script) = tag.script() {
         line("script", &script);
@@ -72,10 +68,8 @@ pub fn tag(bytes: &[u8]) -> String {
     }
     // The C library also lists the `x` and the subtags of a private-use tag.
     if let Some(part) = tag.private_use().or(tag.as_private_use()) {
-        line(
-            "private_use",
-            &format!("{} {}", &part[..1], list(part.iter())),
-        );
+        assert!(part.iter().eq(part[2..].split('-')));
+        line("private_use", &part.replace('-', " "));
     }
     if let Some(normal) = tag.as_normal() {
         repeats(&normal, &mut line);
@@ -192,13 +186,12 @@ pub fn scan(bytes: &[u8]) -> String {
     if let Some(number) = found.and_then(|found| found.irregular()) {
         return format!("{head} {number}");
     }
-    ends.map_or(head.clone(), |it| {
-        let [script, region, variants] = [it.script, it.region, it.variants];
-        format!(
-            "{head} {} {script} {region} {variants} {} {}",
-            it.language, it.extensions, it.whole
-        )
-    })
+    let Some(ends) = ends else {
+        return head;
+    };
+    let mut answer = format!("{head} {} {} {}", ends.language, ends.script, ends.region);
+    answer += &format!(" {} {} {}", ends.variants, ends.extensions, ends.whole);
+    answer
 }
 
 /// Returns bytes in their recommended case. If the bytes are a tag, all calls must return the same form.
