@@ -6,8 +6,11 @@ use langtag::choice::{
     suitable_for_header, suitable_for_ranges, write_suitable, Site,
 };
 use langtag::matching::AcceptLanguage;
-use langtag::{LangTag, LangTagBuf};
+use langtag::LangTag;
+use numbers::Numbers;
 use std::time::Instant;
+
+mod numbers;
 
 /// Ranges, tags and other texts.
 const PIECES: &str = "\
@@ -16,34 +19,17 @@ const PIECES: &str = "\
     tw ak yu yue-HK nn-NO ceb id ms jw ji zh-yue ger en-GB-oed de de-AT es-419 es pt-PT zh-Hant \
     zh-Hans en-US da";
 
-/// Numbers that look random, the same in each run.
-struct Numbers(u64);
+fn piece(numbers: &mut Numbers) -> &'static str {
+    let pieces: Vec<&str> = PIECES.split_whitespace().collect();
+    pieces[numbers.below(pieces.len())]
+}
 
-impl Numbers {
-    fn below(&mut self, limit: usize) -> usize {
-        self.0 = self
-            .0
-            .wrapping_mul(6_364_136_223_846_793_005)
-            .wrapping_add(1);
-        (self.0 >> 33) as usize % limit
-    }
-
-    fn piece(&mut self) -> &'static str {
-        let pieces = PIECES.split_whitespace();
-        pieces.clone().nth(self.below(pieces.count())).unwrap()
-    }
-
-    fn element(&mut self) -> String {
-        let range = self.piece();
-        match self.below(4) {
-            0 => range.to_string(),
-            1 => format!("{range};q=0"),
-            _ => format!("{range};q=0.{}", self.below(10)),
-        }
-    }
-
-    fn list<T>(&mut self, most: usize, mut item: impl FnMut(&mut Self) -> T) -> Vec<T> {
-        (0..1 + self.below(most)).map(|_| item(self)).collect()
+fn element(numbers: &mut Numbers) -> String {
+    let range = piece(numbers);
+    match numbers.below(4) {
+        0 => range.to_string(),
+        1 => format!("{range};q=0"),
+        _ => format!("{range};q=0.{}", numbers.below(10)),
     }
 }
 
@@ -51,58 +37,39 @@ impl Numbers {
 fn random_headers_choose_alike() {
     let mut numbers = Numbers(7);
     for _ in 0..20_000 {
-        let header = numbers.list(6, Numbers::element).join(",");
+        let header = numbers.list(6, element).join(",");
         // Some entries, such as `fr_FR`, are not tags.
-        let tags = numbers.list(8, Numbers::piece);
+        let tags = numbers.list(8, piece);
         let site = Site::new(&tags[..]);
+        let tag = |index: Option<usize>| index.map(|index| &tags[index]);
         let best = best_for_header(&header, &tags);
-        assert_eq!(
-            site.best_for_header(&header),
-            best.map(|index| &tags[index]),
-            "{header} {tags:?}"
-        );
+        assert_eq!(best_for_header(&header, &site), best);
+        let found = site.best_for_header(&header);
+        assert_eq!(found, tag(best), "{header} {tags:?}");
         let found = match_for_header(&header, &tags);
         assert_eq!(site.match_for_header(&header), found, "{header} {tags:?}");
         let accepted = AcceptLanguage::lenient(&header);
         let best = best_for_accept_language(&accepted, &tags);
-        assert_eq!(
-            site.best_for_accept_language(&accepted),
-            best.map(|index| &tags[index])
-        );
-        let wishes = numbers.list(4, Numbers::piece);
+        assert_eq!(site.best_for_accept_language(&accepted), tag(best));
+        let wishes = numbers.list(4, piece);
         let best = best_for_ranges(&wishes, &tags);
-        assert_eq!(
-            site.best_for_ranges(&wishes),
-            best.map(|index| &tags[index]),
-            "{wishes:?} {tags:?}"
-        );
-        assert_eq!(
-            best_for_header(&header, &site),
-            best_for_header(&header, &tags)
-        );
+        let found = site.best_for_ranges(&wishes);
+        assert_eq!(found, tag(best), "{wishes:?} {tags:?}");
     }
 }
 
 #[test]
 fn sites_of_each_kind_of_entry() {
-    let borrowed = [
-        LangTag::new("en").unwrap(),
-        LangTag::new("zh-Hant").unwrap(),
-    ];
-    let owned: Vec<LangTagBuf> = borrowed.iter().map(|tag| tag.to_owned()).collect();
-    let strings = ["en".to_string(), "zh-Hant".to_string()];
-    assert_eq!(
-        Site::new(&borrowed[..]).best_for_header("zh-TW"),
-        Some(&borrowed[1])
-    );
-    assert_eq!(
-        Site::new(&owned[..]).best_for_header("zh-TW"),
-        Some(&owned[1])
-    );
-    assert_eq!(
-        Site::new(&strings[..]).best_for_header(b"zh-TW"),
-        Some(&strings[1])
-    );
+    let texts = ["en", "zh-Hant"];
+    let borrowed = texts.map(|text| LangTag::new(text).unwrap());
+    let owned = borrowed.map(|tag| tag.to_owned());
+    let strings = texts.map(String::from);
+    let site = Site::new(&borrowed[..]);
+    assert_eq!(site.best_for_header("zh-TW"), Some(&borrowed[1]));
+    let site = Site::new(&owned[..]);
+    assert_eq!(site.best_for_header("zh-TW"), Some(&owned[1]));
+    let site = Site::new(&strings[..]);
+    assert_eq!(site.best_for_header(b"zh-TW"), Some(&strings[1]));
     let none: [&str; 0] = [];
     assert_eq!(Site::new(&none[..]).best_for_header("en"), None);
     assert_eq!(Site::new(["not a tag"]).best_for_header("en"), None);
@@ -141,14 +108,11 @@ fn random_tags_in_turn() {
     let cases = std::env::var("LANGTAG_CASES").map_or(4_000_usize, |text| text.parse().unwrap());
     let mut numbers = Numbers(11);
     for case in 0..cases {
-        let header = numbers.list(6, Numbers::element).join(",");
-        let tags = numbers.list([6, 12, 80][case % 3], Numbers::piece);
+        let header = numbers.list(6, element).join(",");
+        let tags = numbers.list([6, 12, 80][case % 3], piece);
         let found = removed_in_turn(&tags, |left| best_for_header(&header, left));
-        assert_eq!(
-            suitable_for_header(&header, &tags),
-            found,
-            "{header} {tags:?}"
-        );
+        let suitable = suitable_for_header(&header, &tags);
+        assert_eq!(suitable, found, "{header} {tags:?}");
         let most = numbers.below(6);
         let mut some = vec![usize::MAX; most];
         let written = write_suitable(header.as_bytes(), &tags, &mut some).len();
@@ -157,13 +121,10 @@ fn random_tags_in_turn() {
         let site = Site::new(&tags[..]);
         let names: Vec<&&str> = found.iter().map(|index| &tags[*index]).collect();
         assert_eq!(site.suitable_for_header(&header), names);
-        let ranges = numbers.list(4, Numbers::piece);
+        let ranges = numbers.list(4, piece);
         let found = removed_in_turn(&tags, |left| best_for_ranges(&ranges, left));
-        assert_eq!(
-            suitable_for_ranges(&ranges, &tags),
-            found,
-            "{ranges:?} {tags:?}"
-        );
+        let suitable = suitable_for_ranges(&ranges, &tags);
+        assert_eq!(suitable, found, "{ranges:?} {tags:?}");
         let names: Vec<&&str> = found.iter().map(|index| &tags[*index]).collect();
         assert_eq!(site.suitable_for_ranges(&ranges), names);
     }
@@ -180,10 +141,8 @@ fn the_best_come_last() {
 #[test]
 fn a_parsed_header() {
     let accepted = AcceptLanguage::lenient("nn;q=0.5, de");
-    assert_eq!(
-        suitable_among(accepted.ranges(), &["nb", "en", "de"]),
-        [2, 0]
-    );
+    let found = suitable_among(accepted.ranges(), &["nb", "en", "de"]);
+    assert_eq!(found, [2, 0]);
 }
 
 /// Headers of 8,192 bytes and 1,000 tags: with weights in ascending order, so that each range is better than all before it, and
@@ -199,10 +158,7 @@ fn a_long_header_and_many_tags() {
         numbered(740, "de-", ";q=0") + ",en",
     ];
     let texts = (0..1000).map(|n| format!("en-{n:03}")).collect::<Vec<_>>();
-    let tags = texts
-        .iter()
-        .map(|tag| LangTag::new(tag).unwrap())
-        .collect::<Vec<_>>();
+    let tags: Vec<_> = texts.iter().map(|tag| LangTag::new(tag).unwrap()).collect();
     for header in headers {
         let begun = Instant::now();
         assert!(best_for_header(&header, &tags).is_some());

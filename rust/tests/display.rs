@@ -66,8 +66,6 @@ fn in_recommended_case() {
 fn for_programmers() {
     let tag = LangTag::new("zh-TW").unwrap();
     let all = (tag, tag.to_owned(), tag.region(), Singleton::new(b'u'));
-    assert_eq!(
-        format!("{all:?}"),
-        r#"("zh-TW", "zh-TW", Some("TW"), Ok('u'))"#
-    );
+    let shown = r#"("zh-TW", "zh-TW", Some("TW"), Ok('u'))"#;
+    assert_eq!(format!("{all:?}"), shown);
 }

@@ -21,8 +21,9 @@ fn texts_that_are_no_tags() {
     for text in [
         "",
         "f",
+        " de",
         "en_US",
-        "zh-x-\u{e9}",
+        "zh-x-é",
         "en-",
         "en\0",
         "i-notexist",
@@ -35,15 +36,7 @@ fn texts_that_are_no_tags() {
     }
     let bytes = &b"\xff"[..];
     assert_eq!(LangTag::try_from(bytes), Err(InvalidLangTag(bytes)));
-    assert!(LangTag::try_from(&b" de"[..]).is_err());
-    assert_eq!(
-        LangTag::from_bytes(b"\xff"),
-        Err(InvalidLangTag(&b"\xff"[..]))
-    );
-    assert_eq!(
-        LangTag::from_bytes(b"i-klingon").unwrap().kind(),
-        Kind::Grandfathered
-    );
+    assert_eq!(LangTag::from_bytes(bytes), Err(InvalidLangTag(bytes)));
 }
 
 #[test]
@@ -78,10 +71,9 @@ fn texts_without_case() {
     let tags = tags(["de-DE", "zh", "DE-de", "zh-Latn", "de"]);
     for (a, b) in tags.iter().flat_map(|a| tags.iter().map(move |b| (a, b))) {
         let (text, other) = (a.caseless(), b.caseless());
-        assert_eq!(
-            (a == b, a.cmp(b), hash(a)),
-            (text == other, text.cmp(other), hash(text))
-        );
+        assert_eq!(text == other, a == b);
+        assert_eq!(text.cmp(other), a.cmp(b));
+        assert_eq!(hash(text), hash(a));
     }
     assert_eq!("ZH".caseless().text(), "ZH");
     assert_eq!("ZH".caseless(), "zh".caseless());
@@ -90,24 +82,17 @@ fn texts_without_case() {
 
 #[test]
 fn order() {
-    let sorted: Vec<_> = BTreeSet::from(tags(["de-DE", "zh", "DE-de", "zh-Latn", "de"]))
-        .into_iter()
-        .collect();
-    assert_eq!(sorted, ["de-de", "de", "zh-latn", "zh"]); // a text sorts after each longer text that begins with it
+    let sorted = BTreeSet::from(tags(["de-DE", "zh", "DE-de", "zh-Latn", "de"]));
+    assert!(sorted.iter().eq(&["de-de", "de", "zh-latn", "zh"])); // a text sorts after each longer text that begins with it
 }
 
 #[test]
 fn texts() {
     let tag = LangTag::try_from("ZH-Hant").unwrap();
     assert_eq!(format!("{tag}|{tag:?}"), "ZH-Hant|\"ZH-Hant\"");
-    assert_eq!(
-        (tag.as_str(), &*tag, tag.as_bytes()),
-        ("ZH-Hant", "ZH-Hant", &b"ZH-Hant"[..])
-    );
-    assert_eq!(
-        (tag.len(), tag.is_empty(), Variants::EMPTY.is_empty()),
-        (7, false, true)
-    );
+    assert_eq!((tag.as_str(), &*tag), ("ZH-Hant", "ZH-Hant"));
+    assert_eq!((tag.as_bytes(), tag.len()), (&b"ZH-Hant"[..], 7));
+    assert!(!tag.is_empty() && Variants::EMPTY.is_empty());
     assert!(LangTag::try_from("zh_").is_err() && LanguageRange::try_from("zh_").is_err());
 }
 
@@ -124,56 +109,30 @@ fn values_may_cross_threads() {
 #[test]
 fn parts_that_are_lists() {
     let [tag] = tags(["de-1996-ab1cd-u-co-phonebk-A-bb-x-a"]);
-    assert!(tag.variants().into_iter().eq(["1996", "ab1cd"]));
-    assert_eq!(
-        (
-            tag.variants().first().unwrap(),
-            tag.variants().last().unwrap()
-        ),
-        tags_of_variants("1996", "ab1cd")
-    );
-    let extensions = tag.extensions();
-    assert!(extensions
+    let (variants, extensions) = (tag.variants(), tag.extensions());
+    assert!(variants.into_iter().eq(["1996", "ab1cd"]));
+    assert!((&variants).into_iter().eq(["1996", "ab1cd"]));
+    assert_eq!(variants.first().unwrap(), "1996");
+    assert_eq!(variants.last().unwrap(), "ab1cd");
+    let named = extensions
         .iter()
-        .map(|it| (char::from(it.singleton()), it.as_str()))
-        .eq([('u', "u-co-phonebk"), ('A', "A-bb")]));
-    let (a, u) = (
-        Singleton::new(b'a').unwrap(),
-        Singleton::try_from('U').unwrap(),
-    );
-    assert!(extensions.get(a).unwrap().iter().eq(["bb"]));
-    assert!(extensions.iter_extension(u).eq(["co", "phonebk"]));
+        .map(|it| (char::from(it.singleton()), it.as_str()));
+    assert!(named.eq([('u', "u-co-phonebk"), ('A', "A-bb")]));
+    assert!(extensions.get(b'a').unwrap().iter().eq(["bb"]));
+    assert!(extensions.iter_extension(b'U').eq(["co", "phonebk"]));
     let mut walked: Vec<String> = Vec::new();
     for extension in &extensions {
         walked.extend((&extension).into_iter().map(|subtag| subtag.to_string()));
     }
-    walked.extend(
-        (&tag.variants())
-            .into_iter()
-            .map(|variant| variant.to_string()),
-    );
-    walked.extend(
-        tag.private_use()
-            .unwrap()
-            .into_iter()
-            .map(|subtag| subtag.to_string()),
-    );
-    assert_eq!(walked, ["co", "phonebk", "bb", "1996", "ab1cd", "a"]);
-    assert!(Singleton::try_from('é').is_err() && Singleton::new(b'x').is_err());
-}
-
-fn tags_of_variants<'a>(first: &'a str, last: &'a str) -> (Variant<'a>, Variant<'a>) {
-    (Variant::new(first).unwrap(), Variant::new(last).unwrap())
+    assert_eq!(walked, ["co", "phonebk", "bb"]);
+    assert!(tag.private_use().unwrap().into_iter().eq(["a"]));
 }
 
 #[test]
 #[cfg(all(feature = "alloc", feature = "data"))]
 fn small_things() {
-    let (language, region) = (Language::new("es").unwrap(), Region::new("419").unwrap());
-    assert_eq!(
-        LangTagBuf::from_parts(language, None, Some(region)),
-        "es-419"
-    );
+    let (language, region) = (Language::new("es").unwrap(), Region::new("419").ok());
+    assert_eq!(LangTagBuf::from_parts(language, None, region), "es-419");
     let owned: LangTagBuf = "de-u-CA-buddhist".parse().unwrap();
     assert_eq!(owned.keyword("CA"), Some("buddhist"));
     assert!(owned.matches("*-u") && !owned.matches("fr") && !owned.matches("d*"));
@@ -181,10 +140,8 @@ fn small_things() {
     let bytes = &b"de-Latn-DE-1996_"[..];
     assert_eq!(LangTag::try_from(bytes).unwrap_err().0, bytes);
     assert_eq!(langtag::AllocError.to_string(), "out of memory");
-    assert_eq!(
-        GrandfatheredLangTag::new("x".to_string()),
-        Err("x".to_string())
-    );
+    let refused = GrandfatheredLangTag::new("x".to_string());
+    assert_eq!(refused, Err("x".to_string()));
 }
 
 /// A code that means a language in a region is not suggested, because a subtag cannot name a region.

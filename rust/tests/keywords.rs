@@ -7,9 +7,7 @@ use langtag::{unicode::SetKeywordError, LangTagBuf};
 
 fn equal_themselves_alone(all: &[impl PartialEq]) {
     for (i, a) in all.iter().enumerate() {
-        for (j, b) in all.iter().enumerate() {
-            assert_eq!(a == b, i == j);
-        }
+        assert!(all.iter().enumerate().all(|(j, b)| (a == b) == (i == j)));
     }
 }
 
@@ -22,10 +20,8 @@ fn errors_are_values() {
         KeywordError::NotNormal,
     ];
     equal_themselves_alone(&all);
-    assert_eq!(
-        KeywordError::Key.to_string(),
-        "not a key of the extension u"
-    );
+    let said = KeywordError::Key.to_string();
+    assert_eq!(said, "not a key of the extension u");
 }
 
 #[test]

@@ -8,20 +8,15 @@ use langtag::{LangTag, LangTagBuf};
 #[test]
 fn ranges_of_one_weight_keep_their_order() {
     let weight = |n: &usize| n * 7919 % 5 + 1;
-    let header: Vec<String> = (0..200)
-        .map(|n| format!("aa-x-{n};q=0.{}", weight(&n)))
-        .collect();
-    let header = header.join(",");
-    let accepted = AcceptLanguage::new(&header).unwrap();
-    let mut wanted: Vec<usize> = (0..200).collect();
-    wanted.sort_by_key(|n| std::cmp::Reverse(weight(n)));
-    let wanted: Vec<String> = wanted.iter().map(|n| format!("aa-x-{n}")).collect();
-    let found: Vec<&str> = accepted
-        .ranges()
+    let mut numbers: Vec<usize> = (0..200).collect();
+    let elements = numbers
         .iter()
-        .map(|it| it.range.as_str())
-        .collect();
-    assert_eq!(found, wanted);
+        .map(|n| format!("aa-x-{n};q=0.{}", weight(n)));
+    let header = elements.collect::<Vec<_>>().join(",");
+    let accepted = AcceptLanguage::new(&header).unwrap();
+    numbers.sort_by_key(|n| std::cmp::Reverse(weight(n)));
+    let wanted = numbers.iter().map(|n| format!("aa-x-{n}"));
+    assert!(wanted.eq(accepted.ranges().iter().map(|it| it.range.to_string())));
 }
 
 #[test]
@@ -39,14 +34,12 @@ fn forms_of_long_tags() {
 
 /// Returns an extension with each key once, and then with each key again, in the other order and with another value; and its form.
 fn repeated_keys(start: &str, firsts: &str, seconds: &str) -> (String, String) {
-    let keys: Vec<String> = firsts
-        .chars()
-        .flat_map(|first| {
-            seconds
-                .chars()
-                .map(move |second| format!("{first}{second}"))
-        })
-        .collect();
+    let keys = firsts.chars().flat_map(|first| {
+        seconds
+            .chars()
+            .map(move |second| format!("{first}{second}"))
+    });
+    let keys: Vec<String> = keys.collect();
     let form: String = keys.iter().map(|key| format!("-{key}-foo")).collect();
     let text: String = keys.iter().rev().map(|key| format!("-{key}-foo")).collect();
     let again: String = keys.iter().map(|key| format!("-{key}-bar-baz")).collect();

@@ -24,28 +24,27 @@ thread_local! {
 struct Refusing;
 
 impl Refusing {
-    fn refuses() -> bool {
+    /// Counts a request, and returns whether it is refused.
+    fn refuses(size: usize) -> bool {
         match GRANTED.get() {
             Some(0) => {
                 REFUSED.set(REFUSED.get() + 1);
-                true
+                return true;
             }
-            Some(left) => {
-                GRANTED.set(Some(left - 1));
-                false
-            }
-            None => false,
+            Some(left) => GRANTED.set(Some(left - 1)),
+            None => {}
         }
+        BYTES.set(BYTES.get() + size);
+        false
     }
 }
 
 // SAFETY: each request is refused, or passed to the system's allocator.
 unsafe impl GlobalAlloc for Refusing {
     unsafe fn alloc(&self, layout: Layout) -> *mut u8 {
-        if Refusing::refuses() {
+        if Refusing::refuses(layout.size()) {
             return std::ptr::null_mut();
         }
-        BYTES.set(BYTES.get() + layout.size());
         unsafe { System.alloc(layout) }
     }
 
@@ -54,10 +53,9 @@ unsafe impl GlobalAlloc for Refusing {
     }
 
     unsafe fn realloc(&self, at: *mut u8, layout: Layout, size: usize) -> *mut u8 {
-        if Refusing::refuses() {
+        if Refusing::refuses(size) {
             return std::ptr::null_mut();
         }
-        BYTES.set(BYTES.get() + size);
         unsafe { System.realloc(at, layout, size) }
     }
 }
@@ -121,15 +119,8 @@ fn copies() {
 
 #[test]
 fn tags_in_another_form() {
-    for text in [
-        "iw-BU",
-        "zh-yue-hk",
-        "sl-rozaj-1994-u-co-phonebk-x-mine",
-        "x-a",
-        "i-klingon",
-        "yue",
-        "zh",
-    ] {
+    const TEXTS: &str = "iw-BU zh-yue-hk sl-rozaj-1994-u-co-phonebk-x-mine x-a i-klingon yue zh";
+    for text in TEXTS.split(' ') {
         let tag = LangTag::new(text).unwrap();
         refuse_each("canonical", || is_memory(try_canonical(tag)));
         refuse_each("extlang_form", || is_memory(try_extlang_form(tag)));
@@ -140,24 +131,19 @@ fn tags_in_another_form() {
         if try_locale_form(tag).unwrap().is_some() {
             refuse_each("form as a locale", || is_memory(try_locale_form(tag)));
         }
-        refuse_each("recommended case", || {
-            is_memory(tag.try_to_recommended_case())
-        });
+        let call = || is_memory(tag.try_to_recommended_case());
+        refuse_each("recommended case", call);
         if let Some(normal) = tag.as_normal() {
-            refuse_each("recommended case", || {
-                is_memory(normal.try_to_recommended_case())
-            });
+            let call = || is_memory(normal.try_to_recommended_case());
+            refuse_each("recommended case", call);
         }
     }
 }
 
 #[test]
 fn tags_from_parts_and_names() {
-    let (language, script, region) = (
-        Language::new("zh").unwrap(),
-        Script::new("Hant").ok(),
-        Region::new("TW").ok(),
-    );
+    let (script, region) = (Script::new("Hant").ok(), Region::new("TW").ok());
+    let language = Language::new("zh").unwrap();
     refuse_each("from_parts", || {
         is_memory(NormalLangTagBuf::try_from_parts(language, script, region))
     });
@@ -172,20 +158,15 @@ fn tags_from_parts_and_names() {
 fn headers() {
     let header = "de;q=0.5, fr, en;q=0.9, it, *;q=0.1, zh-TW;q=0.3";
     let tag = LangTag::new("en").unwrap();
+    let is_refused = |error| matches!(error, AcceptLanguageError::Memory(_));
     refuse_each("AcceptLanguage::new", || {
-        matches!(
-            AcceptLanguage::new(header),
-            Err(AcceptLanguageError::Memory(_))
-        )
+        AcceptLanguage::new(header).is_err_and(is_refused)
     });
     refuse_each("AcceptLanguage::lenient", || {
         is_memory(AcceptLanguage::try_lenient(header))
     });
     refuse_each("tag_for_header", || {
-        matches!(
-            tag_for_header(header, &[tag], &tag),
-            Err(AcceptLanguageError::Memory(_))
-        )
+        tag_for_header(header, &[tag], &tag).is_err_and(is_refused)
     });
 }
 
@@ -196,12 +177,9 @@ fn memory_of_headers() {
         for header in [format!("{}de", " ".repeat(number)), "de,".repeat(number)] {
             let elements = header.split(',').count();
             BYTES.set(0);
-            let accepted = AcceptLanguage::new(&header);
-            assert!(
-                accepted.is_ok() && BYTES.get() <= 320 * elements,
-                "{} bytes",
-                BYTES.get()
-            );
+            assert!(AcceptLanguage::new(&header).is_ok());
+            let bytes = BYTES.get();
+            assert!(bytes <= 320 * elements, "{bytes} bytes");
         }
     }
 }

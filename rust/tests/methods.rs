@@ -38,35 +38,34 @@ fn methods_return_what_functions_return() {
         same! {
             tag, owned: canonical extlang_form maximized minimized extensions_form locale_form transform is_right_to_left
         }
+        let valid = validate(tag);
         assert_eq!(
-            [tag.validate(), owned.as_lang_tag().validate()],
-            [validate(&tag), validate(&owned)]
+            [tag.validate(), validate(&tag), validate(&owned)],
+            [valid; 3]
         );
         assert_eq!(
             [tag.is_valid(), owned.is_valid()],
-            [validate(tag).is_ok(); 2],
+            [valid.is_ok(); 2],
             "{text}"
         );
-        assert_eq!(
-            [tag.keyword("CA"), owned.keyword("ca")],
-            [keyword(tag, "ca"), keyword(&owned, "ca")]
-        );
+        assert_eq!(owned.validate(), valid.map_err(Into::into));
+        let found = [
+            tag.keyword("CA"),
+            owned.keyword("ca"),
+            keyword(&owned, "ca"),
+        ];
+        assert_eq!(found, [keyword(tag, "ca"); 3]);
         assert!(tag.keywords().eq(keywords(&owned)) && owned.keywords().eq(keywords(tag)));
         assert!(tag.attributes().eq(attributes(&owned)) && owned.attributes().eq(attributes(tag)));
         assert_eq!(is_canonical(&owned), tag == canonical(tag));
         for other in TEXTS {
             let other = LangTag::new(other).unwrap();
-            let found = [
-                tag.distance(other),
-                owned.distance(other),
-                tag.distance(&other.to_owned()),
-            ];
+            let of_owned = tag.distance(&other.to_owned());
+            let found = [tag.distance(other), owned.distance(other), of_owned];
             assert_eq!(found, [distance(tag, other); 3]);
         }
-        assert_eq!(
-            tag.to_recommended_case(),
-            tag.try_to_recommended_case().unwrap()
-        );
+        let recommended = tag.try_to_recommended_case().unwrap();
+        assert_eq!(tag.to_recommended_case(), recommended);
     }
 }
 
@@ -77,46 +76,27 @@ fn valid_and_matching() {
     let range = |text| LanguageRange::new(text).unwrap();
     assert!(tag("de-Latn-DE").matches(range("de-DE")) && tag("de-Latn-DE").matches(tag("de-DE")));
     assert!(!tag("de-x-DE").to_owned().matches(range("de-DE")));
-    assert_eq!(
-        [Kind::Normal, Kind::PrivateUse, Kind::Grandfathered].map(|kind| kind.to_string()),
-        ["normal", "private-use", "grandfathered"]
-    );
+    let kinds = [Kind::Normal, Kind::PrivateUse, Kind::Grandfathered].map(|kind| kind.to_string());
+    assert_eq!(kinds, ["normal", "private-use", "grandfathered"]);
 }
 
 #[test]
 fn conversions() {
     let tag = LangTag::new("DE-a-bb-U-co-phonebk").unwrap();
-    let extensions = tag.extensions();
-    let found = extensions.get('u').map(|it| it.as_str());
-    assert_eq!(found, Some("U-co-phonebk"));
-    assert_eq!(extensions.get(b'U').map(|it| it.as_str()), found);
-    let owned = extensions.to_owned();
-    assert_eq!(owned.get('U').map(|it| it.as_str()), found);
-    assert_eq!(
-        extensions
-            .get(Singleton::new(b'u').unwrap())
-            .map(|it| it.as_str()),
-        found
-    );
-    assert_eq!(
-        (
-            extensions.get('x'),
-            extensions.get('\u{e9}'),
-            extensions.get('t')
-        ),
-        (None, None, None)
-    );
-    assert_eq!(char::from(Singleton::new(b'U').unwrap()), 'U');
-    assert_eq!(
-        LanguageRangeBuf::from(tag.to_owned()).as_str(),
-        tag.as_str()
-    );
+    let (extensions, singleton) = (tag.extensions(), Singleton::new(b'U').unwrap());
+    let found = extensions.get('u').unwrap();
+    assert_eq!(found.as_str(), "U-co-phonebk");
+    assert_eq!(extensions.get(b'U'), Some(found));
+    assert_eq!(extensions.to_owned().get('U'), Some(found));
+    assert_eq!(extensions.get(singleton), Some(found));
+    assert_eq!(['x', '\u{e9}', 't'].map(|it| extensions.get(it)), [None; 3]);
+    assert_eq!(char::from(singleton), 'U');
+    let range = LanguageRangeBuf::from(tag.to_owned());
+    assert_eq!(range.as_str(), tag.as_str());
     assert_eq!(&*Box::<str>::from(tag.to_owned()), tag.as_str());
     const UND: LangTag<'static> = LangTag::UND;
-    assert_eq!(
-        (UND.as_str(), UND.as_typed()),
-        ("und", LangTag::new("und").unwrap().as_typed())
-    );
+    assert_eq!(UND.as_str(), "und");
+    assert_eq!(UND.as_typed(), LangTag::new("und").unwrap().as_typed());
     assert_eq!(LangTag::default(), UND);
 }
 
@@ -137,16 +117,12 @@ fn lists_with_other_texts() {
     let site = ["not a tag", "en_US", "de", ""];
     assert_eq!(best_for_header("en-US, de;q=0.5", &site), Some(2));
     assert_eq!(best_for_header("fr", &site), None);
-    assert_eq!(
-        best_for_header(&String::from("de"), &Vec::from(site.map(String::from))),
-        Some(2)
-    );
+    let strings = Vec::from(site.map(String::from));
+    assert_eq!(best_for_header(&String::from("de"), &strings), Some(2));
     assert_eq!(best_for_header("*", &["en_US"]), None);
     assert_eq!(best_for_ranges(&["d!", "de"], &["en", "de"]), Some(1));
-    assert_eq!(
-        best_for_ranges(&["de;q=0", "zh_TW.UTF-8"], &["de", "zh-Hant"]),
-        Some(1)
-    );
+    let ranges = ["de;q=0", "zh_TW.UTF-8"];
+    assert_eq!(best_for_ranges(&ranges, &["de", "zh-Hant"]), Some(1));
     assert_eq!(best_for_ranges(&[""; 0], &["en", "de"]), None);
     assert_eq!(look_up(&["d!", "en_US", "de-CH"], &site, &"none"), &"de");
     assert_eq!(look_up(&["en"], &site, &"none"), &"none");
@@ -170,10 +146,7 @@ fn weighted_ranges_of_weight_0() {
         (["de-CH", "de-AT"], Some(1)),
     ] {
         assert_eq!(best_among(&ranges[..], &tags), index, "{tags:?}");
-        assert_eq!(
-            best_for_header("de, de-CH;q=0, de-CH-1996;q=0.5", &tags),
-            index,
-            "{tags:?}"
-        );
+        let found = best_for_header("de, de-CH;q=0, de-CH-1996;q=0.5", &tags);
+        assert_eq!(found, index, "{tags:?}");
     }
 }

@@ -23,20 +23,12 @@ fn keep_their_text() {
     assert_eq!(copy, tag);
     let (kept, copied) = (tag.into_string(), copy.into_string());
     assert!(kept.as_ptr() == place && copied.as_ptr() != place);
-    assert_eq!(
-        LangTagBuf::new("a b".into()),
-        Err(InvalidLangTag("a b".into()))
-    );
 }
 
 #[test]
 fn are_keys() {
     let map = HashMap::from([(owned("en-US"), 1)]);
-    assert_eq!(
-        map.get(&LangTagBuf::try_from(String::from("EN-us")).unwrap()),
-        Some(&1)
-    );
-    assert_eq!("a b".parse::<LangTagBuf>().unwrap_err().0, "a b");
+    assert_eq!(map.get(&owned("EN-us")), Some(&1));
 }
 
 #[test]
@@ -52,18 +44,14 @@ fn are_found_by_what_owns_nothing() {
         assert_eq!(hashed.get(String::from(text).caseless()), Some(&1));
     }
     for text in ["en", "en-UK", "no tag", ""] {
-        assert_eq!(
-            (hashed.get(text.caseless()), sorted.get(text.caseless())),
-            (None, None)
-        );
+        assert_eq!(hashed.get(text.caseless()), None);
+        assert_eq!(sorted.get(text.caseless()), None);
     }
     let borrowed = HashMap::from([(LangTag::new("de-CH").unwrap(), 2)]);
     assert_eq!(borrowed.get("DE-ch".caseless()), Some(&2));
     let scripts = BTreeMap::from([(ScriptBuf::try_from("Latn").unwrap(), 3)]);
-    assert_eq!(
-        scripts.get(Script::new("LATN").unwrap().caseless()),
-        Some(&3)
-    );
+    let script = Script::new("LATN").unwrap();
+    assert_eq!(scripts.get(script.caseless()), Some(&3));
 }
 
 #[test]
@@ -76,95 +64,26 @@ fn are_compared_with_lent_ones() {
     assert_eq!(owned("DE-at").into_bytes(), b"DE-at");
     assert_ne!(InvalidLangTag("a b"), InvalidLangTag("a c"));
     let (owned, lent) = (owned("de-CH"), LangTag::new("de-AT").unwrap());
-    assert_eq!(
-        (lent < owned, owned < lent, LangTag::from(&owned) == owned),
-        (true, false, true)
-    );
+    assert!(lent < owned && LangTag::from(&owned) == owned);
+    assert!(owned > lent);
     let text: Cow<str> = "DE-ch".into();
-    assert_eq!(
-        (owned == text, LangTag::from(&owned) == text, text == lent),
-        (true, true, false)
-    );
-    assert_eq!(
-        LangTagBuf::try_from("a b"),
-        Err(InvalidLangTag("a b".into()))
-    );
+    assert!(owned == text && LangTag::from(&owned) == text && text != lent);
 }
 
+/// The rows compare the calls of owned tags.
 #[test]
-fn have_what_lent_ones_have() {
-    let tag = owned("zh-yue-Hant-HK-1994-u-co-x-a");
-    let lent = tag.as_lang_tag();
-    assert_eq!((tag.kind(), tag.language()), (lent.kind(), lent.language()));
-    assert_eq!(
-        (tag.script().unwrap(), tag.region().unwrap()),
-        (Script::new("Hant").unwrap(), Region::new("HK").unwrap())
-    );
-    assert_eq!(
-        (tag.variants(), tag.extensions(), tag.private_use()),
-        (lent.variants(), lent.extensions(), lent.private_use())
-    );
-    assert!(
-        tag.private_use_subtags().eq(lent.private_use_subtags())
-            && tag.subtags().eq(lent.subtags())
-    );
-    assert_eq!(tag.as_bytes(), lent.as_bytes());
-    assert_eq!(
-        (
-            tag.is_normal(),
-            tag.is_private_use(),
-            tag.is_grandfathered()
-        ),
-        (true, false, false)
-    );
-    assert_eq!(tag.as_typed().kind(), Kind::Normal);
-    let normal = tag.clone().into_normal().unwrap();
-    assert_eq!(
-        (normal.language(), normal.script(), normal.region()),
-        (lent.language().unwrap(), lent.script(), lent.region())
-    );
-    assert_eq!(
-        (normal.ends(), normal.as_lang_tag()),
-        (lent.as_normal().unwrap().ends(), lent)
-    );
-    let parts = (normal.variants().to_owned(), normal.extensions().to_owned());
-    assert_eq!(
-        (parts.0.first(), parts.0.last(), parts.0.iter().count()),
-        (lent.variants().first(), lent.variants().last(), 1)
-    );
-    assert_eq!(
-        parts
-            .1
-            .get(Singleton::new(b'U').unwrap())
-            .unwrap()
-            .to_owned()
-            .singleton(),
-        b'u'
-    );
-    assert!(normal
-        .language()
-        .to_owned()
-        .extension()
-        .unwrap()
-        .to_owned()
-        .iter()
-        .eq(["yue"]));
-    let twice = owned("de-1996-1996-a-bb-A-cc").into_normal().unwrap();
-    assert_eq!(
-        (
-            twice.repeated_variant().unwrap(),
-            twice.repeated_singleton().unwrap()
-        ),
-        (Variant::new("1996").unwrap(), Singleton::new(b'A').unwrap())
-    );
-    assert_eq!(
-        owned("I-hak").as_grandfathered(),
-        Some(GrandfatheredLangTag::IHak)
-    );
-    assert_eq!(
-        (VariantsBuf::default(), ExtensionsBuf::default().len()),
-        (Variants::EMPTY.to_owned(), 0)
-    );
+fn parts_have_what_lent_ones_have() {
+    let tag = LangTag::new("zh-yue-Hant-HK-rozaj-1994-u-co-x-a").unwrap();
+    let (lent, variants) = (tag.variants(), tag.variants().to_owned());
+    assert!(variants.first() == lent.first() && variants.last() == lent.last());
+    assert!(variants.iter().eq(lent.iter()));
+    let extensions = tag.extensions().to_owned();
+    let extension = extensions.get(Singleton::new(b'U').unwrap()).unwrap();
+    assert_eq!(extension.to_owned().singleton(), b'u');
+    let language = tag.language().unwrap().to_owned();
+    assert!(language.extension().unwrap().to_owned().iter().eq(["yue"]));
+    assert_eq!(VariantsBuf::default(), Variants::EMPTY);
+    assert_eq!(ExtensionsBuf::default(), Extensions::EMPTY);
 }
 
 #[test]
@@ -174,11 +93,6 @@ fn are_edited() -> Result<(), Box<dyn Error>> {
     tag.set_variants(Variants::EMPTY)?;
     tag.set_private_use(None)?;
     assert_eq!(tag.as_str(), "sl-Latn-IT");
-    let mut private = owned("x-a");
-    assert_eq!(
-        private.set_region(Some(Region::new("DE")?)),
-        Err(EditError::NotNormal)
-    );
     let (language, script) = (Language::new("zh-yue")?, Script::new("Hant")?);
     let made = NormalLangTagBuf::from_parts(language, Some(script), Some(Region::new("HK")?));
     assert_eq!(made, NormalLangTag::new("zh-yue-Hant-HK")?);
@@ -188,16 +102,8 @@ fn are_edited() -> Result<(), Box<dyn Error>> {
 #[test]
 fn ranges_are_stored() {
     let range = LanguageRangeBuf::new("DE-*".into()).unwrap();
-    let (lent, copy) = (range.as_language_range(), range.clone());
-    assert_eq!((lent.is_basic(), copy.is_basic()), (false, false));
-    assert_eq!((&copy, lent), (&range, LanguageRange::from(&copy)));
-    assert_eq!(
-        (range.as_str(), String::from(copy)),
-        ("DE-*", "DE-*".into())
-    );
-    assert!(range.fallbacks().eq(["DE-*", "DE"]));
-    let refused = LanguageRangeBuf::try_from(String::from("de_"));
-    assert_eq!(refused, Err(InvalidLanguageRange("de_".into())));
+    assert!(!range.is_basic() && range.fallbacks().eq(["DE-*", "DE"]));
+    assert_eq!(String::from(range.clone()), range.as_str());
     assert!("*".parse::<LanguageRangeBuf>().unwrap().is_basic());
 }
 
@@ -214,21 +120,23 @@ fn errors_outlive_their_text() {
     fn read_range(range: &str) -> Result<bool, InvalidLanguageRange<String>> {
         Ok(LanguageRange::new(range)?.is_basic())
     }
-    let error = |tag: &str, range: &str| {
-        read(&String::from(tag), &String::from(range))
-            .unwrap_err()
-            .to_string()
-    };
-    assert_eq!(
-        error("en-", "*"),
-        "invalid language tag `en-`: unexpected end: expected a subtag"
-    );
-    assert_eq!(error("de", "d*"), "invalid language range `d*`");
-    assert_eq!(error("qt", "*"), "language qt is not registered");
-    assert_eq!(
-        error("en-UK", "*"),
-        "region UK is not registered: did you mean GB?"
-    );
+    for (tag, range, said) in [
+        (
+            "en-",
+            "*",
+            "invalid language tag `en-`: unexpected end: expected a subtag",
+        ),
+        ("de", "d*", "invalid language range `d*`"),
+        ("qt", "*", "language qt is not registered"),
+        (
+            "en-UK",
+            "*",
+            "region UK is not registered: did you mean GB?",
+        ),
+    ] {
+        let error = read(&String::from(tag), &String::from(range)).unwrap_err();
+        assert_eq!(error.to_string(), said);
+    }
     assert_eq!(read_range("d*"), Err(InvalidLanguageRange("d*".into())));
     assert!(read("de", "*").is_ok());
 }
@@ -239,27 +147,14 @@ fn errors_with_more_than_a_text() {
     use langtag::likely::from_posix;
     use langtag::registry::InvalidSubtag;
 
-    for text in [
-        "qt",
-        "zh-fra",
-        "zh-cmn-yue",
-        "fr-Abcd",
-        "fr-FQ",
-        "en-UK",
-        "de-1997",
-        "de-1996-1996",
-        "fr-a-bb-A-cc",
-    ] {
+    const INVALID: &str =
+        "qt zh-fra zh-cmn-yue fr-Abcd fr-FQ en-UK de-1997 de-1996-1996 fr-a-bb-A-cc";
+    for text in INVALID.split(' ') {
         let invalid = validate(LangTag::new(text).unwrap()).unwrap_err();
         let owned = InvalidSubtagBuf::from(invalid);
-        assert_eq!(
-            (
-                owned.as_invalid_subtag(),
-                owned.suggestion(),
-                owned.to_string()
-            ),
-            (invalid, invalid.suggestion(), invalid.to_string())
-        );
+        assert_eq!(owned.as_invalid_subtag(), invalid);
+        assert_eq!(owned.suggestion(), invalid.suggestion());
+        assert_eq!(owned.to_string(), invalid.to_string());
     }
     fn read(header: &str, name: &str, tag: &str) -> Result<(), Box<dyn Error>> {
         AcceptLanguage::new(header).map_err(AcceptLanguageError::into_owned)?;
@@ -268,22 +163,31 @@ fn errors_with_more_than_a_text() {
             .map_err(InvalidSubtag::into_owned)?;
         Ok(())
     }
-    let said = |header, name, tag| read(header, name, tag).unwrap_err().to_string();
-    assert_eq!(
-        said("fr, de_CH", "de", "de"),
-        "element 2 at offset 3 has a bad language range: `de_CH`"
-    );
-    assert_eq!(
-        said("fr", "C", "de"),
-        from_posix("C").unwrap_err().to_string()
-    );
-    assert_eq!(said("fr", "de", "qt"), "language qt is not registered");
-    let Err(AcceptLanguageErrorBuf::BadElement {
+    for (header, name, tag, said) in [
+        (
+            "fr, de_CH",
+            "de",
+            "de",
+            "element 2 at offset 3 has a bad language range: `de_CH`",
+        ),
+        ("fr", "C", "de", "no language in the locale name `C`"),
+        (
+            "fr",
+            "\t_DE",
+            "de",
+            r"no language in the locale name `\t_DE`",
+        ),
+        ("fr", "de", "qt", "language qt is not registered"),
+    ] {
+        assert_eq!(read(header, name, tag).unwrap_err().to_string(), said);
+    }
+    let error = AcceptLanguage::new("fr,de;q=2").unwrap_err().into();
+    let AcceptLanguageErrorBuf::BadElement {
         header,
         index,
         offset,
         ..
-    }) = AcceptLanguage::new("fr,de;q=2").map_err(Into::into)
+    } = error
     else {
         panic!("it has a bad element");
     };
@@ -291,14 +195,8 @@ fn errors_with_more_than_a_text() {
     let invalid = |text| validate(LangTag::new(text).unwrap()).unwrap_err();
     let distinct = HashSet::from(["de-1997", "DE-1997", "fr-FQ"].map(invalid));
     assert_eq!(distinct.len(), 2);
-    assert_eq!(
-        PosixErrorBuf::from(from_posix("C").unwrap_err()),
-        PosixErrorBuf::NoTag("C".into())
-    );
-    assert_eq!(
-        PosixErrorBuf::from(from_posix("\t_DE").unwrap_err()).to_string(),
-        r"no language in the locale name `\t_DE`"
-    );
+    let error = PosixErrorBuf::from(from_posix("C").unwrap_err());
+    assert_eq!(error, PosixErrorBuf::NoTag("C".into()));
 }
 
 #[test]
@@ -307,12 +205,8 @@ fn singletons_and_grandfathered_tags() {
     assert_eq!("x".parse::<Singleton>(), Err(InvalidSingleton("x".into())));
     assert_eq!(Singleton::try_from('é'), Err(InvalidSingleton('é')));
     let tag = GrandfatheredLangTag::try_from(&b"I-Klingon"[..]).unwrap();
-    assert_eq!(
-        (tag.as_ref(), LangTag::from(tag).as_str()),
-        ("i-klingon", "i-klingon")
-    );
-    assert_eq!(
-        GrandfatheredLangTag::try_from(&b"fr"[..]),
-        Err(InvalidGrandfatheredTag(&b"fr"[..]))
-    );
+    assert_eq!(tag.as_ref(), "i-klingon");
+    assert_eq!(LangTag::from(tag).as_str(), "i-klingon");
+    let refused = GrandfatheredLangTag::try_from(&b"fr"[..]);
+    assert_eq!(refused, Err(InvalidGrandfatheredTag(&b"fr"[..])));
 }

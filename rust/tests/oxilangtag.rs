@@ -8,24 +8,17 @@ use langtag::oxilangtag::LanguageTag;
 #[test]
 fn parts() {
     let tag = LanguageTag::parse("zh-cmn-Hans-CN-rozaj-u-co-phonebk-a-bb-x-a-b").unwrap();
-    assert_eq!(
-        (
-            tag.primary_language(),
-            tag.extended_language(),
-            tag.full_language()
-        ),
-        ("zh", Some("cmn"), "zh-cmn")
-    );
+    assert_eq!(tag.primary_language(), "zh");
+    assert_eq!(tag.extended_language(), Some("cmn"));
+    assert_eq!(tag.full_language(), "zh-cmn");
     assert!(tag.extended_language_subtags().eq(["cmn"]));
-    assert_eq!(
-        (tag.script(), tag.region(), tag.variant()),
-        (Some("Hans"), Some("CN"), Some("rozaj"))
-    );
+    assert_eq!(tag.script(), Some("Hans"));
+    assert_eq!(tag.region(), Some("CN"));
+    assert_eq!(tag.variant(), Some("rozaj"));
     assert!(tag.variant_subtags().eq(["rozaj"]));
     assert_eq!(tag.extension(), Some("u-co-phonebk-a-bb"));
-    assert!(tag
-        .extension_subtags()
-        .eq([('u', "co-phonebk"), ('a', "bb")]));
+    let extensions = [('u', "co-phonebk"), ('a', "bb")];
+    assert!(tag.extension_subtags().eq(extensions));
     assert_eq!(tag.private_use(), Some("x-a-b"));
     assert!(tag.private_use_subtags().eq(["a", "b"]));
 }
@@ -47,21 +40,15 @@ fn private_use_in_capitals() {
 fn whole_tags() {
     for text in ["i-klingon", "zh-min-nan", "art-lojban", "X-fr-CH"] {
         let tag = LanguageTag::parse(text).unwrap();
-        assert_eq!(
-            (tag.primary_language(), tag.full_language(), tag.as_str()),
-            (text, text, text)
-        );
-        assert_eq!(
-            (tag.extended_language(), tag.script(), tag.region()),
-            (None, None, None)
-        );
+        let whole = [tag.primary_language(), tag.full_language(), tag.as_str()];
+        assert_eq!(whole, [text; 3]);
+        let places = [tag.extended_language(), tag.script(), tag.region()];
+        assert_eq!(places, [None; 3]);
         assert_eq!((tag.variant(), tag.extension()), (None, None));
         assert_eq!(tag.private_use(), text.starts_with('X').then_some(text));
     }
-    assert!(LanguageTag::parse("x-a-b")
-        .unwrap()
-        .private_use_subtags()
-        .eq(["a", "b"]));
+    let tag = LanguageTag::parse("x-a-b").unwrap();
+    assert!(tag.private_use_subtags().eq(["a", "b"]));
 }
 
 /// As in oxilangtag, case counts, so a map can be searched with a `str`.
@@ -69,23 +56,17 @@ fn whole_tags() {
 fn texts() {
     let tag: LanguageTag<String> = "EN-us".parse().unwrap();
     assert_eq!(tag, "en-US");
-    assert_eq!(
-        LanguageTag::parse_and_normalize("zh-hant-tw-X-A")
-            .unwrap()
-            .into_inner(),
-        "zh-Hant-TW-x-a"
-    );
-    assert_ne!(
-        LanguageTag::parse("EN").unwrap(),
-        LanguageTag::parse("en").unwrap()
-    );
+    let normalized = LanguageTag::parse_and_normalize("zh-hant-tw-X-A").unwrap();
+    assert_eq!(normalized.into_inner(), "zh-Hant-TW-x-a");
+    let [large, small] = ["EN", "en"].map(|text| LanguageTag::parse(text).unwrap());
+    assert_ne!(large, small);
     let map = HashMap::from([(tag, 1)]);
     assert_eq!((map.get("en-US"), map.get("EN-us")), (Some(&1), None));
     let cow: LanguageTag<Cow<str>> = LanguageTag::parse("de-CH").unwrap().into();
     assert_eq!(LanguageTag::<String>::from(cow).region(), Some("CH"));
-    let error = LanguageTag::parse("zh_Hant").unwrap_err();
+    let error = LanguageTag::parse("zh_Hant").unwrap_err().to_string();
     assert_eq!(
-        error.to_string(),
+        error,
         "invalid language tag, of which the first 2 bytes can begin one"
     );
 }
@@ -97,11 +78,7 @@ fn long_parts_order_and_refusals() {
     assert_eq!(long.primary_language(), "de");
     assert_eq!(long.private_use(), Some(&text[3..]));
     assert!(LanguageTag::parse("a1").is_err());
-    let (a, b) = ("de", "en");
-    let (a, b) = (
-        LanguageTag::parse(a).unwrap(),
-        LanguageTag::parse(b).unwrap(),
-    );
+    let [a, b] = ["de", "en"].map(|text| LanguageTag::parse(text).unwrap());
     assert!(a < b && a.cmp(&b).is_lt());
     let error = LanguageTag::parse_and_normalize("de-419-DE").unwrap_err();
     let same = LanguageTag::parse("de-419-DE").unwrap_err();

@@ -22,10 +22,8 @@ fn empty_walks_give_nothing() {
 fn empty_lists_are_those_of_the_empty_text() {
     assert_eq!(Variants::new(""), Ok(Variants::EMPTY));
     assert_eq!(Variants::EMPTY.as_str(), "");
-    assert_eq!(
-        (Variants::EMPTY.first(), Variants::EMPTY.last()),
-        (None, None)
-    );
+    assert_eq!(Variants::EMPTY.first(), None);
+    assert_eq!(Variants::EMPTY.last(), None);
     assert_eq!(Variants::EMPTY.iter().next(), None);
     assert_eq!(Extensions::new(""), Ok(Extensions::EMPTY));
     assert_eq!(Extensions::EMPTY.as_str(), "");
@@ -63,9 +61,4 @@ fn characters_convert() {
     for c in ['\u{161}', 'x', 'X', '-', 'é', '\0', '\u{ff}', '\u{10ffff}'] {
         assert_eq!(Singleton::try_from(c).unwrap_err().0, c);
     }
-}
-
-#[test]
-fn literals_are_singletons() {
-    assert_eq!(Singleton::new(b'u').unwrap().unwrap(), b'u');
 }

@@ -35,11 +35,9 @@ fn runs() -> Vec<Run> {
     for line in include_str!("program.txt").lines() {
         let text = |line| String::from_utf8(unescape(line)).unwrap();
         if let Some(words) = line.strip_prefix("$ langtag") {
-            let arguments = words.split_whitespace().map(String::from).collect();
-            runs.push(Run {
-                arguments,
-                ..Run::default()
-            });
+            runs.push(Run::default());
+            let words = words.split_whitespace().map(String::from);
+            runs.last_mut().unwrap().arguments = words.collect();
             continue;
         }
         let Some(run) = runs.last_mut() else { continue };
@@ -74,15 +72,10 @@ fn listed_runs() {
     for run in runs {
         let arguments: Vec<&str> = run.arguments.iter().map(String::as_str).collect();
         let output = langtag(&arguments, &run.input);
-        assert_eq!(
-            (
-                String::from_utf8_lossy(&output.stdout),
-                String::from_utf8_lossy(&output.stderr),
-                output.status.code()
-            ),
-            (run.stdout.into(), run.stderr.into(), Some(run.status)),
-            "{arguments:?}"
-        );
+        let [stdout, stderr] =
+            [output.stdout, output.stderr].map(|it| String::from_utf8(it).unwrap());
+        assert_eq!((stdout, stderr), (run.stdout, run.stderr), "{arguments:?}");
+        assert_eq!(output.status.code(), Some(run.status), "{arguments:?}");
     }
 }
 
@@ -98,10 +91,8 @@ fn the_proved_programs() {
             continue;
         };
         let output = langtag(&[command], &input);
-        assert!(
-            output.stdout == std::fs::read(folder.join("stdout")).unwrap(),
-            "{command}"
-        );
+        let stored = std::fs::read(folder.join("stdout")).unwrap();
+        assert!(output.stdout == stored, "{command}");
         assert_eq!((output.status.code(), output.stderr.len()), (Some(1), 0));
     }
 }
@@ -110,15 +101,9 @@ fn the_proved_programs() {
 fn help_fits_a_screen() {
     let output = langtag(&["--help"], b"");
     let help = String::from_utf8(output.stdout).unwrap();
-    assert!(
-        output.status.success() && help.lines().count() <= 25,
-        "{}",
-        help.lines().count()
-    );
-    assert!(
-        help.lines().all(|line| line.chars().count() <= 84),
-        "{help}"
-    );
+    let widest = help.lines().map(|line| line.chars().count()).max();
+    assert!(output.status.success());
+    assert!(help.lines().count() <= 25 && widest <= Some(84), "{help}");
     let version = String::from_utf8(langtag(&["-V"], b"").stdout).unwrap();
     assert!(version.starts_with("langtag ") && version.contains(langtag::registry::FILE_DATE));
 }
@@ -156,29 +141,19 @@ fn answers_do_not_wait() {
 #[test]
 fn failures() {
     use std::fs::{File, OpenOptions};
-    let ended = |command: &mut Command| {
+    let check = |command: &mut Command, status: i32, said: &str| {
         let output = command.output().unwrap();
-        (
-            output.status.code(),
-            String::from_utf8(output.stderr).unwrap(),
-        )
+        assert_eq!(output.status.code(), Some(status));
+        assert_eq!(output.stderr, format!("langtag: {said}\n").into_bytes());
     };
     let program = || Command::new(env!("CARGO_BIN_EXE_langtag"));
     let full = || OpenOptions::new().write(true).open("/dev/full").unwrap();
-    assert_eq!(
-        ended(program().arg("show").stdin(File::open("/").unwrap())),
-        (Some(4), "langtag: read failed\n".into())
-    );
+    let folder = File::open("/").unwrap();
+    check(program().arg("show").stdin(folder), 4, "read failed");
     for arguments in [&["show", "de"][..], &["--help"]] {
-        assert_eq!(
-            ended(program().args(arguments).stdout(full())),
-            (Some(5), "langtag: write failed\n".into())
-        );
+        check(program().args(arguments).stdout(full()), 5, "write failed");
     }
     let limited = "ulimit -v 100000; tr '\\0' a </dev/zero | head -c 200000000 | \"$0\" show";
-    let path = env!("CARGO_BIN_EXE_langtag");
-    assert_eq!(
-        ended(Command::new("sh").args(["-c", limited, path])),
-        (Some(3), "langtag: out of memory\n".into())
-    );
+    let arguments = ["-c", limited, env!("CARGO_BIN_EXE_langtag")];
+    check(Command::new("sh").args(arguments), 3, "out of memory");
 }

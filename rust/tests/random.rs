@@ -8,6 +8,9 @@ use langtag::matching::{wanted_ranges, AcceptLanguage, LanguageRange};
 use langtag::registry::{is_canonical, write_canonical};
 use langtag::unicode::is_locale;
 use langtag::*;
+use numbers::Numbers;
+
+mod numbers;
 
 const SUBTAGS: [&str; 56] = [
     "en", "zh", "min", "nan", "Hant", "latn", "TW", "419", "rozaj", "1994", "u", "x", "a", "t",
@@ -17,52 +20,25 @@ const SUBTAGS: [&str; 56] = [
     "h0", "hybrid",
 ];
 const BETWEEN: [&str; 6] = ["-", "-", "-", "-", "_", ""];
+const POOL: &str = "en zh-Hant de-CH x-a i-klingon zh-yue-HK und sr-Latn es-419 he";
 
-/// Numbers that look random (xorshift64).
-struct Numbers(u64);
-
-impl Numbers {
-    fn below(&mut self, most: usize) -> usize {
-        self.0 ^= self.0 << 13;
-        self.0 ^= self.0 >> 7;
-        self.0 ^= self.0 << 17;
-        (self.0 % most as u64) as usize
-    }
-
-    fn text(&mut self) -> String {
-        let mut text = String::new();
-        for _ in 0..1 + self.below(8) {
-            text += BETWEEN[self.below(6)];
-            text += SUBTAGS[self.below(SUBTAGS.len())];
-        }
-        let begin = text.len() - text.trim_start_matches(['-', '_']).len();
-        let times = if self.below(50) == 0 {
-            1 + self.below(40)
-        } else {
-            1
-        };
-        text[begin..].repeat(times)
-    }
+fn text(numbers: &mut Numbers) -> String {
+    let subtags = numbers.list(8, |it| {
+        [BETWEEN[it.below(6)], SUBTAGS[it.below(SUBTAGS.len())]]
+    });
+    let text = subtags.concat().concat();
+    let is_long = numbers.below(50) == 0;
+    let times = if is_long { 1 + numbers.below(40) } else { 1 };
+    text.trim_start_matches(['-', '_']).repeat(times)
 }
 
 #[test]
 fn no_call_panics() {
-    let pool = [
-        "en",
-        "zh-Hant",
-        "de-CH",
-        "x-a",
-        "i-klingon",
-        "zh-yue-HK",
-        "und",
-        "sr-Latn",
-        "es-419",
-        "he",
-    ]
-    .map(|text| LangTag::new(text).unwrap());
+    let pool = POOL.split(' ').map(|text| LangTag::new(text).unwrap());
+    let pool: Vec<_> = pool.collect();
     let (mut numbers, mut tags) = (Numbers(0x1234567), 0);
     for _ in 0..20_000 {
-        let text = numbers.text();
+        let text = text(&mut numbers);
         ask_of_text(&text, &pool);
         match LangTag::new(&text) {
             Ok(tag) => {
@@ -87,10 +63,8 @@ fn ask_of_text(text: &str, pool: &[LangTag<'_>]) {
     }
     let accepted = AcceptLanguage::lenient(text);
     let ranges: Vec<_> = accepted.ranges().iter().map(|it| it.range).collect();
-    assert_eq!(
-        best_for_accept_language(&accepted, pool),
-        best_for_ranges(&ranges, pool)
-    );
+    let best = best_for_accept_language(&accepted, pool);
+    assert_eq!(best, best_for_ranges(&ranges, pool));
     wanted_ranges(text.as_bytes()).count();
     if let Err(error) = from_posix(text) {
         error.to_string();
@@ -113,31 +87,23 @@ fn ask_of_tag(tag: LangTag<'_>, pool: &[LangTag<'_>]) {
         Ok(written) => assert_eq!(written, form.as_str()),
         Err(error) => assert_eq!(error.needed(), form.as_str().len()),
     }
-    assert_eq!(
-        tag.maximized().maximized().as_str(),
-        tag.maximized().as_str()
-    );
-    assert_eq!(
-        tag.minimized().minimized().as_str(),
-        tag.minimized().as_str()
-    );
+    let form = tag.maximized();
+    assert_eq!(form.maximized().as_str(), form.as_str());
+    let form = tag.minimized();
+    assert_eq!(form.minimized().as_str(), form.as_str());
     if let Some(form) = tag.locale_form() {
         assert!(is_locale(&form));
-        assert_eq!(
-            form.locale_form().as_ref().map(LangTagBuf::as_str),
-            Some(form.as_str())
-        );
+        assert_eq!(form.locale_form().unwrap().as_str(), form.as_str());
     }
     let form = tag.extensions_form();
     assert_eq!(form.extensions_form().as_str(), form.as_str());
     ask_of_keywords(tag);
+    let owned = tag.to_owned();
     assert!(pool
         .iter()
-        .all(|other| tag.distance(other) == tag.to_owned().distance(other)));
-    assert_eq!(
-        tag.in_recommended_case().to_string(),
-        tag.to_recommended_case().as_str()
-    );
+        .all(|other| tag.distance(other) == owned.distance(other)));
+    let form = tag.in_recommended_case().to_string();
+    assert_eq!(form, tag.to_recommended_case().as_str());
     assert!(tag.as_str().starts_with(tag.base().as_str()));
 }
 

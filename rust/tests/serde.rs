@@ -33,32 +33,21 @@ struct Lent<'a> {
 fn owned() {
     let json = r#"{"language":"de-CH","original":null,"translations":["fr","ZH-hant"],"titles":{"en":"Bike"},"script":"Latn","wanted":"de-*"}"#;
     let text: Text = serde_json::from_str(json).unwrap();
-    assert_eq!(
-        (text.language.region().unwrap(), &text.original),
-        (Region::new("CH").unwrap(), &None)
-    );
-    assert_eq!(
-        (
-            text.translations[1].as_str(),
-            text.titles.get("EN".caseless()).unwrap().as_str()
-        ),
-        ("ZH-hant", "Bike")
-    );
+    assert_eq!(text.language.region().unwrap(), "CH");
+    assert_eq!(text.original, None);
+    assert_eq!(text.translations[1].as_str(), "ZH-hant");
+    assert_eq!(text.titles.get("EN".caseless()).unwrap(), "Bike");
     assert_eq!(serde_json::to_string(&text).unwrap(), json);
-    assert_eq!(
-        serde_json::from_reader::<_, Text>(json.as_bytes()).unwrap(),
-        text
-    );
+    let read: Text = serde_json::from_reader(json.as_bytes()).unwrap();
+    assert_eq!(read, text);
 }
 
 #[test]
 fn lent() {
     let json = r#"{"language":"de-CH","regions":["CH","419"],"wanted":"*-CH","counts":{"Latn":2}}"#;
     let text: Lent = serde_json::from_str(json).unwrap();
-    assert_eq!(
-        (text.language, text.regions.len(), text.counts.len()),
-        (LangTag::new("de-ch").unwrap(), 2, 1)
-    );
+    assert_eq!(text.language, "de-ch");
+    assert_eq!((text.regions.len(), text.counts.len()), (2, 1));
     assert_eq!(serde_json::to_string(&text).unwrap(), json);
 }
 
@@ -69,32 +58,19 @@ fn refused<'a, T: Deserialize<'a>>(json: &'a str) -> String {
 
 #[test]
 fn refusals() {
-    assert_eq!(
-        refused::<LangTagBuf>(r#""en_US""#),
-        "invalid language tag `en_US`: invalid character `_`: expected a letter, a digit or a hyphen"
-    );
+    let invalid = "invalid language tag `en_US`: invalid character `_`: expected a letter, a digit or a hyphen";
+    assert_eq!(refused::<LangTagBuf>(r#""en_US""#), invalid);
+    assert_eq!(refused::<LangTag>(r#""en_US""#), invalid);
     assert_eq!(refused::<ScriptBuf>(r#""Latin""#), "invalid script `Latin`");
-    assert_eq!(
-        refused::<LanguageRangeBuf>(r#""de_""#),
-        "invalid language range `de_`"
-    );
-    assert_eq!(
-        refused::<LangTagBuf>("1"),
-        "invalid type: integer `1`, expected a language tag"
-    );
-    assert_eq!(
-        refused::<LangTag>(r#""en_US""#),
-        "invalid language tag `en_US`: invalid character `_`: expected a letter, a digit or a hyphen"
-    );
+    let invalid = "invalid language range `de_`";
+    assert_eq!(refused::<LanguageRangeBuf>(r#""de_""#), invalid);
+    let invalid = "invalid type: integer `1`, expected a language tag";
+    assert_eq!(refused::<LangTagBuf>("1"), invalid);
     // A text with an escape can't be borrowed.
-    assert_eq!(
-        refused::<LangTag>(r#""e\u006e""#),
-        r#"invalid type: string "en", expected a language tag, borrowed from the input"#
-    );
-    assert_eq!(
-        serde_json::from_str::<LangTagBuf>(r#""e\u006e""#).unwrap(),
-        "en"
-    );
+    let escaped = r#""e\u006e""#;
+    let invalid = r#"invalid type: string "en", expected a language tag, borrowed from the input"#;
+    assert_eq!(refused::<LangTag>(escaped), invalid);
+    assert_eq!(serde_json::from_str::<LangTagBuf>(escaped).unwrap(), "en");
 }
 
 #[test]

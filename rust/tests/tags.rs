@@ -30,40 +30,24 @@ fn typed_tags_are_shown() {
 
 #[test]
 fn refused_edits_are_shown_and_compared() {
-    let errors = [
-        (
-            EditError::NotNormal,
-            "not a normal language tag",
-            "NotNormal",
-        ),
-        (
-            EditError::Memory(AllocError),
-            "out of memory",
-            "Memory(AllocError)",
-        ),
-    ];
-    for (at, (error, words, debug)) in errors.iter().enumerate() {
-        assert_eq!(error.to_string(), *words);
-        assert_eq!(format!("{error:?}"), *debug);
-        for (other_at, (other, ..)) in errors.iter().enumerate() {
-            assert_eq!(error == other, at == other_at);
-            let copy = *error;
-            assert_eq!(copy == *other, at == other_at);
-        }
-    }
+    let (normal, memory) = (EditError::NotNormal, EditError::Memory(AllocError));
+    assert_eq!(normal.to_string(), "not a normal language tag");
+    assert_eq!(memory.to_string(), "out of memory");
+    assert_eq!(
+        format!("{normal:?} {memory:?}"),
+        "NotNormal Memory(AllocError)"
+    );
+    assert_eq!([normal, memory], [normal, memory]);
+    assert_ne!(normal, memory);
+    assert_ne!(memory, normal);
 }
 
 /// Normal tags of each shape, with and without optional parts.
-const NORMAL: [&str; 4] = [
-    "fr",
-    "zh-hakka",
-    "art-LOJBAN",
-    "en-Latn-GB-boont-r-extended-sequence-x-private",
-];
+const NORMAL: &str = "fr zh-hakka art-LOJBAN en-Latn-GB-boont-r-extended-sequence-x-private";
 
 #[test]
 fn normal_tags_are_tags() {
-    for text in NORMAL {
+    for text in NORMAL.split(' ') {
         let tag = normal(text);
         for other in [tag.as_lang_tag(), LangTag::from(tag)] {
             assert_eq!((other.as_str(), other.kind()), (text, Kind::Normal));
@@ -95,19 +79,8 @@ fn tags_of_other_kinds_are_tags() {
 }
 
 /// Languages of each length.
-const LANGUAGES: [&str; 11] = [
-    "zh",
-    "SRP",
-    "abcd",
-    "abcde",
-    "zh-yue",
-    "zho-YUE",
-    "abcdefgh",
-    "zh-min-nan",
-    "zho-min-nan",
-    "zh-abc-def-ghi",
-    "zho-abc-def-ghi",
-];
+const LANGUAGES: &str = "\
+    zh SRP abcd abcde abcdefgh zh-yue zho-YUE zh-min-nan zho-min-nan zh-abc-def-ghi zho-abc-def-ghi";
 
 /// Scripts and regions, each empty if it is absent, and their text after a language.
 const PLACES: [(&str, &str, &str); 6] = [
@@ -121,7 +94,7 @@ const PLACES: [(&str, &str, &str); 6] = [
 
 #[test]
 fn a_tag_is_made_of_its_parts() {
-    for language in LANGUAGES {
+    for language in LANGUAGES.split(' ') {
         for (script, region, end) in PLACES {
             let made = NormalLangTagBuf::from_parts(
                 Language::new(language).unwrap(),
@@ -148,16 +121,12 @@ fn tags_are_chosen_by_a_closure() {
         Some(first.as_str())
     }
     let tags = ["zh-min", "x-a-b", "i-klingon"].map(tag);
-    assert_eq!(tags.iter().filter(|tag| tag.is_grandfathered()).count(), 2);
-    assert_eq!(
-        tags.iter().position(|tag| tag.kind().is_private_use()),
-        Some(1)
-    );
-    let owned = [tags[0].to_owned(), tags[2].to_owned()];
-    assert_eq!(
-        owned.iter().position(|tag| tag.as_lang_tag() == tags[2]),
-        Some(1)
-    );
+    let grandfathered = tags.map(|tag| tag.is_grandfathered());
+    assert_eq!(grandfathered, [true, false, true]);
+    let private = tags.map(|tag| tag.kind().is_private_use());
+    assert_eq!(private, [false, true, false]);
+    let owned = tags.map(|tag| tag.to_owned().as_lang_tag() == tags[2]);
+    assert_eq!(owned, [false, false, true]);
     let first = tags.map(|tag| first_private(&tag.as_typed()));
     assert_eq!(first, [None, Some("a"), None]);
 }

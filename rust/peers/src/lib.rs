@@ -1,8 +1,6 @@
 //! What the tests of oxilangtag and language-tags call, implemented with `langtag`. For oxilangtag, it is the module
 //! `langtag::oxilangtag`. For language-tags, it is a type with the same name and methods, and two features select the
 //! behaviour of language-tags where it differs.
-mod parts;
-
 pub mod language_tags;
 
 pub use langtag::oxilangtag;

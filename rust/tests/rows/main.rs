@@ -3,8 +3,6 @@
 mod edits;
 mod likely;
 mod matching;
-#[cfg(feature = "names")]
-mod names;
 mod reader;
 mod registry;
 mod tags;
@@ -12,18 +10,17 @@ mod types;
 mod unicode;
 mod walks;
 
-use reader::{ask, Row};
+use langtag::likely::{unknown_modifier, CLDR_VERSION};
+#[cfg(feature = "names")]
+use langtag::names::{autonym, describe};
+use langtag::registry::{extlang_form, misplaced_extlang};
+use langtag::unicode::is_locale;
+#[cfg(feature = "names")]
+use reader::escaped_text;
+use reader::{ask, escaped, list, word, yes, Row};
 
 fn answer(row: &Row) -> String {
-    let is_tag = || langtag::LangTag::from_bytes(&row.arguments[0]).is_ok();
     match row.call.as_str() {
-        // C answers these for texts that are no tags, too.
-        "is-locale" if !is_tag() => "no".into(),
-        "keywords" | "attributes" | "transform" | "extensions-form" | "locale-form"
-            if !is_tag() =>
-        {
-            "-".into()
-        }
         "tag" => tags::tag(&row.arguments[0]),
         "grandfathered" => tags::grandfathered(&row.arguments[0]),
         "viable" => tags::viable(&row.arguments[0]),
@@ -41,35 +38,35 @@ fn answer(row: &Row) -> String {
         "extension" => types::extension(row.str(0), row.str(1)),
         "walk" => walks::walk(row.str(0), row.str(1), row.str(2)),
         "edit" => edits::edit(row.str(0), row.str(1), row.str(2)),
-        "validity" => row.text(0).map_or("none".into(), registry::validity),
-        "suggestion" => row.text(0).map_or("-".into(), registry::suggestion),
-        "canonical" => row.text(0).map_or("-".into(), registry::canonical_form),
-        "extlang-form" => registry::extlang(row.str(0)),
-        "fault" => registry::fault(row.str(0)),
+        "validity" => row.tag(0).map_or("none".into(), registry::validity),
+        "suggestion" => row.of_tag(registry::suggestion),
+        "canonical" => row.of_tag(registry::canonical_form),
+        "extlang-form" => row.of_tag(|tag| extlang_form(tag).into_string()),
+        "fault" => row.of_tag(registry::fault),
         "misplaced" => registry::misplaced(row.str(0)),
-        "misplaced-extlang" => registry::extlang_at_fault(row.str(0)),
+        "misplaced-extlang" => row.of_tag(|tag| word(tag.as_normal().and_then(misplaced_extlang))),
         "subtag" => registry::subtag(row.str(0)),
-        "registered" => registry::registered(row.str(0)),
+        "registered" => row.of_tag(registry::registered),
         "range" => matching::range(row.text(0)),
-        "match" => matching::matches(row.text(0), row.text(1)),
+        "match" => matching::matches(row.text(0), row.tag(1)),
         "header" => matching::header(row.str(0), row.str(1)),
         "ranges" => matching::ranges(row.str(0), row.str(1)),
         "elements" => matching::elements(row.str(0)),
         "fallbacks" => matching::fallbacks(row.str(0)),
         "filter" => matching::filter(row.str(0), row.str(1), row.str(2)),
-        "maximized" => likely::maximal(row.text(0)),
-        "minimized" => likely::minimal(row.text(0)),
-        "distance" => likely::far(row.text(0), row.text(1)),
-        "right-to-left" => likely::direction(row.text(0)),
+        "maximized" => row.of_tag(likely::maximal),
+        "minimized" => row.of_tag(likely::minimal),
+        "distance" => row.of_tag(|it| word(row.tag(1).map(|other| it.distance(other).to_string()))),
+        "right-to-left" => row.of_tag(|tag| yes(tag.is_right_to_left())),
         // A name is a string in Rust, so other bytes cannot be asked.
         "posix" => row.text(0).map_or(row.wanted.clone(), likely::posix),
-        "posix-name" => likely::posix_name(row.text(0)),
-        "unknown-modifier" => likely::unknown(&row.arguments[0]),
-        "parents" => likely::chain(row.text(0)),
+        "posix-name" => row.of_tag(likely::posix_name),
+        "unknown-modifier" => word(unknown_modifier(&row.arguments[0]).map(escaped)),
+        "parents" => row.of_tag(likely::chain),
         #[cfg(feature = "names")]
-        "describe" => names::in_english(row.text(0)),
+        "describe" => row.of_tag(|tag| escaped_text(&describe(tag))),
         #[cfg(feature = "names")]
-        "autonym" => names::own(row.text(0)),
+        "autonym" => row.of_tag(|tag| word(autonym(tag).map(escaped_text))),
         // Names need the feature.
         #[cfg(not(feature = "names"))]
         "describe" | "autonym" => row.wanted.clone(),
@@ -79,16 +76,16 @@ fn answer(row: &Row) -> String {
         "best-ranges" => likely::best_ranges(row.str(0), row.str(1)),
         "suitable" => likely::suitable(&row.arguments[0], row.str(1)),
         "suitable-ranges" => likely::suitable_ranges(row.str(0), row.str(1)),
-        "keyword" => unicode::value(row.str(0), row.str(1)),
-        "keywords" => unicode::pairs(row.str(0)),
-        "attributes" => unicode::distinct(row.str(0)),
-        "transform" => unicode::transformed(row.str(0)),
-        "extensions-form" => unicode::form(row.str(0)),
-        "with-keyword" => unicode::edited(row.str(0), row.str(1), row.str(2)),
-        "base" => tags::base(row.str(0)),
-        "is-locale" => unicode::is_identifier(row.str(0)),
-        "locale-form" => unicode::whole_form(row.str(0)),
-        "cldr-version" => langtag::likely::CLDR_VERSION.into(),
+        "keyword" => row.of_tag(|tag| word(tag.keyword(row.str(1)))),
+        "keywords" => row.of_tag(unicode::pairs),
+        "attributes" => row.of_tag(|tag| list(tag.attributes())),
+        "transform" => row.of_tag(unicode::transformed),
+        "extensions-form" => row.of_tag(unicode::form),
+        "with-keyword" => row.of_tag(|tag| unicode::edited(tag, row.str(1), row.str(2))),
+        "base" => row.of_tag(tags::base),
+        "is-locale" => row.tag(0).map_or("no".into(), |tag| yes(is_locale(tag))),
+        "locale-form" => row.of_tag(unicode::whole_form),
+        "cldr-version" => CLDR_VERSION.into(),
         call => panic!("no call: {call}"),
     }
 }

@@ -2,7 +2,7 @@
 use langtag::matching::*;
 use langtag::*;
 
-use crate::reader::list;
+use crate::reader::{list, word};
 
 pub fn tags_of(text: &str) -> Vec<LangTag<'_>> {
     text.split_whitespace()
@@ -22,11 +22,7 @@ fn default() -> LangTag<'static> {
 }
 
 fn shown(tag: LangTag<'_>) -> String {
-    if tag == default() {
-        "-".into()
-    } else {
-        tag.to_string()
-    }
+    word(Some(tag).filter(|tag| *tag != default()))
 }
 
 pub fn range(text: Option<&str>) -> String {
@@ -38,20 +34,15 @@ pub fn range(text: Option<&str>) -> String {
     kind.into()
 }
 
-pub fn matches(range: Option<&str>, tag: Option<&str>) -> String {
-    let (Some(Ok(range)), Some(Ok(tag))) = (range.map(LanguageRange::new), tag.map(LangTag::new))
-    else {
+pub fn matches(range: Option<&str>, tag: Option<LangTag<'_>>) -> String {
+    let (Some(Ok(range)), Some(tag)) = (range.map(LanguageRange::new), tag) else {
         return "neither".into();
     };
-    let (matches, owned) = (
-        (range.matches_basic(tag), range.matches_extended(tag)),
-        range.to_owned(),
-    );
-    assert_eq!(
-        (owned.matches_basic(tag), owned.matches_extended(tag)),
-        matches
-    );
-    let matches = match matches {
+    let (basic, extended) = (range.matches_basic(tag), range.matches_extended(tag));
+    let owned = range.to_owned();
+    assert_eq!(owned.matches_basic(tag), basic);
+    assert_eq!(owned.matches_extended(tag), extended);
+    let matches = match (basic, extended) {
         (true, true) => "both",
         (true, false) => "basic",
         (false, true) => "extended",
@@ -77,10 +68,7 @@ pub fn header(header: &str, tags: &str) -> String {
             part,
         }) => {
             assert_eq!(kept, header);
-            let part = match part {
-                ElementPart::Range => "range",
-                _ => "weight",
-            };
+            let part = part.to_string().replace("language ", "");
             format!("bad {index} {offset} {part} | {lenient}")
         }
         Err(error) => panic!("{error}"),
@@ -89,59 +77,47 @@ pub fn header(header: &str, tags: &str) -> String {
 
 /// Returns the ranges of a header with their weights, or the error message before the ranges of the lenient reading.
 pub fn elements(header: &str) -> String {
-    match AcceptLanguage::new(header) {
-        Ok(accepted) => weighted(accepted.ranges()),
-        Err(error) => {
-            let words = error.to_string();
-            let AcceptLanguageError::BadElement {
-                index,
-                offset,
-                part,
-                ..
-            } = error
-            else {
-                panic!("{error}");
-            };
-            let element = header[offset..].split(',').next().unwrap().trim();
-            let place = format!(
-                "element {} at offset {offset} has a bad {part}: `",
-                index + 1
-            );
-            assert!(words.starts_with(&place), "{words}");
-            let shown = element.escape_debug().to_string();
-            assert!(
-                words.contains(&shown) || element.len() > 80 || !element.is_ascii(),
-                "{words}"
-            );
-            let ranges = weighted(AcceptLanguage::lenient(header).ranges());
-            format!("element {index} has a bad {part} | {ranges}")
-        }
-    }
+    let error = match AcceptLanguage::new(header) {
+        Ok(accepted) => return weighted(accepted.ranges()),
+        Err(error) => error,
+    };
+    let words = error.to_string();
+    let AcceptLanguageError::BadElement {
+        index,
+        offset,
+        part,
+        ..
+    } = error
+    else {
+        panic!("{error}");
+    };
+    let element = header[offset..].split(',').next().unwrap().trim();
+    let number = index + 1;
+    let place = format!("element {number} at offset {offset} has a bad {part}: `");
+    assert!(words.starts_with(&place), "{words}");
+    let shown = element.escape_debug().to_string();
+    let is_cut = element.len() > 80 || !element.is_ascii();
+    assert!(is_cut || words.contains(&shown), "{words}");
+    let ranges = weighted(AcceptLanguage::lenient(header).ranges());
+    format!("element {index} has a bad {part} | {ranges}")
 }
 
 fn weighted(ranges: &[WeightedRange<'_>]) -> String {
-    let ranges: Vec<String> = ranges
-        .iter()
-        .map(|it| format!("{} {}", it.range, it.weight))
-        .collect();
-    list(ranges.iter().map(String::as_str))
+    let told = |it: &WeightedRange<'_>| format!("{} {}", it.range, it.weight);
+    list(ranges.iter().map(told))
 }
 
 /// Returns the tag that lookup finds. It must be the one that the proved function finds, in each kind of list.
 fn looked_up<'a>(ranges: &[LanguageRange<'_>], tags: &[LangTag<'a>]) -> LangTag<'a> {
     let found = *look_up(ranges, tags, &default());
-    assert_eq!(
-        found.as_str(),
-        langtag::erased::matching::look_up(ranges, tags, default()).as_str()
-    );
+    let proved = langtag::erased::matching::look_up(ranges, tags, default());
+    assert_eq!(found.as_str(), proved.as_str());
     let owned: Vec<LangTagBuf> = tags.iter().map(|tag| tag.to_owned()).collect();
     assert_eq!(*look_up(ranges, &owned, &default().to_owned()), found);
     let texts: Vec<&str> = tags.iter().map(|tag| tag.as_str()).collect();
     let words: Vec<&str> = ranges.iter().map(|range| range.as_str()).collect();
-    assert_eq!(
-        *look_up(&words, &texts, &default().as_str()),
-        found.as_str()
-    );
+    let text = *look_up(&words, &texts, &default().as_str());
+    assert_eq!(text, found.as_str());
     found
 }
 
@@ -157,15 +133,13 @@ pub fn fallbacks(range: &str) -> String {
         let read = LanguageRange::new(fallback.as_str()).expect("a fallback is a range");
         assert_eq!(read.is_basic(), fallback.is_basic(), "{fallback}");
     }
-    list(range.fallbacks().map(Into::into))
+    list(range.fallbacks())
 }
 
 pub fn filter(rule: &str, ranges: &str, tags: &str) -> String {
     let (ranges, tags) = (ranges_of(ranges), tags_of(tags));
-    let found = if rule == "basic" {
-        filter_basic(&ranges, &tags)
-    } else {
-        filter_extended(&ranges, &tags)
-    };
-    list(found.map(Into::into))
+    match rule {
+        "basic" => list(filter_basic(&ranges, &tags)),
+        _ => list(filter_extended(&ranges, &tags)),
+    }
 }

@@ -4,6 +4,8 @@ use std::collections::HashMap;
 use std::panic::{catch_unwind, AssertUnwindSafe};
 use std::path::PathBuf;
 
+use langtag::LangTag;
+
 /// A row. A row without an answer is a question, whose answer is printed.
 pub struct Row {
     /// The file and the line.
@@ -25,6 +27,16 @@ impl Row {
     /// Returns an argument that is UTF-8 in each row of its call.
     pub fn str(&self, index: usize) -> &str {
         self.text(index).expect("the argument is UTF-8")
+    }
+
+    /// Returns an argument, or `None` if it is not a tag.
+    pub fn tag(&self, index: usize) -> Option<LangTag<'_>> {
+        LangTag::from_bytes(&self.arguments[index]).ok()
+    }
+
+    /// Returns the answer to a call about a tag, which is `-` for other texts.
+    pub fn of_tag(&self, ask: impl FnOnce(LangTag<'_>) -> String) -> String {
+        self.tag(0).map_or("-".into(), ask)
     }
 }
 
@@ -157,24 +169,28 @@ fn unescape(word: &str) -> Vec<u8> {
     out
 }
 
-/// Returns words as rows write them: `''` for an empty word, and `-` for `None`.
-pub fn words<'a>(words: impl IntoIterator<Item = Option<&'a str>>) -> String {
-    let words = words.into_iter().map(|word| match word {
-        Some("") => "''",
-        Some(word) => word,
-        None => "-",
-    });
-    words.collect::<Vec<_>>().join(" ")
+/// Returns a word as rows write it: `''` for an empty word, and `-` for `None`.
+pub fn word(word: Option<impl AsRef<str>>) -> String {
+    match word.as_ref().map(AsRef::as_ref) {
+        Some("") => "''".into(),
+        Some(word) => word.into(),
+        None => "-".into(),
+    }
 }
 
 /// Returns the texts of a list, or `-` for an empty list.
-pub fn list<'a>(texts: impl Iterator<Item = &'a str>) -> String {
-    let list = words(texts.map(Some));
-    if list.is_empty() {
-        "-".into()
-    } else {
-        list
+pub fn list(texts: impl IntoIterator<Item = impl AsRef<str>>) -> String {
+    let words: Vec<String> = texts.into_iter().map(|text| word(Some(text))).collect();
+    if words.is_empty() {
+        return "-".into();
     }
+    words.join(" ")
+}
+
+/// Returns an answer that is yes or no.
+pub fn yes(is: bool) -> String {
+    let answer = if is { "yes" } else { "no" };
+    answer.into()
 }
 
 /// Returns the length of what was written to a buffer, or the length that the buffer would have to have.
@@ -194,12 +210,19 @@ pub fn check_written(form: &str, write: impl Fn(&mut [u8]) -> usize) {
     }
 }
 
-/// Checks the same, and that nothing is written to a shorter buffer.
-pub fn check_buffer(form: &str, write: impl Fn(&mut [u8]) -> usize) {
+/// Checks the same, and that nothing is written to a shorter buffer. Returns the form.
+pub fn check_buffer(form: impl AsRef<str>, write: impl Fn(&mut [u8]) -> usize) -> String {
+    let form = form.as_ref();
     check_written(form, &write);
     let mut buffer = vec![b'~'; form.len() - 1];
     write(&mut buffer);
     assert!(buffer.iter().all(|byte| *byte == b'~'), "{form}");
+    form.into()
+}
+
+/// Returns a text as rows write it, with its spaces.
+pub fn escaped_text(text: &str) -> String {
+    escaped(text.as_bytes()).replace("\\x20", " ")
 }
 
 /// Returns bytes as rows write them.

@@ -3,13 +3,10 @@ use langtag::erased::registry::fault_at;
 use langtag::registry::*;
 use langtag::*;
 
-use crate::reader::{check_buffer, length, words};
+use crate::reader::{check_buffer, length, word};
 
 /// Returns the first fault of a tag, and the offset of its subtag.
-pub fn validity(text: &str) -> String {
-    let Ok(tag) = LangTag::new(text) else {
-        return "none".into();
-    };
+pub fn validity(tag: LangTag<'_>) -> String {
     let Some((invalid, index)) = fault_at(tag) else {
         assert_eq!(validate(tag), Ok(()));
         return "valid".into();
@@ -29,86 +26,57 @@ pub fn validity(text: &str) -> String {
         ),
         _ => panic!("{invalid}"),
     };
-    format!(
-        "{fault} {} {subtag}",
-        subtag.as_ptr() as usize - text.as_ptr() as usize
-    )
+    let offset = subtag.as_ptr() as usize - tag.as_ptr() as usize;
+    format!("{fault} {offset} {subtag}")
 }
 
 /// Returns the code that was probably meant by the first invalid subtag. The error message must end with it.
-pub fn suggestion(text: &str) -> String {
-    let Some(Err(invalid)) = LangTag::new(text).ok().map(validate) else {
+pub fn suggestion(tag: LangTag<'_>) -> String {
+    let Err(invalid) = validate(tag) else {
         return "-".into();
     };
-    let message = invalid.to_string();
-    match invalid.suggestion() {
+    let (message, code) = (invalid.to_string(), invalid.suggestion());
+    match code {
         Some(code) => {
-            assert!(message.ends_with(&format!(" is not registered: did you mean {code}?")));
-            code.into()
+            assert!(message.ends_with(&format!(" is not registered: did you mean {code}?")))
         }
-        None => {
-            assert!(!message.contains(':'));
-            "-".into()
-        }
+        None => assert!(!message.contains(':')),
     }
+    word(code)
 }
 
 /// Returns the canonical form. It must be its own canonical form, and must also be written to a buffer.
-pub fn canonical_form(text: &str) -> String {
-    let Ok(tag) = LangTag::new(text) else {
-        return "-".into();
-    };
+pub fn canonical_form(tag: LangTag<'_>) -> String {
     let form = canonical(tag);
-    assert_eq!(
-        (is_canonical(tag), is_canonical(form.as_lang_tag())),
-        (tag == form, true)
-    );
-    check_buffer(&form, |buffer| length(write_canonical(tag, buffer)));
-    form.into_string()
+    assert_eq!(is_canonical(tag), tag == form);
+    assert!(is_canonical(&form));
+    check_buffer(form, |buffer| length(write_canonical(tag, buffer)))
 }
 
-pub fn extlang(text: &str) -> String {
-    LangTag::new(text).map_or("-".into(), |tag| extlang_form(tag).into_string())
-}
-
-pub fn fault(text: &str) -> String {
-    match LangTag::new(text).map(validate) {
-        Ok(Ok(())) => "valid".into(),
-        Ok(Err(fault)) => fault.to_string(),
-        Err(_) => "-".into(),
-    }
+pub fn fault(tag: LangTag<'_>) -> String {
+    let fault = validate(tag).err();
+    fault.map_or("valid".into(), |fault| fault.to_string())
 }
 
 pub fn misplaced(text: &str) -> String {
-    NormalLangTag::new(text).map_or(String::new(), |tag| {
-        words([misplaced_variant(tag).map(Into::into)])
-    })
-}
-
-pub fn extlang_at_fault(text: &str) -> String {
-    words([NormalLangTag::new(text)
-        .ok()
-        .and_then(misplaced_extlang)
-        .map(Into::into)])
+    let tag = NormalLangTag::new(text);
+    tag.map_or(String::new(), |tag| word(misplaced_variant(tag)))
 }
 
 pub fn subtag(text: &str) -> String {
-    let mut found: Vec<Option<&str>> = Vec::new();
+    let mut found = Vec::new();
     if let Ok(language) = PrimaryLanguage::new(text) {
-        found.push(preferred_language(language).map(Into::into));
-        found.push(macrolanguage(language).map(Into::into));
-        found.push(suppress_script(language).map(Into::into));
+        found.push(word(preferred_language(language)));
+        found.push(word(macrolanguage(language)));
+        found.push(word(suppress_script(language)));
     }
     if let Ok(extlang) = ExtendedLangTag::new(text) {
-        found.push(extlang_prefix(extlang).map(Into::into));
+        found.push(word(extlang_prefix(extlang)));
     }
-    words(found)
+    found.join(" ")
 }
 
-pub fn registered(text: &str) -> String {
-    let Ok(tag) = LangTag::new(text) else {
-        return "-".into();
-    };
-    canonical_form(text);
-    words([preferred_tag(tag).map(Into::into)])
+pub fn registered(tag: LangTag<'_>) -> String {
+    canonical_form(tag);
+    word(preferred_tag(tag))
 }

@@ -5,7 +5,7 @@ use std::hash::{Hash, Hasher};
 use langtag::scan::*;
 use langtag::*;
 
-use crate::reader::{escaped, list};
+use crate::reader::{escaped, escaped_text, list};
 
 /// The 64-bit FNV-1a hash of all bytes that are written.
 struct Fnv(u64);
@@ -50,9 +50,9 @@ pub fn tag(bytes: &[u8]) -> String {
         let (first, rest) = language.split_once('-').unwrap_or((&language, ""));
         assert_eq!(primary.as_str(), first);
         assert_eq!(language.extension().map_or("", |it| it.as_str()), rest);
-        let subtags =
-            std::iter::once(primary.as_str()).chain(language.extension_subtags().map(Into::into));
-        line("language", &list(subtags));
+        let subtags = language.extension_subtags();
+        assert!(subtags.eq(rest.split_terminator('-')));
+        line("language", &language.replace('-', " "));
     }
     if let Some(script) = tag.script() {
         line("script", &script);
@@ -61,18 +61,15 @@ pub fn tag(bytes: &[u8]) -> String {
         line("region", &region);
     }
     if !tag.variants().is_empty() {
-        line("variants", &list(tag.variants().iter().map(Into::into)));
+        line("variants", &list(tag.variants()));
     }
     if !tag.extensions().is_empty() {
-        line("extensions", &list(tag.extensions().iter().map(Into::into)));
+        line("extensions", &list(tag.extensions()));
     }
     // The C library also lists the `x` and the subtags of a private-use tag.
     if let Some(part) = tag.private_use().or(tag.as_private_use()) {
-        let mark = std::iter::once(&part.as_str()[..1]);
-        line(
-            "private_use",
-            &list(mark.chain(part.iter().map(Into::into))),
-        );
+        assert!(part.iter().eq(part[2..].split('-')));
+        line("private_use", &part.replace('-', " "));
     }
     if let Some(normal) = tag.as_normal() {
         repeats(&normal, &mut line);
@@ -102,20 +99,28 @@ fn repeats(tag: &NormalLangTag<'_>, line: &mut impl FnMut(&str, &str)) {
     }
 }
 
+/// Checks that calls return the same for two values.
+macro_rules! same {
+    ($one:ident $other:ident: $($call:ident)+) => {$(
+        assert_eq!($one.$call(), $other.$call(), "{}", stringify!($call));
+    )+};
+}
+
 /// Checks that an owned tag has the parts of another tag.
 pub fn check_parts(owned: &LangTagBuf, tag: LangTag<'_>) {
-    assert_eq!(
-        (owned.kind(), owned.language(), owned.script()),
-        (tag.kind(), tag.language(), tag.script())
-    );
-    assert_eq!(
-        (owned.region(), owned.variants()),
-        (tag.region(), tag.variants())
-    );
-    assert_eq!(
-        (owned.extensions(), owned.private_use()),
-        (tag.extensions(), tag.private_use())
-    );
+    same! {
+        owned tag: kind is_normal is_private_use is_grandfathered as_grandfathered as_typed as_bytes
+        language script region variants extensions private_use
+    }
+    assert!(owned.subtags().eq(tag.subtags()));
+    assert!(owned.private_use_subtags().eq(tag.private_use_subtags()));
+    if let Some(normal) = tag.as_normal() {
+        let owned = owned.clone().into_normal().unwrap();
+        same! {
+            owned normal: ends as_lang_tag language script region variants extensions private_use
+            repeated_variant repeated_singleton
+        }
+    }
 }
 
 /// Checks that different calls return the same values for a tag.
@@ -125,14 +130,9 @@ fn check_twice(tag: LangTag<'_>) {
     assert!(tag.subtags().eq(subtags.iter().copied()));
     assert!(owned.subtags().rev().eq(subtags.iter().rev().copied()));
     check_parts(&owned, tag);
-    assert_eq!(
-        (tag.is_normal(), tag.as_normal().is_some()),
-        (tag.kind().is_normal(), tag.is_normal())
-    );
-    assert_eq!(
-        tag.as_normal().map(|tag| tag.as_lang_tag()),
-        tag.is_normal().then_some(tag)
-    );
+    assert_eq!(tag.is_normal(), tag.kind().is_normal());
+    let normal = tag.as_normal().map(|tag| tag.as_lang_tag());
+    assert_eq!(normal, tag.is_normal().then_some(tag));
     assert_eq!(hash(&tag), hash(&owned));
     assert_eq!(hash(&tag), hash(text.caseless()));
     assert!(Refusal::of(text.as_bytes()).is_none());
@@ -181,29 +181,17 @@ pub fn scan(bytes: &[u8]) -> String {
         sweep(bytes, found.irregular().is_some());
     }
     let normal = recognise_normal(&mut Metered::of_bytes(bytes));
-    assert_eq!(
-        normal.and_then(|found| found.ends()),
-        found.and_then(|found| found.ends())
-    );
-    match found {
-        Some(found) if found.irregular().is_some() => {
-            format!("{head} {}", found.irregular().unwrap())
-        }
-        Some(found) => match found.ends() {
-            Some(Ends {
-                language,
-                script,
-                region,
-                variants,
-                extensions,
-                whole,
-            }) => {
-                format!("{head} {language} {script} {region} {variants} {extensions} {whole}")
-            }
-            None => head,
-        },
-        None => head,
+    let ends = found.and_then(|found| found.ends());
+    assert_eq!(normal.and_then(|found| found.ends()), ends);
+    if let Some(number) = found.and_then(|found| found.irregular()) {
+        return format!("{head} {number}");
     }
+    let Some(ends) = ends else {
+        return head;
+    };
+    let mut answer = format!("{head} {} {} {}", ends.language, ends.script, ends.region);
+    answer += &format!(" {} {} {}", ends.variants, ends.extensions, ends.whole);
+    answer
 }
 
 /// Returns bytes in their recommended case. If the bytes are a tag, all calls must return the same form.
@@ -234,12 +222,10 @@ pub fn refused(bytes: &[u8]) -> String {
         RefusalKind::Byte => "byte",
         _ => "end",
     };
-    format!(
-        "{kind} {} {} {}",
-        refusal.start,
-        refusal.end - refusal.start,
-        refusal.offset
-    )
+    let Refusal {
+        start, end, offset, ..
+    } = refusal;
+    format!("{kind} {start} {} {offset}", end - start)
 }
 
 /// Returns the message for bytes that are not a tag. The message for the same string is the same.
@@ -250,22 +236,12 @@ pub fn message(bytes: &[u8]) -> String {
         assert_eq!(error, other.to_string());
         assert!(error.ends_with(&format!("`: {}", other.reason())));
     }
-    as_in_row(&error)
+    escaped_text(&error)
 }
 
 pub fn range_message(text: &str) -> String {
     let error = langtag::matching::LanguageRange::new(text).unwrap_err();
-    as_in_row(&error.to_string())
-}
-
-/// Returns a message as rows write it.
-fn as_in_row(message: &str) -> String {
-    let escaped = |byte: u8| match byte {
-        b'\\' | b'{' | b'}' => format!("\\x{byte:02x}"),
-        b' '..=b'~' => char::from(byte).to_string(),
-        _ => format!("\\x{byte:02x}"),
-    };
-    message.bytes().map(escaped).collect()
+    escaped_text(&error.to_string())
 }
 
 pub fn order(a: &[u8], b: &[u8]) -> String {
@@ -277,9 +253,10 @@ pub fn order(a: &[u8], b: &[u8]) -> String {
     }
     if let (Ok(tag), Ok(other)) = (LangTag::from_bytes(a), LangTag::from_bytes(b)) {
         assert_eq!(
-            (tag.cmp(&other), tag == other, tag == other.as_str()),
-            (order, order.is_eq(), order.is_eq())
+            (tag == other, tag == other.as_str()),
+            (order.is_eq(), order.is_eq())
         );
+        assert_eq!(tag.cmp(&other), order);
         assert_eq!(tag.to_owned().cmp(&other.to_owned()), order);
         assert_eq!(tag.to_owned().partial_cmp(&other), Some(order));
     }
@@ -292,17 +269,16 @@ pub fn order(a: &[u8], b: &[u8]) -> String {
 }
 
 /// Returns the base of a tag, which must be the base of its owned forms, of its normal form, and its own base.
-pub fn base(text: &str) -> String {
-    let tag = LangTag::new(text).expect("the row has a tag");
+pub fn base(tag: LangTag<'_>) -> String {
     let base = tag.base();
-    assert_eq!(base.base().as_str(), base.as_str(), "{text}");
-    assert_eq!(base.kind(), tag.kind(), "{text}");
-    assert_eq!(tag.to_owned().base().as_str(), base.as_str(), "{text}");
+    assert_eq!(base.base().as_str(), base.as_str(), "{tag}");
+    assert_eq!(base.kind(), tag.kind(), "{tag}");
+    assert_eq!(tag.to_owned().base().as_str(), base.as_str(), "{tag}");
     if let Some(normal) = tag.as_normal() {
-        assert_eq!(normal.base().as_str(), base.as_str(), "{text}");
-        assert_eq!(normal.to_owned().base().as_str(), base.as_str(), "{text}");
-        assert_eq!(normal.base().private_use(), None, "{text}");
-        assert_eq!(normal.base().variants(), normal.variants(), "{text}");
+        assert_eq!(normal.base().as_str(), base.as_str(), "{tag}");
+        assert_eq!(normal.to_owned().base().as_str(), base.as_str(), "{tag}");
+        assert_eq!(normal.base().private_use(), None, "{tag}");
+        assert_eq!(normal.base().variants(), normal.variants(), "{tag}");
     }
     base.to_string()
 }

@@ -5,7 +5,7 @@ use langtag::matching::{LanguageRange, LanguageRangeBuf};
 use langtag::scan::*;
 use langtag::*;
 
-use crate::reader::{list, words};
+use crate::reader::{list, word};
 
 /// Counts the pieces that are written to it.
 struct Pieces(usize);
@@ -50,46 +50,27 @@ macro_rules! seen {
             (Ok(lent), Ok(owned)) => {
                 assert_eq!((lent.as_str(), owned.as_str()), (text, text));
                 assert_eq!((pieces_of(&lent), pieces_of(&owned)), (1, 1));
-                assert_eq!(
-                    (lent.to_string(), owned.to_string()),
-                    (text.into(), text.into())
-                );
+                assert_eq!(format!("{lent}{owned}"), format!("{text}{text}"));
                 assert_eq!(format!("{lent:?}{owned:?}"), format!("{text:?}{text:?}"));
-                for other in [
-                    lent.to_owned(),
-                    lent.try_to_owned().unwrap(),
-                    owned.clone(),
-                    lent.into(),
-                ] {
+                let copy = lent.try_to_owned().unwrap();
+                for other in [lent.to_owned(), copy, owned.clone(), lent.into()] {
                     assert_eq!((&other, other.$lend()), (&owned, lent));
                     assert_eq!(other.into_string().capacity(), text.len());
                 }
                 let upper = text.to_ascii_uppercase();
-                assert!(
-                    lent == upper.as_str()
-                        && upper == owned
-                        && owned == upper
-                        && owned == lent
-                        && lent == $name::from(&owned)
-                );
-                assert!(lent.eq_str(&upper) && lent == *upper && *upper == owned);
-                assert_eq!(
-                    (&*lent, AsRef::<[u8]>::as_ref(&owned)),
-                    (text, text.as_bytes())
-                );
+                assert!(lent == upper.as_str() && lent == *upper && lent.eq_str(&upper));
+                assert!(upper == owned && *upper == owned && owned == upper);
+                assert!(owned == lent && lent == $name::from(&owned));
+                assert_eq!((&*lent, owned.as_ref()), (text, text.as_bytes()));
                 assert_eq!(owned.into_bytes(), text.as_bytes());
                 "accepted".to_owned()
             }
             (Err(lent), Err(owned)) => {
-                assert_eq!(
-                    (lent.0, &*owned.0, lent.into_owned()),
-                    (text, text, owned.clone())
-                );
+                assert_eq!((lent.0, &*owned.0), (text, text));
                 assert_eq!(lent.to_string(), owned.to_string());
-                assert_eq!(
-                    format!("{lent:?}"),
-                    format!("Invalid{}({text:?})", stringify!($name))
-                );
+                assert_eq!(lent.into_owned(), owned);
+                let shown = format!("Invalid{}({text:?})", stringify!($name));
+                assert_eq!(format!("{lent:?}"), shown);
                 before_text(&lent.to_string(), text)
             }
             (lent, owned) => format!("{lent:?}, and {owned:?}"),
@@ -173,11 +154,9 @@ pub fn spelling(text: &str) -> String {
         }
     };
     assert_eq!(LangTag::new(text).unwrap().as_grandfathered(), Some(tag));
-    assert_eq!(
-        (pieces_of(&tag), LangTag::from(tag)),
-        (1, LangTag::new(text).unwrap())
-    );
-    format!("{tag:?} {tag} {}", words([tag.language().map(Into::into)]))
+    assert_eq!(LangTag::new(text).unwrap(), LangTag::from(tag));
+    assert_eq!(pieces_of(&tag), 1);
+    format!("{tag:?} {tag} {}", word(tag.language()))
 }
 
 pub fn extension(singleton: &str, text: &str) -> String {
@@ -186,14 +165,10 @@ pub fn extension(singleton: &str, text: &str) -> String {
     else {
         return "refused".into();
     };
-    let found = extensions.get(singleton).map(Into::into);
-    words(
-        std::iter::once(found).chain(
-            extensions
-                .iter_extension(singleton)
-                .map(|subtag| Some(subtag.into())),
-        ),
-    )
+    let subtags = extensions.iter_extension(singleton);
+    let mut found = vec![word(extensions.get(singleton))];
+    found.extend(subtags.map(|subtag| subtag.to_string()));
+    found.join(" ")
 }
 
 pub fn class(bytes: &[u8]) -> String {

@@ -1,7 +1,7 @@
 //! Walks over lists, also from both ends.
 use langtag::*;
 
-use crate::reader::words;
+use crate::reader::{escaped_text, word};
 
 /// Walks over a list by the letters of a pattern: `F` takes the next item from the front, and `B` from the back. `C`
 /// continues with a clone, and `D` shows the debug output of the iterator.
@@ -13,14 +13,10 @@ macro_rules! walked {
         let mut out = Vec::new();
         for step in $pattern.bytes() {
             match step {
-                b'F' => out.push(words([walk.next().map(Into::into)])),
-                b'B' => out.push(words([walk.$back().map(Into::into)])),
+                b'F' => out.push(word(walk.next())),
+                b'B' => out.push(word(walk.$back())),
                 b'C' => walk = walk.clone(),
-                _ => out.push(
-                    format!("{walk:?}")
-                        .replace('{', "\\x7b")
-                        .replace('}', "\\x7d"),
-                ),
+                _ => out.push(escaped_text(&format!("{walk:?}"))),
             }
         }
         out.join(" ")
