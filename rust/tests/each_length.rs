@@ -258,7 +258,11 @@ const OTHERS: &str = "\
 
 #[test]
 fn each_prefix_of_the_rows() {
-    let rows = include_str!("../../rows/texts.txt");
+    let read = |file| std::fs::read_to_string(format!("{}/{file}", env!("CARGO_MANIFEST_DIR")));
+    // A packed crate contains the rows.
+    let rows = read("../rows/texts.txt")
+        .or_else(|_| read("rows/texts.txt"))
+        .unwrap();
     let texts = rows
         .lines()
         .filter_map(|line| line.strip_prefix("scan | ")?.split(" | ").next());

@@ -6,17 +6,28 @@
 //! - `LangTag::new` in a `const` or a `static`: the recogniser calls a trait. `from_static` and the macro `langtag` read a slice instead.
 //!   Parts and ranges have no such call, because a tag gives its parts, and few programs name a range.
 //! - `tag.language() == Some("de")`: Rust compares only options of one type. Write `is_some_and(|language| language == "de")`.
-//! - `set_script(Some("Latn"))`, and `from_parts` of strings: a string may be no script. Write `Script::new("Latn")?`.
+//! - `set_script(Some("Latn"))`, and `from_parts` of strings: a string may be no script. Write `Script::new("Latn")?`. With a generic
+//!   argument, `set_script(None)` would not compile.
 //! - `text.parse::<LangTag>()`, `header.parse::<AcceptLanguage>()`: `FromStr` cannot return a value that borrows. Write `LangTag::new(text)`.
 //! - `from_parts(..)?`: its arguments are parts that are already checked, so it returns the tag.
 //! - `filter_basic` of owned ranges or tags: its iterator is the proved one, over slices of borrowed values. Collect the
 //!   `as_language_range()` of each range and the `as_lang_tag()` of each tag first.
 //! - `tag.parents()` without `alloc`: the parent of `zh-TW` is `zh-Hant`, which is no slice of it. `likely::write_parent` does not allocate.
 //! - `&LangTag`, `Cow<LangTag>`, `Arc<LangTag>`, `impl AsRef<LangTag>`: a `LangTag` is a value, and an owned tag contains none to borrow.
+//! - `Site<'static, LangTagBuf>`: a site owns its tags, so it is a `Site<LangTagBuf>`.
 //! - `tag.subtags().map(|it| it.as_str())`: a subtag is a `&str`, because subtags of all types follow each other.
 //! - `map.get("en")` and `map.get(&tag)`: a `str` is hashed with its case. Write `map.get("en".caseless())`.
 //! - `tag.primary_language()`: only normal tags have one. Write `tag.language().map(|language| language.primary())`.
+//! - `error.offset()`: only the refusal of a string has an offset, and a program may make an error without one. Write `error.refusal()`,
+//!   which has `start` and `end`.
+//! - `maximize`, `minimize`, `canonicalize`, `normalize`, `is_rtl`, `ancestors`, `choice::choose`: a call has one name, and rustdoc finds it.
+//! - `oxilangtag::LanguageTag` without the feature `oxilangtag`.
 //! - a type `Locale`, a builder of tags, and descriptions of the registry: a `LangTag` is read and set directly, and `names` has CLDR's names.
+//!
+//! These compile, and do something else:
+//!
+//! - `tag.as_deref() == Some("EN-gb")` compares strings with their case.
+//! - The parent of `zh-Hant-TW` is `zh-TW`, and then `zh-Hant` follows, because a catalogue may have the tag without its script.
 #![cfg(all(feature = "alloc", feature = "data"))]
 #![allow(clippy::needless_borrows_for_generic_args)] // references are taken, too
 use std::borrow::Cow;

@@ -205,9 +205,7 @@ fn best<'a, 't, R: RangeList<'a>, T: TagList>(ranges: R, tags: &'t T) -> Option<
     ensures { IsBestFound (R.elements ranges) (T.texts tags.now) result }
 {
     let (first, has_zero) = first_by_ranges(ranges, tags);
-    let Some(found) = first else {
-        return None;
-    };
+    let found = first?;
     if is_chosen(ranges, tags, found.index, has_zero) {
         return Some(found);
     }

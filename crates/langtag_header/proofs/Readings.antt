@@ -1,12 +1,14 @@
 -- What a loop over the items of a header has read, and that a header has one reading, which is the one that a sort makes.
-use Rattle.langtag_scan.proofs.Prelude.{◌≡◌, ◌≢◌, ℕ, Bool, true, false, eqb, List, [], ◌∷◌, ap, refl, ◌∙◌, subst, arith, ◌+◌, ◌≤◌, not, ◌&&◌, nat_lt, suc, filter, map, get_or, sym, ◌-◌, ◌<◌, ◌++◌, None, IsTrue, length, length-append, take, inl, inr, ◌⊎◌, cond, drop, count_by, AllByRecursion, after_first, before_first, position_or_len, eqb-true, eq-eqb, ne_eqb, eqb_tells, nat_tests, common_steps, IsPermutation, is_lt, nat_cmp, Ordering, nil_from_length, append_assoc, append-nil, take-append-drop, filter_agree, length_permutation, get_or-append_seam, take-append_seam, list_all-append, length-slice_split, sum_by-append, slice_get_read}
+use Rattle.langtag_scan.proofs.Prelude.{◌≡◌, ◌≢◌, ℕ, Bool, true, false, eqb, List, [], ◌∷◌, ap, refl, ◌∙◌, subst, arith, ◌+◌, ◌≤◌, not, ◌&&◌, nat_lt, suc, filter, map, get_or, sym, ◌-◌, ◌<◌, ◌++◌, None, IsTrue, length, length-append, take, inl, inr, ◌⊎◌, cond, drop, count_by, AllByRecursion, after_first, before_first, position_or_len, eqb-true, eq-eqb, ne_eqb, eqb_tells, nat_tests, common_steps, IsPermutation, is_lt, nat_cmp, Ordering, nil_from_length, append_assoc, take-append-drop, filter_agree, length_permutation, get_or-append_seam, take-append_seam, list_all-append, length-slice_split, sum_by-append, slice_get_read}
 use Rattle.langtag_header.specs.Stable.{IsOrderedBy, IsStableOrder, with_key}
 use Rattle.std.specs.List.Sorted.{ties, IsSorted, IsStable}
 use Rattle.std.proofs.lemmas.List.Elements.{filter_map-append}
 use Rattle.langtag_header.specs.AcceptLanguage.{FallsTo, HasOneReading, IsByWeight, acceptable, elements, reading, weight_in, IsFirstBad, are_good, bad_part, is_good}
 use Rattle.langtag_range.specs.Element.{Element, element, is_comma, items}
 use Rattle.langtag_header.specs.declared.weighted_range.WeightedRange.{WeightedRange}
+use Rattle.langtag_header.specs.declared.element.BadElement.{BadElement}
 use Rattle.langtag_header.specs.declared.accept_language_error.ElementPart.{ElementPart}
+use Rattle.std.specs.Prelude.{Option, Some, MatchOption}
 use Rattle.langtag_range.proofs.WantedTexts.{cut_or_whole, shorter}
 
 module _
@@ -111,47 +113,48 @@ pub no_element : element [] ≡ None
 unfolding element
 no_element = refl
 
--- the elements of a text are that of its first item and those after its comma
-pub elements_at : (text : List ℕ) → elements (items text) ≡ elements (before_first is_comma text ∷ []) ++ elements (items (after_first is_comma text))
-elements_at text = grind (arith, common_steps, cut_or_whole is_comma text, no_element, append-nil)
-
 starts : (text : List ℕ) → (others : List (List ℕ)) × (items text ≡ before_first is_comma text ∷ others)
 starts text = elim (cut_or_whole is_comma text) [ inl comma ↦ (items (after_first is_comma text), comma) | inr last ↦ ([], last.0) ]
 
--- what was read, and the elements of the rest, are the elements of the header
-pub more_elements :
-    (header left : List ℕ) (read more : List WeightedRange) → map reading read ++ elements (items left) ≡ elements (items header) → map reading more ≡ map reading read ++ elements (before_first is_comma left ∷ []) →
-    map reading more ++ elements (items (after_first is_comma left)) ≡ elements (items header)
-more_elements header left read more so_far is =
-    rw is (append_assoc (map reading read) (elements (before_first is_comma left ∷ [])) (elements (items (after_first is_comma left))) ∙ ap (λ t. map reading read ++ t) (sym (elements_at left)) ∙ so_far)
-
 -- ---- a reading that goes on with the rest of the header
 
-pub record IsReadTo (header left : List ℕ) (index : ℕ) (read : List WeightedRange) : Type 0 where
+-- all items that were read are good, or `bad` is the first bad item of the header
+abbrev pub Tells : List ℕ → List (List ℕ) → Option BadElement → Type 0
+Tells header done bad = MatchOption bad (IsTrue (are_good done)) (λ bad. IsFirstBad header bad.index bad.offset bad.part)
+
+tells_more : (header : List ℕ) (done more : List (List ℕ)) (bad : Option BadElement) → (bad ≡ None → IsTrue (are_good done) → IsTrue (are_good more)) → Tells header done bad → Tells header more bad
+tells_more header done more None goes told = goes refl told
+tells_more header done more (Some bad) goes told = told
+
+pub record IsReadTo (header left : List ℕ) (index : ℕ) (read : List WeightedRange) (bad : Option BadElement) : Type 0 where
   pub before : List ℕ
   pub cut : header ≡ before ++ left
   pub few : index + length left ≤ length header
   pub done : List (List ℕ)
   pub count : length done ≡ index
-  pub good : are_good done ≡ true
+  pub told : Tells header done bad
   pub elements : map reading read ≡ elements done
   pub rest : (items header ≡ done ++ items left) ⊎ ((left ≡ []) × (items header ≡ done))
 
-pub read_first : (header : List ℕ) → IsReadTo header header 0 []
-read_first header = record { before = []; cut = refl; few = omega arith; done = []; count = refl; good = refl; elements = refl; rest = inl refl }
+pub read_first : (header : List ℕ) → IsReadTo header header 0 [] None
+read_first header = record { before = []; cut = refl; few = omega arith; done = []; count = refl; told = refl; elements = refl; rest = inl refl }
 
-module _ (header left : List ℕ) (index : ℕ) (read : List WeightedRange) (so_far : IsReadTo header left index read) where
-  -- one more item, which is good
+module _ (header left : List ℕ) (index : ℕ) (read : List WeightedRange) (bad : Option BadElement) (so_far : IsReadTo header left index read bad) where
+  -- the items that were read, and the next one
+  abbrev pub next_done : List (List ℕ)
+  next_done = so_far.done ++ before_first is_comma left ∷ []
+
+  -- one more item
   pub read_next :
-      (more : List WeightedRange) → 0 < length left → is_good (before_first is_comma left) ≡ true → map reading more ≡ map reading read ++ elements (before_first is_comma left ∷ []) →
-      IsReadTo header (after_first is_comma left) (index + 1) more
-  read_next more some good is = record {
+      (more : List WeightedRange) (later : Option BadElement) → 0 < length left → Tells header next_done later → map reading more ≡ map reading read ++ elements (before_first is_comma left ∷ []) →
+      IsReadTo header (after_first is_comma left) (index + 1) more later
+  read_next more later some told is = record {
     before = so_far.before ++ take (position_or_len is_comma left + 1) left;
     cut = grind (arith, so_far.cut, append_assoc, take-append-drop (position_or_len is_comma left + 1) left);
     few = omega (arith, so_far.few, shorter is_comma left some);
-    done = so_far.done ++ before_first is_comma left ∷ [];
+    done = next_done;
     count = grind (arith, common_steps, so_far.count);
-    good = grind (arith, common_steps, list_all-append is_good so_far.done (before_first is_comma left ∷ []), so_far.good);
+    told = told;
     elements = grind (arith, common_steps, filter_map-append, so_far.elements);
     rest = elim so_far.rest [
       | inl on ↦ elim (cut_or_whole is_comma left) [
@@ -162,9 +165,13 @@ module _ (header left : List ℕ) (index : ℕ) (read : List WeightedRange) (so_
     ];
   }
 
-  -- an item that is bad
-  pub first_bad : (part : ElementPart) → 0 < length left → is_good (before_first is_comma left) ≡ false → part ≡ bad_part (before_first is_comma left) → IsFirstBad header index (length header - length left) part
-  first_bad part some bad which =
+  -- an item that is good, or after the first bad one
+  pub goes_on : (bad ≡ None → is_good (before_first is_comma left) ≡ true) → Tells header next_done bad
+  goes_on good = tells_more header so_far.done next_done bad (λ none all. grind (arith, common_steps, list_all-append is_good so_far.done (before_first is_comma left ∷ []), all, good none)) so_far.told
+
+  -- the first item that is bad
+  pub first_bad : (part : ElementPart) → bad ≡ None → 0 < length left → is_good (before_first is_comma left) ≡ false → part ≡ bad_part (before_first is_comma left) → IsFirstBad header index (length header - length left) part
+  first_bad part none some bad which =
       let on : items header ≡ so_far.done ++ items left = elim so_far.rest [ inl on ↦ on | inr over ↦ absurd (omega (arith, some, ap length over.0)) ] in
       let (others, first) = starts left in
       let all : items header ≡ so_far.done ++ before_first is_comma left ∷ others = on ∙ ap (λ t. so_far.done ++ t) first in
@@ -178,14 +185,14 @@ module _ (header left : List ℕ) (index : ℕ) (read : List WeightedRange) (so_
         place = (so_far.before, drop (position_or_len is_comma left) left, so_far.cut ∙ ap (λ t. so_far.before ++ t) (sym (take-append-drop (position_or_len is_comma left) left)), commas, omega (arith, ap length so_far.cut, length-append so_far.before left));
         bad = bad;
         which = which;
-        before = rw (all, sym so_far.count, take-append_seam so_far.done (before_first is_comma left ∷ others)) so_far.good;
+        before = rw (all, sym so_far.count, take-append_seam so_far.done (before_first is_comma left ∷ others)) (subst (Tells header so_far.done) none so_far.told);
       }
 
   -- all items
-  pub read_all : length left ≡ 0 → IsTrue (are_good (items header)) × (map reading read ≡ elements (items header))
+  pub read_all : length left ≡ 0 → Tells header (items header) bad × (map reading read ≡ elements (items header))
   read_all none = elim so_far.rest [
     | inl on ↦
         let all : items header ≡ so_far.done ++ [] ∷ [] = on ∙ ap (λ t. so_far.done ++ items t) (nil_from_length left none) in
-        rw all (grind (arith, common_steps, list_all-append is_good so_far.done ([] ∷ []), so_far.good), so_far.elements ∙ grind (arith, common_steps, filter_map-append, no_element))
-    | inr over ↦ rw (over.1) (so_far.good, so_far.elements)
+        rw all (tells_more header so_far.done (so_far.done ++ [] ∷ []) bad (λ none good. grind (arith, common_steps, list_all-append is_good so_far.done ([] ∷ []), good)) so_far.told, so_far.elements ∙ grind (arith, common_steps, filter_map-append, no_element))
+    | inr over ↦ rw (over.1) (so_far.told, so_far.elements)
   ]

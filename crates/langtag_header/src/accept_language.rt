@@ -1,12 +1,12 @@
 //! The language ranges in an Accept-Language header (RFC 9110 section 12.5.4).
-ghost use Rattle.std.specs.Prelude.{◌≡◌, List, IsTrue, true, is_ok, IfOk, IfErr, map};
+ghost use Rattle.std.specs.Prelude.{◌≡◌, List, IsTrue, IfOk, IfErr, MatchOption, map};
 ghost use Rattle.langtag_header.specs.AcceptLanguage as spec;
 ghost use Rattle.langtag_range.specs.Definitions.{items};
 ghost use Rattle.langtag_header.specs.LookUp.{choice};
 ghost use Rattle.langtag_header.specs.declared.weighted_range.WeightedRange.{WeightedRange};
 
 use crate::accept_language_error::AcceptLanguageError;
-use crate::element::element_at;
+use crate::element::{BadElement, element_at};
 use crate::lookup::tag_for;
 use crate::weighted_range::WeightedRange;
 use langtag::LangTag;
@@ -53,7 +53,15 @@ impl<'a> AcceptLanguage<'a> {
         // law: a header has one list of ranges and weights
         ensures one_reading { spec.HasOneReading header.now }
     {
-        let read = elements(alloc, header)?;
+        let (read, bad) = elements(alloc, header)?;
+        if let Some(bad) = bad {
+            return Err(AcceptLanguageError::BadElement {
+                header,
+                index: bad.index,
+                offset: bad.offset,
+                part: bad.part,
+            });
+        }
         Ok(AcceptLanguage::by_weight(read)?)
     }
 
@@ -72,7 +80,7 @@ impl<'a> AcceptLanguage<'a> {
     pub fn lenient(alloc: Global, header: &'a str) -> Result<AcceptLanguage<'a>, AllocError>
         ensures { IfOk result (λ accepted. spec.AreElements header.now (accept_language_ranges accepted)) }
     {
-        let read = good_elements(alloc, header)?;
+        let (read, _) = elements(alloc, header)?;
         AcceptLanguage::by_weight(read)
     }
 
@@ -161,47 +169,34 @@ pub fn tag_for_header<'h, 't>(
     Ok(accepted.look_up(tags, default))
 }
 
-/// Returns the elements of a header, in order.
-fn elements(alloc: Global, header: &str) -> Result<Vec<WeightedRange<'_>>, AcceptLanguageError<'_>>
-    ensures good { is_ok result ≡ true → IsTrue (spec.are_good (items header.now)) }
-    ensures elements { IfOk result (λ elements. map spec.reading elements.items ≡ spec.elements (items header.now)) }
-    ensures refused { IfErr result (spec.Refuses header.entry) }
+/// Returns the elements of a header that are well-formed, in order, and its first malformed element.
+fn elements(
+    alloc: Global,
+    header: &str,
+) -> Result<(Vec<WeightedRange<'_>>, Option<BadElement>), AllocError>
+    ensures elements { IfOk result (λ found. map spec.reading found.0.items ≡ spec.elements (items header.now)) }
+    ensures bad { IfOk result (λ found. MatchOption found.1 (IsTrue (spec.are_good (items header.now)))
+        (λ bad. spec.IsFirstBad header.now bad.index bad.offset bad.part)) }
 {
     let mut elements = Vec::new(alloc);
+    let mut bad = None;
     let mut left = header.as_bytes();
     let mut index = 0;
     while !left.is_empty() {
         let (item, rest) = split_at_byte(left, b',');
         match element_at(item) {
             Ok(element) => elements.push(element.weighted).map_err(AllocError::from)?,
-            Err(_) if is_empty_element(item) => {}
-            Err(part) => {
-                return Err(AcceptLanguageError::BadElement {
-                    header,
+            Err(part) if bad.is_none() && !is_empty_element(item) => {
+                bad = Some(BadElement {
                     index,
                     offset: header.len() - left.len(),
                     part,
                 });
             }
+            Err(_) => {}
         }
         index += 1;
         left = rest;
     }
-    Ok(elements)
-}
-
-/// Returns the elements of a header, in order, and skips malformed elements.
-fn good_elements(alloc: Global, header: &str) -> Result<Vec<WeightedRange<'_>>, AllocError>
-    ensures { IfOk result (λ elements. map spec.reading elements.items ≡ spec.elements (items header.now)) }
-{
-    let mut elements = Vec::new(alloc);
-    let mut left = header.as_bytes();
-    while !left.is_empty() {
-        let (item, rest) = split_at_byte(left, b',');
-        if let Ok(element) = element_at(item) {
-            elements.push(element.weighted).map_err(AllocError::from)?;
-        }
-        left = rest;
-    }
-    Ok(elements)
+    Ok((elements, bad))
 }

@@ -38,17 +38,12 @@ pub(crate) fn form_of(tag: LangTag<'_>) -> Form<'_> {
 }
 
 /// Returns whether all parts of a tag are in their canonical forms.
+#[inline]
 fn has_canonical_parts(tag: NormalLangTag<'_>) -> bool {
-    if !is_canonical_language(tag.language()) {
-        return false;
-    }
-    if !is_canonical_region(tag.region()) {
-        return false;
-    }
-    if !are_canonical_variants(tag.variants()) {
-        return false;
-    }
-    are_in_order(tag.extensions())
+    is_canonical_language(tag.language())
+        && is_canonical_region(tag.region())
+        && are_canonical_variants(tag.variants())
+        && are_in_order(tag.extensions())
 }
 
 /// Returns whether the region has no Preferred-Value.

@@ -199,9 +199,7 @@ fn best_index<'a, R: RangeList<'a>, T: TagList>(ranges: R, tags: &T) -> Option<u
 /// one by one.
 fn best<'a, 't, R: RangeList<'a>, T: TagList>(ranges: R, tags: &'t T) -> Option<Candidate<'a, 't>> {
     let (first, has_zero) = first_by_ranges(ranges, tags);
-    let Some(found) = first else {
-        return None;
-    };
+    let found = first?;
     if is_chosen(ranges, tags, found.index, has_zero) {
         return Some(found);
     }

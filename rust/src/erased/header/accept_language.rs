@@ -3,7 +3,7 @@
 //! The language ranges in an Accept-Language header (RFC 9110 section 12.5.4).
 
 use crate::erased::header::accept_language_error::AcceptLanguageError;
-use crate::erased::header::element::element_at;
+use crate::erased::header::element::{element_at, BadElement};
 use crate::erased::header::lookup::tag_for;
 use crate::erased::header::weighted_range::WeightedRange;
 use crate::erased::range::{is_empty_element, split_at_byte};
@@ -47,7 +47,15 @@ impl<'a> AcceptLanguage<'a> {
     /// ```
     #[inline]
     pub fn new(header: &'a str) -> Result<AcceptLanguage<'a>, AcceptLanguageError<'a>> {
-        let read = elements(header)?;
+        let (read, bad) = elements(header)?;
+        if let Some(bad) = bad {
+            return Err(AcceptLanguageError::BadElement {
+                header,
+                index: bad.index,
+                offset: bad.offset,
+                part: bad.part,
+            });
+        }
         Ok(AcceptLanguage::by_weight(read)?)
     }
 
@@ -69,7 +77,7 @@ impl<'a> AcceptLanguage<'a> {
     /// ```
     #[inline]
     pub fn try_lenient(header: &'a str) -> Result<AcceptLanguage<'a>, AllocError> {
-        let read = good_elements(header)?;
+        let (read, _) = elements(header)?;
         AcceptLanguage::by_weight(read)
     }
 
@@ -164,10 +172,12 @@ pub fn tag_for_header<'h, 't>(
     Ok(accepted.look_up_tag(tags, default))
 }
 
-/// Returns the elements of a header, in order.
+/// Returns the elements of a header that are well-formed, in order, and its first malformed
+/// element.
 #[inline]
-fn elements(header: &str) -> Result<Vec<WeightedRange<'_>>, AcceptLanguageError<'_>> {
+fn elements(header: &str) -> Result<(Vec<WeightedRange<'_>>, Option<BadElement>), AllocError> {
     let mut elements = Vec::new();
+    let mut bad = None;
     let mut left = header.as_bytes();
     let mut index = 0;
     while !left.is_empty() {
@@ -176,35 +186,17 @@ fn elements(header: &str) -> Result<Vec<WeightedRange<'_>>, AcceptLanguageError<
             Ok(element) => elements
                 .try_push(element.weighted)
                 .map_err(AllocError::from)?,
-            Err(_) if is_empty_element(item) => {}
-            Err(part) => {
-                return Err(AcceptLanguageError::BadElement {
-                    header,
+            Err(part) if bad.is_none() && !is_empty_element(item) => {
+                bad = Some(BadElement {
                     index,
                     offset: header.len() - left.len(),
                     part,
                 });
             }
+            Err(_) => {}
         }
         index += 1;
         left = rest;
     }
-    Ok(elements)
-}
-
-/// Returns the elements of a header, in order, and skips malformed elements.
-#[inline]
-fn good_elements(header: &str) -> Result<Vec<WeightedRange<'_>>, AllocError> {
-    let mut elements = Vec::new();
-    let mut left = header.as_bytes();
-    while !left.is_empty() {
-        let (item, rest) = split_at_byte(left, b',');
-        if let Ok(element) = element_at(item) {
-            elements
-                .try_push(element.weighted)
-                .map_err(AllocError::from)?;
-        }
-        left = rest;
-    }
-    Ok(elements)
+    Ok((elements, bad))
 }

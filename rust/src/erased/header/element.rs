@@ -24,6 +24,14 @@ pub struct Element<'a> {
     pub weighted: WeightedRange<'a>,
 }
 
+/// A malformed element of a header. The fields are those of the error
+/// `AcceptLanguageError::BadElement`.
+pub(crate) struct BadElement {
+    pub index: usize,
+    pub offset: usize,
+    pub part: ElementPart,
+}
+
 /// Parses the string between two commas of an Accept-Language header ([RFC 9110 section 12.5.4]).
 /// In ` fr;q=0.5` the range is `fr`, which begins at 1, and the weight is 500. The default weight
 /// is 1000. The bytes need not be UTF-8.
