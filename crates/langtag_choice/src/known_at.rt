@@ -8,6 +8,7 @@ ghost use Rattle.langtag_choice.specs.KnownTexts.{is_known, known_text};
 use crate::candidate::Candidate;
 use crate::improve::improve_near;
 use crate::known_tag::KnownTag;
+use crate::range_language::RangeLanguage;
 use crate::tag_list::TagList;
 use crate::wish::Wish;
 
@@ -22,15 +23,21 @@ fn known_at<T: TagList>(tags: &T, index: usize) -> KnownTag<'_>
     }
 }
 
-/// Returns whether the first letters of an entry show that it cannot serve a range.
+/// Returns whether the first letters of an entry show that it cannot serve a range with this language.
 #[inline(always)]
 #[tactic(auto, using(crate::proofs::FoundLaws::far_at))]
-fn is_far_at<T: TagList>(tags: &T, wish: &Wish<'_>, index: usize) -> bool
-    requires { index < length (T.texts tags.now) }
+fn is_far_at<T: TagList>(
+    tags: &T,
+    wish: &Wish<'_>,
+    own: &Option<RangeLanguage>,
+    index: usize,
+) -> bool
+    requires inside { index < length (T.texts tags.now) }
+    requires own { own.now ≡ wish.now.language }
     ensures { IsTrue result → AddsNothing wish.now (T.texts tags.now) (λ there. there == index) }
 {
     match tags.form_at(index) {
-        Some(prepared) => prepared.is_far_from(wish),
+        Some(prepared) => prepared.is_far_from(wish, own),
         None => wish.is_far_from(tags.bytes_at(index)),
     }
 }
@@ -42,8 +49,9 @@ pub(crate) fn next_near<T: TagList>(tags: &T, wish: &Wish<'_>, from: usize) -> O
     ensures { MatchOption result (AddsNothing wish.now (T.texts tags.now) (λ there. nat_le from there))
         (λ index. (from ≤ index) × (index < length (T.texts tags.now)) × (index + 1 < 2 ^ 64) × AddsNothing wish.now (T.texts tags.now) (λ there. nat_le from there && nat_lt there index)) }
 {
+    let own = wish.language;
     for index in from..tags.count() {
-        if !is_far_at(tags, wish, index) {
+        if !is_far_at(tags, wish, &own, index) {
             return Some(index);
         }
     }
@@ -75,7 +83,7 @@ pub(crate) fn improve_entry<'a, 't, T: TagList>(
     requires { index < length (T.texts tags.now) }
     ensures { TriesRange (wish_element wish.now) wish.now.place (T.texts tags.now) (λ there. there == index) found.old found.new }
 {
-    if !is_far_at(tags, wish, index) {
+    if !is_far_at(tags, wish, &wish.language, index) {
         improve_at(found, wish, tags, index);
     }
 }

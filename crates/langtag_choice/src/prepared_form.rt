@@ -8,6 +8,7 @@ ghost use Rattle.langtag_cldr.specs.Definitions.{matching_form, name_text, field
 
 use crate::first_letters::first_two;
 use crate::likely_region::unlikely_form;
+use crate::range_language::RangeLanguage;
 use crate::wish::Wish;
 use langtag_cldr::{TagFields, language_number, matching_form};
 use langtag_scan::{case_insensitive_eq, is_primary, is_region, is_script};
@@ -172,8 +173,10 @@ impl PreparedForm {
         }
     }
 
-    /// Returns whether the first letters and the language of the tag show that it cannot serve a range.
-    pub(crate) fn is_far_from(&self, wish: &Wish<'_>) -> bool
+    /// Returns whether the first letters and the language of the tag show that it cannot serve a range with this
+    /// language. A loop over tags passes its own copy of the language, so that it stays in registers.
+    pub(crate) fn is_far_from(&self, wish: &Wish<'_>, own: &Option<RangeLanguage>) -> bool
+        requires { own.now ≡ wish.now.language }
         ensures far { IsTrue result → (tag : List ℕ) → IsTrue (is_prepared_for tag self.now) → 50 ≤ distance_of_texts (basic_text wish.now.range.now) tag }
         ensures kept { IsTrue result → (tag : List ℕ) → IsTrue (is_prepared_for tag self.now) → kept (basic_text wish.now.range.now) tag ≡ 0 }
     {
@@ -181,7 +184,7 @@ impl PreparedForm {
             return false;
         }
         let letters = (self.letters[0], self.letters[1]);
-        wish.is_far_from_language(letters, u32::from(self.number))
+        wish.is_far_from_language(own, letters, u32::from(self.number))
     }
 }
 

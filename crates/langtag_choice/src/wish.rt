@@ -71,19 +71,27 @@ impl<'a> Wish<'a> {
             return false;
         };
         match language_of(letters) {
-            Some(number) => self.is_far_from_language(letters, number) && is_short(tag),
+            Some(number) => {
+                self.is_far_from_language(&self.language, letters, number) && is_short(tag)
+            }
             None => false,
         }
     }
 
-    /// Returns whether a tag cannot serve the range, given by its first letters and the number of its language: the
-    /// range does not begin with these letters, and the language is not near the language of the range.
-    pub(crate) fn is_far_from_language(&self, letters: (u8, u8), number: u32) -> bool
-        requires { number < 32768 }
+    /// Returns whether a tag cannot serve the range, which has this language. The tag is given by its first letters and
+    /// the number of its language: the range does not begin with these letters, and the languages are not near.
+    pub(crate) fn is_far_from_language(
+        &self,
+        own: &Option<RangeLanguage>,
+        letters: (u8, u8),
+        number: u32,
+    ) -> bool
+        requires few { number < 32768 }
+        requires own { own.now ≡ self.now.language }
         ensures far { IsTrue result → (tag : List ℕ) → ForSome (matching_form tag) (HasNumber number) → 50 ≤ distance_of_texts (basic_text self.now.range.now) tag }
         ensures kept { IsTrue result → (tag : List ℕ) → first_two tag ≡ Some letters → kept (basic_text self.now.range.now) tag ≡ 0 }
     {
-        match self.language {
+        match own {
             Some(own) => own.is_far(number) && letters != own.letters,
             None => false,
         }

@@ -5,6 +5,7 @@
 use crate::erased::choice::candidate::Candidate;
 use crate::erased::choice::improve::improve_near;
 use crate::erased::choice::known_tag::KnownTag;
+use crate::erased::choice::range_language::RangeLanguage;
 use crate::erased::choice::tag_list::TagList;
 use crate::erased::choice::wish::Wish;
 
@@ -16,11 +17,17 @@ fn known_at<T: TagList>(tags: &T, index: usize) -> KnownTag<'_> {
     }
 }
 
-/// Returns whether the first letters of an entry show that it cannot serve a range.
+/// Returns whether the first letters of an entry show that it cannot serve a range with this
+/// language.
 #[inline(always)]
-fn is_far_at<T: TagList>(tags: &T, wish: &Wish<'_>, index: usize) -> bool {
+fn is_far_at<T: TagList>(
+    tags: &T,
+    wish: &Wish<'_>,
+    own: &Option<RangeLanguage>,
+    index: usize,
+) -> bool {
     match tags.form_at(index) {
-        Some(prepared) => prepared.is_far_from(wish),
+        Some(prepared) => prepared.is_far_from(wish, own),
         None => wish.is_far_from(tags.bytes_at(index)),
     }
 }
@@ -29,8 +36,9 @@ fn is_far_at<T: TagList>(tags: &T, wish: &Wish<'_>, index: usize) -> bool {
 /// inlined, so that its loop has no calls and keeps what it compares in registers.
 #[inline(never)]
 pub(crate) fn next_near<T: TagList>(tags: &T, wish: &Wish<'_>, from: usize) -> Option<usize> {
+    let own = wish.language;
     for index in from..tags.count() {
-        if !is_far_at(tags, wish, index) {
+        if !is_far_at(tags, wish, &own, index) {
             return Some(index);
         }
     }
@@ -57,7 +65,7 @@ pub(crate) fn improve_entry<'a, 't, T: TagList>(
     tags: &'t T,
     index: usize,
 ) {
-    if !is_far_at(tags, wish, index) {
+    if !is_far_at(tags, wish, &wish.language, index) {
         improve_at(found, wish, tags, index);
     }
 }

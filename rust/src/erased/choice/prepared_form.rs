@@ -4,6 +4,7 @@
 
 use crate::erased::choice::first_letters::first_two;
 use crate::erased::choice::likely_region::unlikely_form;
+use crate::erased::choice::range_language::RangeLanguage;
 use crate::erased::choice::wish::Wish;
 use crate::erased::cldr::{language_number, matching_form, TagFields};
 use crate::erased::scan::{case_insensitive_eq, is_primary, is_region, is_script};
@@ -143,14 +144,15 @@ impl PreparedForm {
     }
 
     /// Returns whether the first letters and the language of the tag show that it cannot serve a
-    /// range.
+    /// range with this language. A loop over tags passes its own copy of the language, so that it
+    /// stays in registers.
     #[inline]
-    pub(crate) fn is_far_from(&self, wish: &Wish<'_>) -> bool {
+    pub(crate) fn is_far_from(&self, wish: &Wish<'_>, own: &Option<RangeLanguage>) -> bool {
         if self.number == 0 || self.number >= 32768 {
             return false;
         }
         let letters = (self.letters[0], self.letters[1]);
-        wish.is_far_from_language(letters, u32::from(self.number))
+        wish.is_far_from_language(own, letters, u32::from(self.number))
     }
 }
 

@@ -49,17 +49,24 @@ impl<'a> Wish<'a> {
             return false;
         };
         match language_of(letters) {
-            Some(number) => self.is_far_from_language(letters, number) && is_short(tag),
+            Some(number) => {
+                self.is_far_from_language(&self.language, letters, number) && is_short(tag)
+            }
             None => false,
         }
     }
 
-    /// Returns whether a tag cannot serve the range, given by its first letters and the number of
-    /// its language: the range does not begin with these letters, and the language is not near the
-    /// language of the range.
+    /// Returns whether a tag cannot serve the range, which has this language. The tag is given by
+    /// its first letters and the number of its language: the range does not begin with these
+    /// letters, and the languages are not near.
     #[inline]
-    pub(crate) fn is_far_from_language(&self, letters: (u8, u8), number: u32) -> bool {
-        match self.language {
+    pub(crate) fn is_far_from_language(
+        &self,
+        own: &Option<RangeLanguage>,
+        letters: (u8, u8),
+        number: u32,
+    ) -> bool {
+        match own {
             Some(own) => own.is_far(number) && letters != own.letters,
             None => false,
         }
