@@ -19,9 +19,6 @@ fn looked_up(fields: TagFields<'_>) -> Option<TagFields<'static>> {
     if let Some(likely) = likely_for(fields) {
         return Some(likely);
     }
-    if fields.region.is_empty() {
-        return likely_for(fields.language_alone());
-    }
     if let Some(likely) = likely_for(fields.without_region()) {
         return Some(likely);
     }
