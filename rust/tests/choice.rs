@@ -3,12 +3,12 @@
 #![cfg(all(feature = "alloc", feature = "data"))]
 use langtag::choice::{
     best_for_accept_language, best_for_header, best_for_ranges, match_for_header, suitable_among,
-    suitable_for_header, suitable_for_ranges, write_suitable, Site,
+    suitable_for_header, suitable_for_ranges, write_suitable, Site, TagList,
 };
 use langtag::matching::AcceptLanguage;
 use langtag::LangTag;
 use numbers::Numbers;
-use std::time::Instant;
+use std::cell::Cell;
 
 mod numbers;
 
@@ -145,8 +145,28 @@ fn a_parsed_header() {
     assert_eq!(found, [2, 0]);
 }
 
+/// Tags that count how often one of them is read.
+struct Counted<'t>(&'t [LangTag<'t>], Cell<usize>);
+
+impl TagList for Counted<'_> {
+    fn count(&self) -> usize {
+        self.0.len()
+    }
+
+    fn tag_at(&self, index: usize) -> Option<LangTag<'_>> {
+        self.1.set(self.1.get() + 1);
+        Some(self.0[index])
+    }
+
+    fn bytes_at(&self, index: usize) -> &[u8] {
+        self.1.set(self.1.get() + 1);
+        self.0[index].as_bytes()
+    }
+}
+
 /// Headers of 8,192 bytes and 1,000 tags: with weights in ascending order, so that each range is better than all before it, and
-/// with 740 ranges of weight 0. If each answer repeated the whole choice, the list would take as long as 1,000 choices.
+/// with 740 ranges of weight 0. Each pair of a range and a tag is read a few times. If each answer repeated the whole choice, it
+/// would be read 1,000 times.
 #[test]
 fn a_long_header_and_many_tags() {
     let numbered = |count: usize, before: &str, after: &str| {
@@ -158,14 +178,14 @@ fn a_long_header_and_many_tags() {
         numbered(740, "de-", ";q=0") + ",en",
     ];
     let texts = (0..1000).map(|n| format!("en-{n:03}")).collect::<Vec<_>>();
-    let tags: Vec<_> = texts.iter().map(|tag| LangTag::new(tag).unwrap()).collect();
+    let tags = texts
+        .iter()
+        .map(|tag| LangTag::new(tag).unwrap())
+        .collect::<Vec<_>>();
     for header in headers {
-        let begun = Instant::now();
-        assert!(best_for_header(&header, &tags).is_some());
-        let choice = begun.elapsed();
-        let begun = Instant::now();
+        let tags = Counted(&tags, Cell::new(0));
         assert_eq!(suitable_for_header(&header, &tags).len(), 1000);
-        let list = begun.elapsed();
-        assert!(list < 500 * choice, "{list:?}, {choice:?}");
+        let (reads, pairs) = (tags.1.get(), 744 * 1000);
+        assert!(reads < 50 * pairs, "{reads}");
     }
 }
