@@ -138,9 +138,8 @@ impl GrandfatheredLangTag {
     /// Returns the grandfathered tag that equals these bytes, ignoring case: `GrandfatheredLangTag::new(b"I-AMI")` is
     /// `Ok(GrandfatheredLangTag::IAmi)`.
     ///
-    /// It is proved that no two grandfathered tags are equal, ignoring case, and that all are language tags. It is also
-    /// proved that they compare and hash by their indices, that a clone is the same value, and that [`GRANDFATHERED`]
-    /// has each tag at its index.
+    /// No two grandfathered tags are equal, ignoring case, and all are language tags. They compare and hash by their
+    /// indices, and [`GRANDFATHERED`] has each tag at its index.
     ///
     /// # Errors
     ///

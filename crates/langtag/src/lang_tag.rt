@@ -71,8 +71,8 @@ impl<'a> LangTag<'a> {
     ghost use Rattle.langtag.specs.Text.{normal_lang_tag_text, lang_tag_text, lang_tag_buf_text};
     ghost use Rattle.langtag.specs.Typed.{IsTypedAs};
 
-    /// Parses a string as a language tag. Case does not matter, and the string keeps its case. It is proved that no
-    /// string is of two kinds.
+    /// Parses a string as a language tag. Case does not matter, and the string keeps its case. No string is of two
+    /// kinds.
     ///
     /// # Errors
     ///
@@ -207,8 +207,8 @@ impl<'a> LangTag<'a> {
     /// tag of the same kind. If both are normal tags, their parts are equal, ignoring case, and are at the same
     /// offsets.
     ///
-    /// It is proved that comparisons and hashes of tags also ignore case, and that a clone is the same tag. A tag
-    /// sorts after every longer tag that begins with its text: `zh` sorts after `zh-Latn`.
+    /// Comparisons and hashes of tags also ignore case. A tag sorts after every longer tag that begins with its text:
+    /// `zh` sorts after `zh-Latn`.
     ///
     /// ```
     /// use langtag::LangTag;
@@ -233,8 +233,8 @@ impl<'a> LangTag<'a> {
         self.text == Caseless(other)
     }
 
-    /// Returns the kind of the tag. The regular grandfathered tags are normal. It is proved that kinds compare and hash
-    /// by their position in the declaration of [`Kind`], and that a clone is the same kind.
+    /// Returns the kind of the tag. The regular grandfathered tags are normal. Kinds compare and hash by their position
+    /// in the declaration of [`Kind`].
     ///
     /// ```
     /// use langtag::{Kind, LangTag};

@@ -88,8 +88,6 @@ impl LangTagBuf {
 
     /// Borrows the tag, without parsing it again: `LangTag::new("x-A")?.try_to_owned(alloc)?.as_lang_tag().as_str()` is
     /// `"x-A"`.
-    ///
-    /// It is proved that comparisons and hashes of owned tags ignore case.
     #[tactic(auto, using(langtag_scan::proofs::CaseOrder::bytes_ends_first))]
     pub fn as_lang_tag(&self) -> LangTag<'_>
         ensures same_text { lang_tag_text result ≡ lang_tag_buf_text self.now }
@@ -157,7 +155,6 @@ impl LangTagBuf {
     #[tactic(auto, using(crate::proofs::KeptFound::ascii_found, crate::proofs::KeptFound::found_alike, langtag_text::proofs::RecommendedLaws::alike_of_recommended, langtag_text::proofs::RecommendedLaws::alike_recommended, langtag_text::proofs::RecommendedLaws::spelled_in_case, crate::proofs::KeptFound::alike_kinds, langtag_scan::proofs::CaseLaw::alike_parts))]
     pub fn make_recommended_case(&mut self)
         ensures case { lang_tag_buf_text self.new ≡ recommended_text (lang_tag_buf_text self.old) }
-        // law: the `String` keeps its allocation
         ensures same_block { SameBlock (string_vec (lang_tag_buf_string self.old)) (string_vec (lang_tag_buf_string self.new)) }
         ensures record { EachRecord (lang_tag_buf_text self.old) (λ r. lang_tag_buf_text self.new ≡ spell (recommended_record r)) }
         ensures alike { Alike (lang_tag_buf_text self.old) (lang_tag_buf_text self.new) }
@@ -226,7 +223,6 @@ impl LangTagBuf {
         ensures comes_back { OnOk result (ComesBack (λ new old. with_script new old.script) (lang_tag_buf_text self.old) (lang_tag_buf_text self.new)) }
         // law: removing a part of a normal tag is Ok
         ensures taken_out { IsNone script.entry → IsNormal (lang_tag_buf_text self.old) → IsOk result }
-        // law: removing a part does not shrink the room of the `String`
         ensures room_kept { IsNone script.entry → string_capacity (lang_tag_buf_string self.old) ≤ string_capacity (lang_tag_buf_string self.new) }
     {
         self.put(alloc, Part::Script(script))

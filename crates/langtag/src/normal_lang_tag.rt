@@ -71,8 +71,7 @@ impl<'a> NormalLangTag<'a> {
 
     /// Parses a string as a normal tag.
     ///
-    /// It is proved that a normal tag splits into its parts in only one way, and that the parts, joined by hyphens, are
-    /// the whole string.
+    /// A normal tag splits into its parts in only one way, and the parts, joined by hyphens, are the whole string.
     ///
     /// # Errors
     ///
@@ -175,8 +174,8 @@ impl<'a> NormalLangTag<'a> {
     /// Returns whether another string equals this tag, ignoring the case of ASCII letters. A string that is equal is a
     /// normal tag, too. The parts of both are equal, ignoring case, and are at the same offsets.
     ///
-    /// It is proved that comparisons and hashes of normal tags also ignore case, and that a clone is the same tag. A
-    /// tag sorts after every longer tag that begins with its text: `sl` sorts after `sl-IT`.
+    /// Comparisons and hashes of normal tags also ignore case. A tag sorts after every longer tag that begins with its
+    /// text: `sl` sorts after `sl-IT`.
     ///
     /// ```
     /// use langtag::NormalLangTag;

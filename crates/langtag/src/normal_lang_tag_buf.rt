@@ -130,8 +130,6 @@ impl NormalLangTagBuf {
 
     /// Borrows the tag, without parsing it again:
     /// `NormalLangTag::new("ZH-tw")?.try_to_owned(alloc)?.as_normal_lang_tag().as_str()` is `"ZH-tw"`.
-    ///
-    /// It is proved that comparisons and hashes of owned normal tags ignore case.
     #[tactic(auto, using(langtag_scan::proofs::CaseOrder::bytes_ends_first))]
     pub fn as_normal_lang_tag(&self) -> NormalLangTag<'_>
         ensures same_text { normal_lang_tag_text result ≡ normal_lang_tag_buf_text self.now }
@@ -187,7 +185,6 @@ impl NormalLangTagBuf {
     /// ```
     pub fn make_recommended_case(&mut self)
         ensures case { normal_lang_tag_buf_text self.new ≡ recommended_text (normal_lang_tag_buf_text self.old) }
-        // law: the `String` keeps its allocation
         ensures same_block { SameBlock (string_vec (normal_lang_tag_buf_string self.old)) (string_vec (normal_lang_tag_buf_string self.new)) }
         ensures record { EachRecord (normal_lang_tag_buf_text self.old) (λ r. normal_lang_tag_buf_text self.new ≡ spell (recommended_record r)) }
         ensures alike { Alike (normal_lang_tag_buf_text self.old) (normal_lang_tag_buf_text self.new) }
@@ -250,7 +247,6 @@ impl NormalLangTagBuf {
         ensures comes_back { OnOk result (ComesBack (λ new old. with_script new old.script) (normal_lang_tag_buf_text self.old) (normal_lang_tag_buf_text self.new)) }
         // law: removing a part of a normal tag is Ok
         ensures taken_out { IsNone script.entry → IsOk result }
-        // law: removing a part does not shrink the room of the `String`
         ensures room_kept { IsNone script.entry → string_capacity (normal_lang_tag_buf_string self.old) ≤ string_capacity (normal_lang_tag_buf_string self.new) }
         // law: setting the old part again restores the old text
         ensures set_back { GivesBack (Option (List ℕ)) with_script (λ r. SetsScript r.script) }

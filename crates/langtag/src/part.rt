@@ -44,8 +44,7 @@ pub enum Part<'a> {
 /// Returns the change of a normal tag's string that sets this part (RFC 5646 sections 2.2.1 to 2.2.7). It does not
 /// allocate. The caller joins the bytes before `start`, the hyphen, the part, and the bytes from `end` on.
 ///
-/// To put the region `AT` into `de-DE-1996`, replace the bytes from 2 to 5 by a hyphen and `AT`. It is proved that a
-/// clone of a part is the same part.
+/// To put the region `AT` into `de-DE-1996`, replace the bytes from 2 to 5 by a hyphen and `AT`.
 ///
 /// ```
 /// use langtag::{NormalLangTag, Part, Region, put_part};

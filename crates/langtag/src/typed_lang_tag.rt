@@ -51,9 +51,8 @@ impl<'a> TypedLangTag<'a> {
         }
     }
 
-    /// Returns the kind of the tag: `LangTag::new("x-a")?.as_typed().kind()` is `Kind::PrivateUse`. It is proved that
-    /// typed tags are equal if they have the same kind and their strings are equal, ignoring case, and that a clone is
-    /// the same value.
+    /// Returns the kind of the tag: `LangTag::new("x-a")?.as_typed().kind()` is `Kind::PrivateUse`. Typed tags are
+    /// equal if they have the same kind, and their strings are equal, ignoring case.
     pub fn kind(&self) -> Kind
         ensures kind { result ≡ kind_of_tag self.now }
         ensures compared { TypedLangTagsCompareByKind }

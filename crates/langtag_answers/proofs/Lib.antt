@@ -1,2 +1,4 @@
+pub mod Examples
 pub mod KindAnswers
 pub mod Verdicts
+pub mod Written

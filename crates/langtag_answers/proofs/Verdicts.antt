@@ -3,7 +3,7 @@ use Rattle.langtag_scan.proofs.Prelude.{arith, ◌≡◌, ◌∙◌, ℕ, Option
 use Rattle.langtag_scan.specs.Grammar.{EachRecord, IsTag, IsNormal}
 use Rattle.std.specs.Io.KnownBytes.{Appends}
 use Rattle.langtag_scan.proofs.Laws.{normal_no_private, normal_no_irregular, tag_private, tag_of_irregular}
-use Rattle.langtag_lines.specs.Lines.{ended}
+use Rattle.langtag_answers.specs.Lines.{ended}
 use Rattle.langtag_registry.specs.Canonical.{IsCanonicalForm}
 use Rattle.langtag_registry.specs.Fault.{Told, faults}
 use Rattle.langtag_registry.specs.Valid.{IsValid}

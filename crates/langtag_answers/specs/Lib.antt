@@ -1,4 +1,7 @@
 pub mod CheckAnswer
 pub mod CheckLaws
+pub mod Lines
+pub mod Report
+pub mod RunError
 pub mod ShowAnswer
 pub mod ShowLaws

@@ -3,12 +3,14 @@ ghost use Rattle.std.specs.Prelude.{◌≡◌, ◌++◌, OnOk, IsOkUnless, codes
 ghost use Rattle.langtag_scan.specs.Prelude.{Appends, append_known};
 ghost use Rattle.langtag_scan.specs.Grammar.{IsTag};
 ghost use Rattle.langtag_registry.specs.Fault.{told};
-ghost use Rattle.langtag_lines.specs.Lines.{ended};
+ghost use Rattle.langtag_answers.specs.Lines.{ended};
 ghost use Rattle.langtag_answers.specs.CheckLaws.{one_check_answer};
 ghost use Rattle.langtag_answers.specs.CheckAnswer.{IsCheckAnswer, fault_text};
 
+use crate::answerer::Answerer;
+use crate::page::Page;
+use crate::run_error::RunError;
 use langtag::LangTag;
-use langtag_lines::{Answerer, Page, RunError};
 use langtag_registry::{InvalidSubtag, canonical, validate};
 use std::alloc::Global;
 use std::io::Write;

@@ -1,15 +1,15 @@
 //! A run: reads the input, and writes the answer to each line.
 ghost use Rattle.std.specs.Prelude.{⊤};
-ghost use Rattle.langtag_lines.specs.Report.{HasRun, IsWanting};
+ghost use Rattle.langtag_answers.specs.Report.{HasRun, IsWanting};
 ghost use Rattle.langtag_answers.specs.ShowAnswer.{IsShowAnswer};
 
+use crate::answering::answer_lines;
 use crate::show::Show;
-use langtag_lines::answer_lines;
 use std::alloc::Global;
 use std::io::{Read, Write};
 
 /// The error that ends a run early.
-pub use langtag_lines::RunError as ShowError;
+pub use crate::run_error::RunError as ShowError;
 
 /// Writes the answer to each line of the input, each followed by LF, and flushes once at the end: [`answer_lines`] with
 /// [`Show`].

@@ -5,8 +5,10 @@ ghost use Rattle.langtag.specs.Definitions.{script_text, region_text, private_us
 ghost use Rattle.langtag_answers.specs.ShowAnswer.{IsShowAnswer, has_repeats};
 ghost use Rattle.langtag_answers.specs.ShowLaws.{one_show_answer};
 
+use crate::answerer::Answerer;
+use crate::page::Page;
+use crate::run_error::RunError;
 use langtag::{LangTag, NormalLangTag, PrivateUse, Region, Script, TypedLangTag};
-use langtag_lines::{Answerer, Page, RunError};
 use std::io::Write;
 
 /// The answer to a line: the kind and the parts of its tag:

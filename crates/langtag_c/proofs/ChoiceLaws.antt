@@ -7,7 +7,7 @@ use Rattle.langtag_c.specs.RangePlaces.{IsRangeAt, range_count}
 use Rattle.langtag_c.specs.Spans.{empty_at, HasBytes, has_bytes, span_text}
 use Rattle.langtag_c.specs.TagsAt.{tags_at, tag_at}
 use Rattle.langtag_c.specs.declared.span.Span.{Span}
-use Rattle.langtag_c.proofs.LookUps.{length_wanted, placed}
+use Rattle.langtag_c.proofs.LookUps.{length_wanted, range_placed}
 use Rattle.langtag_c.proofs.TagsAt.{are_tags_at, bytes_from_test}
 use Rattle.langtag_c.specs.Choice.{AreBest, IsBest, IsMatchAt, no_match}
 use Rattle.langtag_c.specs.declared.best_match.BestMatch.{BestMatch}
@@ -48,7 +48,7 @@ module _ (header text : List ℕ) (spans : List Span) where
         are = are_tags_at text spans;
         chosen = Some m;
         is = is;
-        same = (index, distance, subst (IsRangeAt header m.place) (sym range) (placed header m.place o (empty_at (length header)) within none some));
+        same = (index, distance, subst (IsRangeAt header m.place) (sym range) (range_placed header m.place o (empty_at (length header)) within none some));
       }
 
   pub no_match_at :
@@ -65,7 +65,7 @@ is_match_of header tags m o answer found is index distance none some range =
     record {
       chosen = Some m;
       is = is;
-      same = (index, distance, subst (IsRangeAt header m.place) (sym range) (placed header m.place o (empty_at (length header)) within none some));
+      same = (index, distance, subst (IsRangeAt header m.place) (sym range) (range_placed header m.place o (empty_at (length header)) within none some));
     }
 
 -- ---- an entry

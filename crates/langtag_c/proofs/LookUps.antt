@@ -3,16 +3,18 @@
 use Rattle.langtag_keyword.proofs.Common.{filter, list_all, and_parts, take_all, ◌≡◌, ℕ, ◌+◌, ◌-◌, ◌<◌, ◌≤◌, Bool, true, false, not, nat_lt, cond, List, [], ◌∷◌, ◌++◌, map, length, take, get_or, Option, None, Some, unwrap_or, ap, refl, sym, subst, ◌∙◌, arith, rules, suc, zero, position_or_len, sum_by, AllByRecursion, option_map_or, nat_tests, length-map, take_more, common_steps, are_alike, length-slice_split, is_some, slice_get, option_map}
 use Rattle.langtag_c.proofs.FoundExtension.{nothing-in}
 use Rattle.langtag_c.specs.Negotiation.{filled_items}
-use Rattle.langtag_range.specs.Definitions.{element, from_first, is_ows, is_space, Element, is_comma, items, fallbacks, digits_behind, wanted, wanted_elements, wanted_items}
-use Rattle.langtag_header.specs.AcceptLanguage.{are_good, elements, IsByWeight, StandsAt, acceptable, bad_part, is_good, weight_in}
-use Rattle.langtag_scan.proofs.Prelude.{position, slice_range, cons_option, eqb, length-append, IfSome, drop-append_seam, take-append_seam, list_all-append, list_all_at, position-Some, sum_by-append, get_or_from_slice_get, slice_get_read, slice_get_within, slice_split-cons_no, slice_split-cons_yes}
+use Rattle.langtag_range.specs.Definitions.{element, from_first, trimmed, is_ows, is_space, Element, is_comma, items, fallbacks, digits_behind, wanted, wanted_elements, wanted_items}
+use Rattle.langtag_match.specs.AcceptLanguage.{are_good, elements, IsByWeight, StandsAt, acceptable, bad_part, is_good, weight_in}
+use Rattle.langtag_scan.proofs.Prelude.{position, slice_range, cons_option, eqb, length-append, IfSome, list_all-append, list_all_at, position-Some, sum_by-append, get_or_from_slice_get, slice_get_read, slice_get_within, slice_split-cons_no, slice_split-cons_yes}
 use Rattle.std.specs.List.{filter_map, prefix_len}
-use Rattle.std.proofs.Common.{if◌then◌else◌}
+use Rattle.std.proofs.Common.{drop, if◌then◌else◌, length-drop}
+use Rattle.std.proofs.Math.Seq.{drop-append-add}
+use Rattle.std.proofs.lemmas.List.{drop-append-le, take-append-le}
 use Rattle.std.proofs.lemmas.List.Sums.{sum_by_more_le}
 use Rattle.langtag.specs.declared.lang_tag.LangTag.{LangTag}
 use Rattle.langtag.specs.Text.{lang_tag_text}
-use Rattle.langtag_header.specs.Stable.{with_key}
-use Rattle.langtag_header.specs.declared.accept_language_error.ElementPart.{ElementPart}
+use Rattle.langtag_match.specs.Stable.{with_key}
+use Rattle.langtag_match.specs.declared.accept_language_error.ElementPart.{ElementPart}
 use Rattle.langtag_c.proofs.TagsAt.{item_stands, sum_by-slice_split, width, are_tags_at, is_tag_at, one_tag_at}
 use Rattle.langtag_c.specs.Spanned.{IsTagAt}
 use Rattle.langtag_c.specs.Heaviest.{heaviest}
@@ -20,7 +22,7 @@ use Rattle.langtag_c.specs.LookUp.{IsBadAt, IsLookedUp, first_index_alike, first
 use Rattle.langtag_c.specs.Spans.{HasBytes, span_text}
 use Rattle.langtag_c.specs.TagsAt.{tag_at, tags_at}
 use Rattle.langtag_c.specs.declared.span.Span.{Span}
-use Rattle.langtag_header.proofs.Readings.{AtMost, IsFalling, AtMost-weaker}
+use Rattle.langtag_match.proofs.Readings.{AtMost, IsFalling, AtMost-weaker, placed}
 use Rattle.langtag_c.specs.RangePlaces.{IsRangeAt, has_range, range_count, spaces_before}
 
 -- ---- the elements by descending weight
@@ -156,11 +158,12 @@ module _ {X : Type 0} (all : List (List ℕ)) (yielded : List X) (x : X) (item :
 
 -- ---- a bad item, by what stands before it
 
--- the bytes of an item stand where the item does
-item_bytes :
-    (before item after : List ℕ) (start : ℕ) → length before ≡ start →
-    slice_range (before ++ (item ++ after)) start (start + length item) ≡ item
-item_bytes before item after start size = grind (arith, nat_tests, drop-append_seam before (item ++ after), take-append_seam item after)
+-- the bytes of a part of an item stand where the part does
+part_bytes :
+    (before item after : List ℕ) (start first stop : ℕ) → length before ≡ start → first ≤ stop → stop ≤ length item →
+    slice_range (before ++ (item ++ after)) (start + first) (start + first + (stop - first)) ≡ slice_range item first stop
+part_bytes before item after start first stop size ordered within =
+    grind (arith, nat_tests, drop-append-add before (item ++ after) first, drop-append-le first item after, take-append-le (stop - first) (drop first item) after, length-drop)
 
 module _ (header item : List ℕ) (n : ℕ) (below : n < length (items header)) (at : item ≡ get_or (items header) n item) where
   -- the first items, their commas, and one item more
@@ -169,16 +172,28 @@ module _ (header item : List ℕ) (n : ℕ) (below : n < length (items header)) 
 
   pub is_bad_at :
       (start : ℕ) (part : ElementPart) → start ≡ sum_by width (take n (items header)) → are_good (take n (items header)) ≡ true →
-      is_good item ≡ false → part ≡ bad_part item → IsBadAt header (record { start = start; len = length item }) part
-  is_bad_at start part begins good bad which =
+      is_good item ≡ false → part ≡ bad_part item → (first stop : ℕ) → first ≤ stop → stop ≤ length item → is_ows (take first item) ≡ true →
+      slice_range item first stop ≡ trimmed item → IsBadAt header (record { start = start + first; len = stop - first }) part
+  is_bad_at start part begins good bad which first stop ordered within space cut_is =
       let there = slice_get_read (items header) (length (items header)) n item refl below at in
       let place = subst (StandsAt header item n) (sym begins) (item_stands header n item there) in
       let (before, after, cut, commas, size) = place in
       record {
-        within = omega (arith, begins, width_fits);
+        within = omega (arith, begins, width_fits, ordered, within);
         commas = n;
-        first = record { item = item; there = there; place = place; bad = bad; which = which; before = good };
-        there = sym (ap (λ t. slice_range t start (start + length item)) cut ∙ item_bytes before item after start size);
+        first = record {
+          item = item;
+          there = there;
+          start = start;
+          place = place;
+          space = first;
+          begins = placed item (trimmed item) first stop ordered within space cut_is;
+          at = refl;
+          bad = bad;
+          which = which;
+          before = good;
+        };
+        there = sym cut_is ∙ sym (ap (λ t. slice_range t (start + first) (start + first + (stop - first))) cut ∙ part_bytes before item after start first stop size ordered within);
       }
 
 -- where one is bad, not all are good
@@ -257,8 +272,8 @@ length_wanted (item ∷ all) = by_option (wanted item (digits_behind all)) refl 
     by_option None none same others = grind (arith, nat_tests)
     by_option (Some e) some same others = grind (arith, nat_tests, more)
 
-pub placed : (header : List ℕ) (place : ℕ) (o : Option Span) (end : Span) → place < range_count (items header) → (o ≡ None → range_count (items header) ≤ place) → IfSome o (IsRangeAt header place) → IsRangeAt header place (unwrap_or o end)
-placed header place o end within none some = grind (arith, nat_tests)
+pub range_placed : (header : List ℕ) (place : ℕ) (o : Option Span) (end : Span) → place < range_count (items header) → (o ≡ None → range_count (items header) ≤ place) → IfSome o (IsRangeAt header place) → IsRangeAt header place (unwrap_or o end)
+range_placed header place o end within none some = grind (arith, nat_tests)
 
 -- ---- the elements of a header
 

@@ -2,7 +2,7 @@
 use Rattle.langtag_keyword.proofs.Common.{◌≡◌, ℕ, zero, suc, ◌+◌, ◌<◌, Bool, true, false, List, [], ◌∷◌, Some, length, take, refl, cond, arith, ◌&&◌, get_or, Option, None, ◌≤◌, sum_by, length-map, length-slice_split, common_steps, and_parts, false_from_ne_true, nat_tests}
 use Rattle.langtag_scan.proofs.Prelude.{ltb, onto_first, slice_get, slice_split, nil_from_length, get_or-map, slice_split-cons_yes, slice_split-cons_no, sum_by-cons, ForSome, both_ways, and_from, or_cases, or_right, ltb-true}
 use Rattle.langtag_scan.specs.Grammar.{IsTag}
-use Rattle.langtag_header.specs.AcceptLanguage.{StandsAt}
+use Rattle.langtag_match.specs.AcceptLanguage.{StandsAt}
 use Rattle.langtag_range.specs.Definitions.{is_comma, items, listed}
 use Rattle.std.proofs.lemmas.Bool.{or_left}
 use Rattle.langtag_scan.proofs.Laws.{normal_from_runs, runs_from_normal, tag_normal, tag_private, tag_of_irregular}

@@ -2,9 +2,9 @@
 -- header is refused.
 use Rattle.std.specs.Prelude.{◌≡◌, ℕ, false, List, [], ◌∷◌, Option, None, length, unwrap_or, position}
 use Rattle.langtag_scan.specs.Grammar.{option_map_or, option_or, are_alike}
-use Rattle.langtag_header.specs.AcceptLanguage.{IsByWeight, IsFirstBad, acceptable, elements}
-use Rattle.langtag_range.specs.Definitions.{Element, items, fallbacks}
-use Rattle.langtag_header.specs.declared.accept_language_error.ElementPart.{ElementPart}
+use Rattle.langtag_match.specs.AcceptLanguage.{IsByWeight, IsFirstBad, acceptable, elements}
+use Rattle.langtag_range.specs.Definitions.{Element, items, trimmed, fallbacks}
+use Rattle.langtag_match.specs.declared.accept_language_error.ElementPart.{ElementPart}
 use Rattle.langtag_c.specs.Spanned.{AreTagsAt}
 use Rattle.langtag_c.specs.Spans.{IsWithin, span_text}
 use Rattle.langtag_c.specs.declared.span.Span.{Span}
@@ -32,9 +32,10 @@ pub record IsLookedUp (header text : List ℕ) (spans : List Span) (answer : ℕ
   pub by_weight : IsByWeight (acceptable (elements (items header))) ordered
   pub found : answer ≡ unwrap_or (first_found tags ordered) (length spans)
 
--- the span is the first item of a header that is neither empty nor an element, and this part of the item is malformed
+-- the span is the first item of a header that is neither empty nor an element, without the OWS around it, and this part
+-- of the item is malformed
 pub record IsBadAt (header : List ℕ) (span : Span) (part : ElementPart) : Type 0 where
   pub within : IsWithin header span
   pub commas : ℕ
   pub first : IsFirstBad header commas span.start part
-  pub there : first.item ≡ span_text header span
+  pub there : trimmed first.item ≡ span_text header span

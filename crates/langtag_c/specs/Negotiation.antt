@@ -1,9 +1,9 @@
 -- What a step removes from a language range (RFC 4647 section 3.4) and from an Accept-Language header (RFC 9110 section
 -- 12.5.4).
 use Rattle.std.specs.Prelude.{◌≡◌, ℕ, ◌≤◌, IsTrue, Bool, not, List, [], ◌∷◌, Some, None, filter, if◌then◌else◌, slice_range}
-use Rattle.langtag_header.specs.AcceptLanguage.{bad_part}
-use Rattle.langtag_range.specs.Definitions.{element, is_ows, items, fallbacks}
-use Rattle.langtag_header.specs.declared.accept_language_error.ElementPart.{ElementPart}
+use Rattle.langtag_match.specs.AcceptLanguage.{bad_part}
+use Rattle.langtag_range.specs.Definitions.{element, is_ows, items, trimmed, fallbacks}
+use Rattle.langtag_match.specs.declared.accept_language_error.ElementPart.{ElementPart}
 use Rattle.langtag_c.specs.Spans.{HasBytes, end_of, span_between, span_text}
 use Rattle.langtag_c.specs.declared.span.Span.{Span}
 
@@ -32,8 +32,17 @@ pub record TakesElement (header : List ℕ) (before after range : Span) (weight 
   pub ends : end_of range ≤ end_of item
   pub space : IsTrue (is_ows (slice_range header item.start range.start))
 
--- the item is not an element, and this part of it is malformed
-pub record TakesBad (header : List ℕ) (before after item : Span) (part : ElementPart) : Type 0 where
+-- a span is an item without the white space around it
+pub record IsTrimmed (header : List ℕ) (item span : Span) : Type 0 where
+  pub text : span_text header span ≡ trimmed (span_text header item)
+  pub begins : item.start ≤ span.start
+  pub ends : end_of span ≤ end_of item
+  pub space : IsTrue (is_ows (slice_range header item.start span.start))
+
+-- the item is not an element, and this part of it is malformed; the span has it without the white space around it
+pub record TakesBad (header : List ℕ) (before after span : Span) (part : ElementPart) : Type 0 where
+  pub item : Span
   pub taken : TakesItem header before after item
   pub bad : element (span_text header item) ≡ None
   pub which : part ≡ bad_part (span_text header item)
+  pub place : IsTrimmed header item span

@@ -1,6 +1,6 @@
 -- Where the ranges of an Accept-Language header are.
 use Rattle.std.specs.Prelude.{◌≡◌, ◌+◌, ℕ, Bool, not, List, [], Some, count_by, is_some, length, slice_get, take, unwrap_or, position}
-use Rattle.langtag_header.specs.AcceptLanguage.{StandsAt}
+use Rattle.langtag_match.specs.AcceptLanguage.{StandsAt}
 use Rattle.langtag_range.specs.Definitions.{Element, is_space, items, wanted}
 use Rattle.langtag_c.specs.declared.span.Span.{Span}
 

@@ -3,13 +3,14 @@ ghost use Rattle.std.specs.Prelude.{◌≡◌, ◌↔◌, ◌≤◌, [], is_some
 ghost use Rattle.langtag_scan.specs.Prelude.{list_all};
 ghost use Rattle.langtag_match.specs.AcceptLanguage as spec;
 ghost use Rattle.langtag_match.specs.Definitions.{element, items};
-ghost use Rattle.langtag_match.specs.accept_language_error.ElementPart.TheVariants.{Range, Weight};
-ghost use Rattle.langtag_c.specs.Negotiation.{TakesBad, TakesElement, filled_items};
-ghost use Rattle.langtag_c.specs.Spans.{HasBytes, span_text};
+ghost use Rattle.langtag_match.specs.declared.accept_language_error.ElementPart.TheVariants.{Range, Weight};
+ghost use Rattle.langtag_c.specs.Negotiation.{IsTrimmed, TakesBad, TakesElement, filled_items};
+ghost use Rattle.langtag_c.specs.Spans.{HasBytes, IsWithin, span_text};
 
 use crate::items::{next_item, number_of};
 use crate::span::Span;
 use langtag_match::element_at;
+use langtag_range::trimmed_place;
 
 /// Removes the first element from `rest`, which is the value of an Accept-Language header or the rest of it (RFC 9110
 /// section 12.5.4). Returns an enum `langtag_accepted_answer`. Empty elements are skipped.
@@ -25,8 +26,8 @@ use langtag_match::element_at;
 /// ```
 ///
 /// `range` (out) is where the range is, and `weight` (out) its weight in thousandths: 1000 if none is given, and 0 for
-/// "not acceptable". For a malformed element, `range` is everything between the commas, and `weight` is 0. The next
-/// call continues after that element. So the loop above skips malformed elements. A strict program stops at a malformed
+/// "not acceptable". For a malformed element, `range` is everything between the commas without the spaces and tabs
+/// around it, and `weight` is 0. The next call continues after that element. So the loop above skips malformed elements. A strict program stops at a malformed
 /// element, and refuses the header.
 ///
 /// The elements are returned in the order of the header. A lookup tries the greatest weight first, and ranges of equal
@@ -67,9 +68,21 @@ pub extern "C" fn langtag_next_accepted(
             1
         }
         Err(part) => {
-            *range = item;
+            *range = trimmed_span(bytes, item);
             *weight = 0;
             number_of(&part)
         }
+    }
+}
+
+/// Returns the span of an item without the white space around it.
+fn trimmed_span(bytes: &[u8], item: Span) -> Span
+    requires { IsWithin bytes.now item }
+    ensures { IsTrimmed bytes.now item result }
+{
+    let (start, end) = trimmed_place(&bytes[item.start..item.start + item.len]);
+    Span {
+        start: item.start + start,
+        len: end - start,
     }
 }

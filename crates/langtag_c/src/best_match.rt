@@ -1,4 +1,4 @@
-//! The best tag for a reader, with the range that it serves and its distance from that range.
+//! The best tag for a user, with the range that it serves and its distance from that range.
 ghost use Rattle.std.specs.Prelude.{◌≤◌, length};
 ghost use Rattle.langtag_match.specs.Definitions.{wanted_elements};
 ghost use Rattle.langtag_c.specs.Choice.{IsBest, IsMatchAt};

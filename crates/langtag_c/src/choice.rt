@@ -1,4 +1,4 @@
-//! The best tag for a reader, and the distance of two tags (UTS #35, part 1, section 'Language Matching').
+//! The best tag for a user, and the distance of two tags (UTS #35, part 1, section 'Language Matching').
 ghost use Rattle.std.specs.Prelude.{◌≡◌, ◌↔◌, ◌-◌, ◌^◌, ◌≤◌, length};
 ghost use Rattle.langtag_scan.specs.Grammar.{IsTag};
 ghost use Rattle.langtag_match.specs.Definitions.{wanted_elements};
@@ -15,13 +15,15 @@ use langtag_choice::{best_among, distance};
 /// The result if one of the two strings is not a tag.
 const NO_DISTANCE: u32 = u32::MAX;
 
-/// Returns the distance from the tag that a reader desires to a supported tag (UTS #35, part 1, Language Matching): 0
+/// Returns the distance from the tag that a user desires to a supported tag (UTS #35, part 1, Language Matching): 0
 /// from zh-TW to zh-Hant, 4 from de-AT to de, 10 from yue to zh-HK, 84 from de to en, and at most 134.
 ///
-/// Up to 15 the languages are nearly the same. Below 50 most readers of the desired language understand the supported
-/// one. Languages and regions that CLDR replaces count as their replacements: iw counts as he, and ger and deu count as
-/// de. Everything after the region is ignored, such as variants, extensions and private use: en-GB-oed counts as en-GB.
-/// The distance is 255 if the tags differ and either of them is only und, is a private-use tag, or begins with i-.
+/// From 0 to 15 the user reads both: they are the same language, perhaps in another region or script, or nearly the
+/// same. Below 50 most users of the desired language understand the supported one. Languages and regions that CLDR
+/// replaces count as their replacements: iw counts as he, and ger and deu count as de. Everything after the region is
+/// ignored, such as variants, extensions and private use: en-GB-oed counts as en-GB. A tag that the registry replaces as
+/// a whole counts as its replacement: i-klingon counts as tlh, and zh-hakka as hak. The distance is 255 if the tags
+/// differ and either of them is only und, is a private-use tag, or is i-default, i-enochian or i-mingo.
 ///
 /// Returns `LANGTAG_NO_DISTANCE` if one of the strings is not a tag.
 #[unsafe(no_mangle)]

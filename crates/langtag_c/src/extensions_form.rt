@@ -32,7 +32,6 @@ use langtag_unicode::write_extensions_form;
 #[tactic(auto, using(crate::proofs::WrittenTexts::some_extensions))]
 #[unsafe(no_mangle)]
 pub extern "C" fn langtag_extensions_form(bytes: &[u8], buffer: &mut [u8]) -> usize
-    // law: the form that `extensions_form` returns, if the buffer has room for it, and its length
     ensures form { IsTag bytes.now → WritesWhole (IsExtensionsForm bytes.now) buffer.old buffer.new result }
     ensures no_tag { result ≡ 0 ↔ (IsTag bytes.now → ⊥) }
     ensures nothing { result ≡ 0 → buffer.new ≡ buffer.old }

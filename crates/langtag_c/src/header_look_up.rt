@@ -2,9 +2,9 @@
 //! allocating.
 ghost use Rattle.std.specs.Prelude.{◌≡◌, ◌≤◌, true, false, IsTrue, None, MatchOption, length, position};
 ghost use Rattle.langtag_scan.specs.Grammar.{option_map_or, are_alike};
-ghost use Rattle.langtag_header.specs.AcceptLanguage.{are_good, bad_part, elements, is_good};
+ghost use Rattle.langtag_match.specs.AcceptLanguage.{are_good, bad_part, elements, is_good};
 ghost use Rattle.langtag_range.specs.Definitions.{is_comma, items, fallbacks};
-ghost use Rattle.langtag_header.specs.Text.{language_range_text};
+ghost use Rattle.langtag_match.specs.Text.{language_range_text};
 ghost use Rattle.langtag_c.specs.LookUp.{IsBadAt, IsLookedUp, first_index_alike, index_alike};
 ghost use Rattle.langtag_c.specs.TagsAt.{tag_at, tags_at};
 ghost use Rattle.langtag_c.specs.Heaviest.{heaviest};
@@ -12,8 +12,8 @@ ghost use Rattle.langtag_c.specs.Heaviest.{heaviest};
 use crate::items::{is_comma, next_item};
 use crate::span::Span;
 use crate::spanned::{bytes_in, tag_in};
-use langtag_header::{ElementPart, LanguageRange, element_at};
-use langtag_range::is_empty_element;
+use langtag_match::{ElementPart, LanguageRange, element_at};
+use langtag_range::{is_empty_element, trimmed_place};
 use langtag_scan::case_insensitive_eq;
 
 /// Returns the index of the tag that lookup finds for an Accept-Language header, or the number of spans if it finds
@@ -94,11 +94,15 @@ pub(crate) fn first_bad(header: &[u8]) -> Option<(Span, ElementPart)>
 {
     let mut start = 0;
     for item in header.split(|byte| is_comma(*byte)) {
-        let len = item.len();
         if let Some(part) = bad_part(item) {
-            return Some((Span { start, len }, part));
+            let (first, end) = trimmed_place(item);
+            let span = Span {
+                start: start + first,
+                len: end - first,
+            };
+            return Some((span, part));
         }
-        start += len + 1;
+        start += item.len() + 1;
     }
     None
 }

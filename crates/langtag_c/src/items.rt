@@ -1,12 +1,12 @@
 //! A walk over the items of an Accept-Language header (RFC 9110 section 5.6.1.2).
 ghost use Rattle.std.specs.Prelude.{◌≡◌, ◌↔◌, ◌<◌, ◌≤◌, [], IfSome, None};
-ghost use Rattle.langtag_header.specs.declared.accept_language_error.ElementPart.TheVariants.{Range, Weight};
+ghost use Rattle.langtag_match.specs.declared.accept_language_error.ElementPart.TheVariants.{Range, Weight};
 ghost use Rattle.langtag_range.specs.Definitions.{is_comma};
 ghost use Rattle.langtag_c.specs.Negotiation.{TakesItem, filled_items};
 ghost use Rattle.langtag_c.specs.Spans.{HasBytes, IsWithin, span_text};
 
 use crate::span::Span;
-use langtag_header::ElementPart;
+use langtag_match::ElementPart;
 use langtag_range::{is_empty_element, len_before};
 
 /// Removes the first item that is not empty from a list, together with the comma after it.

@@ -52,7 +52,6 @@ pub extern "C" fn langtag_is_locale(bytes: &[u8]) -> bool
 /// tag.
 #[unsafe(no_mangle)]
 pub extern "C" fn langtag_locale_form(bytes: &[u8], buffer: &mut [u8]) -> usize
-    // law: the form that `locale_form` returns, if the buffer has room for it, and its length
     ensures form { 0 < result → WritesWhole (λ form. IsWholeForm bytes.now (Some form)) buffer.old buffer.new result }
     // law: 0 if and only if there is none
     ensures none { result ≡ 0 ↔ (IsTag bytes.now → IsWholeForm bytes.now None) }

@@ -3,7 +3,7 @@
 ghost use Rattle.std.specs.Prelude.{◌≡◌, ◌↔◌, ◌≤◌, IsTrue, length};
 ghost use Rattle.langtag_match.specs.AcceptLanguage.{are_good};
 ghost use Rattle.langtag_match.specs.Definitions.{items};
-ghost use Rattle.langtag_match.specs.accept_language_error.ElementPart.TheVariants.{Range, Weight};
+ghost use Rattle.langtag_match.specs.declared.accept_language_error.ElementPart.TheVariants.{Range, Weight};
 ghost use Rattle.langtag_c.specs.LookUp.{IsBadAt, IsLookedUp};
 ghost use Rattle.langtag_c.specs.Spans.{empty_at};
 
@@ -17,7 +17,7 @@ use crate::span::Span;
 /// - `LANGTAG_ACCEPTED_END`: no element is malformed. `index` (out) is what `langtag_tag_for_header_lenient` returns, and
 ///   `bad` (out) is empty, at the end of the header.
 /// - Otherwise: the answer says what is wrong with the first malformed element. `index` is `tags_len`, and `bad` is the
-///   string of that element between its commas.
+///   string of that element, without the spaces and tabs around it.
 #[unsafe(no_mangle)]
 pub extern "C" fn langtag_tag_for_header(
     header: &[u8],

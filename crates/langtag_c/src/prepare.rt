@@ -1,4 +1,5 @@
-//! Tags that are prepared for many choices.
+//! Tags that are prepared for many choices. What is prepared is plain bytes, which the library checks before it returns
+//! the tag. So the caller's array may come from a file, and a tag that was not prepared for its span is never chosen.
 ghost use Rattle.std.specs.Prelude.{◌≡◌, IsTrue, option_map};
 ghost use Rattle.langtag.specs.Definitions.{lang_tag_text};
 ghost use Rattle.langtag_choice.specs.Prepared.{KeepsForm};

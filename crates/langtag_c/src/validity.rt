@@ -26,7 +26,7 @@ use langtag_registry::{InvalidSubtag, fault_at};
 /// registered, it has at most one extended language, and no variant or singleton is repeated. It uses the registry whose
 /// date `langtag_registry_date` returns. Deprecated subtags are valid. Whether a variant follows one of its prefixes is
 /// not checked.
-#[tactic(auto, using(langtag_scan::proofs::SpelledTexts::normal_spelled, langtag_scan::proofs::TagLaws::tag_normal, langtag_validity::proofs::FaultLaws::valid_of_other, langtag_validity::proofs::FaultLaws::valid_of_none))]
+#[tactic(auto, using(langtag_scan::proofs::SpelledTexts::normal_spelled, langtag_scan::proofs::TagLaws::tag_normal, langtag_registry::proofs::FaultLaws::valid_of_other, langtag_registry::proofs::FaultLaws::valid_of_none))]
 #[unsafe(no_mangle)]
 pub extern "C" fn langtag_validity(bytes: &[u8], invalid: &mut Span) -> u32
     ensures no_tag { result ≡ 0 ↔ (IsTag bytes.now → ⊥) }

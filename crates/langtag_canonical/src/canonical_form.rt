@@ -47,7 +47,7 @@ const SPARE: usize = 32;
 pub fn canonical(alloc: Global, tag: LangTag<'_>) -> Result<LangTagBuf, AllocError>
     ensures canonical { IfOk result (λ form. IsCanonicalForm (lang_tag_text tag.entry) (lang_tag_buf_text form)) }
 
-    // law: a tag has only one canonical form
+    // law: a tag has only one such form
     ensures one { IfOk result (λ form. IsOnlyCanonicalForm (lang_tag_text tag.entry) (lang_tag_buf_text form)) }
     // law: doing it again changes nothing
     ensures settled { IfOk result (λ form. IsCanonicalForm (lang_tag_buf_text form) (lang_tag_buf_text form)) }
@@ -108,27 +108,14 @@ fn form_as_tag(alloc: Global, tag: LangTag<'_>) -> Result<LangTagBuf, AllocError
     match form_of(tag) {
         Form::Same => tag.try_to_owned(alloc),
         Form::Whole(preferred) => preferred.try_to_owned(alloc),
-        Form::Parts(normal) => parts_as_tag(alloc, tag, normal),
+        Form::Parts(normal) => Ok(tag_of(bytes_of_parts(alloc, tag, normal)?)),
     }
 }
 
-/// Returns the canonical form of a tag: its parts in their canonical forms, or the Preferred-Value of the tag that
-/// these parts make up.
-fn parts_as_tag(
-    alloc: Global,
-    tag: LangTag<'_>,
-    normal: NormalLangTag<'_>,
-) -> Result<LangTagBuf, AllocError>
-    requires { IsCanonicalAs (lang_tag_text tag) (Parts normal) }
-    ensures { IfOk result (λ form. IsCanonicalForm (lang_tag_text tag.entry) (lang_tag_buf_text form)) }
-{
-    Ok(tag_of(parts_as_bytes(alloc, tag, normal)?))
-}
-
-/// Returns the bytes of the canonical form, as [`parts_as_tag`] describes it. They are written once if they fit into a
-/// guess of their number, and otherwise again.
+/// Returns the bytes of the canonical form of a tag, as [`write_parts`] writes them. The buffer has a guessed length. If it
+/// is too short, the bytes are written again.
 #[tactic(auto, using(langtag_text::proofs::Taken::whole_taken))]
-fn parts_as_bytes(
+fn bytes_of_parts(
     alloc: Global,
     tag: LangTag<'_>,
     normal: NormalLangTag<'_>,

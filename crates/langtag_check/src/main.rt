@@ -14,8 +14,7 @@
 //! other than 0.
 #![tactic(auto)]
 
-use langtag_answers::Check;
-use langtag_lines::{answer_lines, conclude};
+use langtag_answers::{Check, answer_lines, conclude};
 use std::io;
 use std::process::ExitCode;
 

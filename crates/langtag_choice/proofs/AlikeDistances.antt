@@ -1,13 +1,15 @@
 -- The distance of texts, and what it is made of, do not change with the case of letters.
-use Rattle.langtag_scan.proofs.Prelude.{◌≡◌, ℕ, cond, List, [], ◌∷◌, Option, refl, ap, ◌∙◌, arith, rules, codes, Bool, map, None, Some, option_map, sym, nat_tests, common_steps, option_map_or}
-use Rattle.langtag_scan.specs.Grammar.{Alike, are_alike, fold_text, are_alike-decides, is_primary, is_extended, is_script, is_region, subtags}
-use Rattle.langtag_scan.proofs.CaseLaw.{fold_text-twice, length-fold, classes-fold, subtags-fold}
+use Rattle.langtag_scan.proofs.Prelude.{◌≡◌, ℕ, ◌==◌, ◌&&◌, cond, List, [], ◌∷◌, Option, refl, ap, ◌∙◌, arith, rules, codes, Bool, map, None, Some, option_map, sym, nat_tests, common_steps, option_map_or, unwrap_or}
+use Rattle.langtag_scan.specs.Grammar.{Alike, are_alike, fold_byte, fold_text, are_alike-decides, is_primary, is_extended, is_script, is_region, subtags}
+use Rattle.langtag_scan.proofs.CaseLaw.{fold_byte-twice, fold_text-twice, length-fold, classes-fold, subtags-fold}
 use Rattle.langtag_range.specs.Definitions.{basic_text, hyphened}
 use Rattle.langtag_range.proofs.AlikeTexts.{hyphened-fold, is_star-fold}
 use Rattle.langtag_range.proofs.BasicForms.{basic_text-alike}
-use Rattle.langtag_cldr.specs.Definitions.{known, without_region, without_language, most_unknown, most_likely, matching_fields, matching_form, text_fields, fields_of_subtags, counted, last_language, after_language, script_of, after_script, region_of}
+use Rattle.langtag_cldr.specs.Definitions.{current_text, known, without_region, without_language, most_unknown, most_likely, completed, matching_form, replaced_form, text_fields, fields_of_subtags, counted, last_language, is_extended_by, language_of, after_mark, first_marked, marked_region, region_after, or_other, after_language, script_of, after_script, region_of}
+use Rattle.langtag_fields.specs.Fields.{is_prefix_of, preferred_tag}
+use Rattle.langtag_fields.proofs.Values.{preferred_tag-alike}
 use Rattle.langtag_text.specs.Fields.{Fields}
-use Rattle.langtag_cldr.proofs.AlikeFields.{AlikeOptions, fields-right, alone_alike, added-alike, by_options, language-alike, letters-alike, suffices-alike}
+use Rattle.langtag_cldr.proofs.AlikeFields.{AlikeOptions, form_completed, fields-right, alone_alike, added-alike, is_prefix_of-alike, by_options, language-alike, letters-alike, suffices-alike}
 use Rattle.langtag_text.proofs.Alike.{AlikeFields, are_alike-left, are_alike-right}
 use Rattle.langtag_choice.specs.Distance.{distance_of_forms, is_among, language_distance, region_distance, script_distance, DistanceIgnoresCase, distance_of_texts}
 use Rattle.langtag_choice.specs.Nearness.{unlikely, unlikely_of, unlikely_form}
@@ -24,8 +26,8 @@ likely-alike a b h =
     by_options (λ o p. AlikeFields (option_map_or (λ most. most) o (most_unknown a)) (option_map_or (λ most. most) p (most_unknown b))) (unknown-alike a b h)
     (λ v w same. same) _ _ (added-alike a b h)
 
-pub matching-alike : (a b : Fields) → AlikeFields a b → AlikeFields (matching_fields a) (matching_fields b)
-matching-alike a b same = likely-alike _ _ (letters-alike _ _ (language-alike a b same))
+completed-alike : (a b : Fields) → AlikeFields a b → AlikeFields (completed a) (completed b)
+completed-alike a b same = likely-alike _ _ (letters-alike a b same)
 
 -- ---- the distance of fields
 
@@ -84,6 +86,37 @@ region_of-fold (s ∷ others) = rw (ap (λ c. c.region) (classes-fold s)) (cond-
 known-fold : (unknown text : List ℕ) → known unknown (fold_text text) ≡ fold_text (known unknown text)
 known-fold unknown text = rw (are_alike-right unknown (fold_text text) text (fold_text-twice text)) (cond-map fold_text (are_alike unknown text) [] text)
 
+is_extended_by-fold : (language : List ℕ) (subtags : List (List ℕ)) → is_extended_by (fold_text language) (map fold_text subtags) ≡ is_extended_by language subtags
+is_extended_by-fold language subtags = ap (is_prefix_of (fold_text language)) (last_language-fold [] subtags) ∙ is_prefix_of-alike (fold_text language) language _ _ (fold_text-twice language) (fold_text-twice (last_language [] subtags))
+
+language_of-fold : (language : List ℕ) (subtags : List (List ℕ)) → language_of (fold_text language) (map fold_text subtags) ≡ fold_text (language_of language subtags)
+language_of-fold language subtags =
+    rw (is_extended_by-fold language subtags, last_language-fold [] subtags, known-fold (codes "und") language)
+    (cond-map fold_text (is_extended_by language subtags) (last_language [] subtags) (known (codes "und") language))
+
+or_other-fold : (text other : List ℕ) → or_other (fold_text text) (fold_text other) ≡ fold_text (or_other text other)
+or_other-fold [] other = refl
+or_other-fold (b ∷ text) other = refl
+
+after_mark-fold : (subtag : List ℕ) → after_mark (fold_text subtag) ≡ fold_text (after_mark subtag)
+after_mark-fold [] = refl
+after_mark-fold (mark ∷ region) =
+    rw (fold_byte-twice mark, ap (λ c. c.region) (classes-fold region)) (cond-map fold_text ((fold_byte mark == 114) && is_region region) region [])
+
+first_marked-fold : (subtags : List (List ℕ)) → first_marked (map fold_text subtags) ≡ fold_text (first_marked subtags)
+first_marked-fold [] = refl
+first_marked-fold (s ∷ others) = after_mark-fold s
+
+marked_region-fold : (language : List ℕ) (subtags : List (List ℕ)) → marked_region (fold_text language) (map fold_text subtags) ≡ fold_text (marked_region language subtags)
+marked_region-fold language subtags =
+    rw (is_extended_by-fold language subtags, first_marked-fold subtags) (cond-map fold_text (is_extended_by language subtags) [] (first_marked subtags))
+
+region_after-fold : (language : List ℕ) (subtags : List (List ℕ)) → region_after (fold_text language) (map fold_text subtags) ≡ fold_text (region_after language subtags)
+region_after-fold language subtags =
+    let l = after_language subtags in
+    rw (after_language-fold subtags, after_script-fold l, region_of-fold (after_script l), marked_region-fold language subtags)
+    (or_other-fold (region_of (after_script l)) (marked_region language subtags))
+
 abbrev fold_fields : Fields → Fields
 fold_fields f = record { language = fold_text f.language; script = fold_text f.script; region = fold_text f.region }
 
@@ -96,8 +129,8 @@ fields_of_subtags-fold [] = refl
 fields_of_subtags-fold (s ∷ others) =
     let n = counted others in
     let l = after_language n in
-    rw (ap (λ c. c.primary) (classes-fold s)) (rw (counted-fold others, known-fold (codes "und") s, last_language-fold (known (codes "und") s) n, after_language-fold n)
-    (rw (script_of-fold l, known-fold (codes "Zzzz") (script_of l), after_script-fold l, region_of-fold (after_script l), known-fold (codes "ZZ") (region_of (after_script l)))
+    rw (ap (λ c. c.primary) (classes-fold s)) (rw (counted-fold others, language_of-fold s n, region_after-fold s n, after_language-fold n)
+    (rw (script_of-fold l, known-fold (codes "Zzzz") (script_of l), known-fold (codes "ZZ") (region_after s n))
     (cond-map (option_map fold_fields) (is_primary s) (Some _) None)))
 
 text_fields-fold : (text : List ℕ) → text_fields (fold_text text) ≡ option_map fold_fields (text_fields text)
@@ -106,11 +139,24 @@ text_fields-fold text = ap fields_of_subtags (subtags-fold text) ∙ fields_of_s
 
 -- ---- forms
 
+current_text-alike : (a b : List ℕ) → Alike a b → Alike (current_text a) (current_text b)
+current_text-alike a b alike =
+    ap (λ o. fold_text (unwrap_or o (hyphened a))) (preferred_tag-alike (basic_text a) (basic_text b) (basic_text-alike a b alike)) ∙ by_option (preferred_tag (basic_text b))
+  where
+    by_option : (o : Option (List ℕ)) → Alike (unwrap_or o (hyphened a)) (unwrap_or o (hyphened b))
+    by_option None = sym (hyphened-fold a) ∙ ap hyphened alike ∙ hyphened-fold b
+    by_option (Some new) = refl
+
+pub replaced_form-alike : (a b : List ℕ) → Alike a b → AlikeOptions (replaced_form a) (replaced_form b)
+unfolding replaced_form
+replaced_form-alike a b alike =
+    let same : option_map fold_fields (text_fields (current_text a)) ≡ option_map fold_fields (text_fields (current_text b)) = (sym (text_fields-fold (current_text a)) ∙ ap text_fields (current_text-alike a b alike) ∙ text_fields-fold (current_text b)) in
+    grind (arith, nat_tests, language-alike, are_alike-left (basic_text a) (basic_text b) (codes "und") (basic_text-alike a b alike))
+
 pub matching_form-alike : (a b : List ℕ) → Alike a b → AlikeOptions (matching_form a) (matching_form b)
-unfolding matching_form
 matching_form-alike a b alike =
-    let same : option_map fold_fields (text_fields (hyphened a)) ≡ option_map fold_fields (text_fields (hyphened b)) = (sym (text_fields-fold (hyphened a)) ∙ ap text_fields (sym (hyphened-fold a) ∙ ap hyphened alike ∙ hyphened-fold b) ∙ text_fields-fold (hyphened b)) in
-    grind (arith, nat_tests, matching-alike, are_alike-left (basic_text a) (basic_text b) (codes "und") (basic_text-alike a b alike))
+    rw (form_completed a, form_completed b)
+    (by_options (λ o p. AlikeOptions (option_map completed o) (option_map completed p)) tt completed-alike (replaced_form a) (replaced_form b) (replaced_form-alike a b alike))
 
 pub distance-alike : (a b c d : List ℕ) → Alike a b → Alike c d → distance_of_texts a c ≡ distance_of_texts b d
 unfolding distance_of_texts

@@ -14,7 +14,9 @@ use Rattle.langtag_choice.specs.Serves.{serves, reach, is_wish, is_excluded}
 use Rattle.langtag_choice.specs.Serves.{IsAtMost, rank}
 use Rattle.langtag_choice.specs.Best.{IsChoice, Pair, rank_of_pair, is_refused, longest}
 use Rattle.langtag_choice.specs.ChoiceLaws.{IsOnlyChoice, AnswersLookUp, IsHeaviest, IsFirstAlike, AnswersEqual, IgnoresCase, IgnoresHeaderCase}
-use Rattle.langtag_choice.specs.Nearness.{kept, is_fallback}
+use Rattle.langtag_choice.specs.Nearness.{kept, is_fallback, lost}
+use Rattle.langtag_choice.specs.AsRead.{behind_first, lost_as_read}
+use Rattle.langtag_choice.proofs.AsRead.{behind-fold, codes-alike, first-alike, one_code}
 use Rattle.langtag_choice.proofs.VariantTexts.{lacking-fold, lacking-none}
 use Rattle.langtag_choice.proofs.AlikeDistances.{distance-none, unlikely-alike, distance-alike, both-alike}
 
@@ -36,7 +38,7 @@ module _ (elements : List Element) (tags : List (Option (List ℕ))) where
       (a b : Pair elements tags) → IsAtMost (rank_of_pair elements tags a) (rank_of_pair elements tags b) → IsAtMost (rank_of_pair elements tags b) (rank_of_pair elements tags a) →
       a.index ≡ b.index
   unfolding rank
-  same_index a b one other = ap (λ ranks. get_or ranks 7 0) (both_at_most (rank_of_pair elements tags a) (rank_of_pair elements tags b) one other)
+  same_index a b one other = ap (λ ranks. get_or ranks 8 0) (both_at_most (rank_of_pair elements tags a) (rank_of_pair elements tags b) one other)
 
   same_choice : (a b : Option ℕ) → IsChoice elements tags a → IsChoice elements tags b → b ≡ a
   same_choice None None none also = refl
@@ -97,14 +99,18 @@ look_up_answered elements tags answer some place element index tag range_there w
 
 -- ---- what is kept whole is the range
 
-alike_kept : (range tag : List ℕ) → 0 < length range → length range - kept range tag ≡ 0 → Alike range tag
+alike_kept : (range tag : List ℕ) → 0 < length range → lost range tag ≡ 0 → Alike range tag
 unfolding kept
 alike_kept range tag some whole = grind (arith, common_steps, and_parts, are_alike-decides, length-alike, length-take, take-length)
 
 module _ (elements : List Element) (all : List (Option (List ℕ))) (place : ℕ) (element : Element) (index : ℕ) (heaviest : IsHeaviest elements place element) (wish : IsTrue (is_wish element)) (most : element.weight ≤ 1000) (star : is_star element.range ≡ false) (long : 0 < length element.range) (first : IsFirstAlike elements all element.range index) where
-  lost_none : length element.range - kept element.range first.tag ≡ 0
+  lost_none : lost element.range first.tag ≡ 0
   unfolding kept
   lost_none = grind (arith, nat_tests, whole_fallback, length-alike)
+
+  lost_as_read_none : lost_as_read element.range first.tag ≡ 0
+  unfolding lost_as_read
+  lost_as_read_none = rw (one_code element.range first.tag first.alike) lost_none
 
   reach_none : reach element.range first.tag ≡ 0
   unfolding reach
@@ -118,7 +124,7 @@ module _ (elements : List Element) (all : List (Option (List ℕ))) (place : ℕ
   leads : (other : Pair elements all) → IsAtMost (rank place element index first.tag) (rank_of_pair elements all other)
   unfolding rank
   leads other =
-      grind (arith, nat_tests, reach_none, lacking-none element.range first.tag first.alike, heaviest.first other.place, heaviest.most other.place, heaviest.there, lost_none, alike_kept, unlikely-alike, ltb-false, eqb_tells)
+      grind (arith, nat_tests, reach_none, lacking-none element.range first.tag first.alike, heaviest.first other.place, heaviest.most other.place, heaviest.there, lost_none, lost_as_read_none, alike_kept, unlikely-alike, ltb-false, eqb_tells)
 
   is_answer : (answer : Option ℕ) → IsChoice elements all answer → answer ≡ Some index
   unfolding own_pair
@@ -136,9 +142,21 @@ same-fold a b = both-alike (fold_text a) a (fold_text b) b (fold_text-twice a) (
 ends_subtag-fold : (text : List ℕ) → ends_subtag (fold_text text) ≡ ends_subtag text
 ends_subtag-fold text = grind (arith, hyphen-fold)
 
+is_fallback-fold : (range tag : List ℕ) → is_fallback (fold_text range) (fold_text tag) ≡ is_fallback range tag
+is_fallback-fold range tag = grind (arith, common_steps, ends_in_single-fold, length-fold, take-map, drop-map, same-fold, ends_subtag-fold)
+
 kept-fold : (range tag : List ℕ) → kept (fold_text range) (fold_text tag) ≡ kept range tag
 unfolding kept
-kept-fold range tag = grind (arith, common_steps, ends_in_single-fold, length-fold, take-map, drop-map, same-fold, ends_subtag-fold)
+kept-fold range tag = rw (is_fallback-fold range tag, length-fold tag) refl
+
+lost-fold : (range tag : List ℕ) → lost (fold_text range) (fold_text tag) ≡ lost range tag
+lost-fold range tag = rw (kept-fold range tag, length-fold range) refl
+
+lost_as_read-fold : (range tag : List ℕ) → lost_as_read (fold_text range) (fold_text tag) ≡ lost_as_read range tag
+unfolding lost_as_read
+lost_as_read-fold range tag =
+    rw (codes-alike _ _ _ _ (first-alike _ _ (fold_text-twice range)) (first-alike _ _ (fold_text-twice tag)), behind-fold range, behind-fold tag)
+    (rw (is_fallback-fold (behind_first range) (behind_first tag), length-fold (behind_first range), length-fold (behind_first tag), lost-fold range tag) refl)
 
 reach-fold : (range tag : List ℕ) → reach (fold_text range) (fold_text tag) ≡ reach range tag
 unfolding reach
@@ -150,7 +168,7 @@ serves-fold element tag = rw (is_star-fold element.range, reach-fold element.ran
 
 rank-fold : (place : ℕ) (element : Element) (index : ℕ) (tag : List ℕ) → rank place (folded element) index (fold_text tag) ≡ rank place element index tag
 unfolding rank
-rank-fold place element index tag = grind (arith, common_steps, lacking-fold, reach-fold, length-fold, kept-fold, unlikely-alike, fold_text-twice)
+rank-fold place element index tag = grind (arith, common_steps, lacking-fold, reach-fold, lost-fold, lost_as_read-fold, unlikely-alike, fold_text-twice)
 
 -- ---- what is refused
 

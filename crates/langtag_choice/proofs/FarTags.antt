@@ -1,26 +1,26 @@
 -- Ranges as they are read, and tags that are far from a range, as their first letters and the numbers of languages show.
-use Rattle.langtag_scan.proofs.Prelude.{◌≡◌, ℕ, true, not, ◌==◌, List, [], ◌∷◌, length, length-drop, length-take, take, drop, filter, refl, sym, ap, ◌∙◌, arith, ◌&&◌, ◌||◌, codes, Bool, false, subst, ◌<◌, ◌≤◌, ◌+◌, ◌-◌, ◌*◌, cond, get_or, Option, Some, None, option_map, nat_tests, eqb_tells, common_steps, and_parts, both_ways, eq-eqb, false_from_ne_true, or_cases, or_parts, not-true, take_while-cons, ForSome, list_all, after_first, before_first}
-use Rattle.langtag_scan.specs.Grammar.{are_alike, fold_byte, are_alike-decides, subtags, are_letters, is_extended, is_letter, is_primary}
+use Rattle.langtag_scan.proofs.Prelude.{◌≡◌, ℕ, true, not, ◌==◌, List, [], ◌∷◌, length, length-drop, length-take, take, drop, filter, refl, sym, ap, ◌∙◌, arith, ◌&&◌, ◌||◌, codes, Bool, false, ◌<◌, ◌≤◌, ◌+◌, ◌-◌, ◌*◌, cond, get_or, Option, Some, None, option_map, nat_tests, eqb_tells, eqb-true, inl, inr, cases_lt, ◌++◌, common_steps, and_parts, both_ways, eq-eqb, false_from_ne_true, or_cases, or_parts, not-true, ForSome, list_all, after_first, before_first, position_or_len, subst, unwrap_or}
+use Rattle.langtag_scan.specs.Grammar.{are_alike, fold_byte, are_alike-decides, subtags, are_letters, is_letter, is_primary}
 use Rattle.std.proofs.Common.{lit≤}
 use Rattle.langtag_range.proofs.AlikeTexts.{is_star-fold}
 use Rattle.langtag_range.proofs.BasicForms.{basic_form-basic, basic_of, is_plain, IsBasicOf, is_language_range-from_basic, hyphened_range}
 use Rattle.langtag_range.proofs.Among.{length-alike}
 use Rattle.langtag_range.specs.Definitions.{ends_subtag, ends_in_single, basic_text, basic_form, are_extended_range, is_basic_range, is_language_range, is_star, hyphened, is_separator}
-use Rattle.langtag_cldr.proofs.CommonTexts.{nothing_read, read_byte, read_nothing, some_length, all_fields, next_part, no_fields}
-use Rattle.langtag_cldr.specs.Definitions.{matching_form, language_replaced, matching_fields, after_common, BeginsPlain, counted, fields_of_subtags, text_fields, last_language, counted_parts, language_aliases, Likely, known, language_alone, likely_for}
+use Rattle.langtag_cldr.proofs.WholeTags.{cut, keeps_none, length_first, not_by_follow, rest_after}
+use Rattle.langtag_fields.specs.Fields.{preferred_tag}
+use Rattle.langtag_cldr.proofs.CommonTexts.{unmarked, none_extends, nothing_read, read_byte, read_nothing, some_length, all_fields, next_part, no_fields}
+use Rattle.langtag_cldr.specs.Definitions.{KeepsLanguage, current_text, matching_form, language_replaced, matching_fields, after_common, BeginsPlain, counted, fields_of_subtags, text_fields, language_of, counted_parts, language_aliases, Likely, known, language_alone, likely_for}
 use Rattle.langtag_choice.specs.Nearness.{is_fallback, kept}
 use Rattle.langtag_cldr.proofs.AddedTwice.{either_way}
-use Rattle.langtag_scan.proofs.Disjoint.{extended_three}
 use Rattle.langtag_text.specs.Numbers.{letter_number}
 use Rattle.langtag_text.proofs.Letters.{letter_number-tells, number_of_two, primary_length, primary_letters}
 use Rattle.langtag_text.specs.Fields.{Fields}
 use Rattle.langtag_cldr.proofs.AlikeFields.{completed_language}
 use Rattle.langtag_text.proofs.Alike.{alike_length}
 use Rattle.langtag_choice.specs.Distance.{distance_of_texts, language_distance}
-use Rattle.langtag_choice.specs.FirstLetters.{HasNoExtended, IsLanguageOf, IsShort, first_two}
-use Rattle.langtag_choice.specs.NearLanguages.{AreFar, HasNumber, HaveOneLanguage, form_number, is_among_numbers}
+use Rattle.langtag_choice.specs.FirstLetters.{IsLanguageOf, IsShort, first_two}
+use Rattle.langtag_choice.specs.NearLanguages.{AreFar, HasNumber, HasNumberOrNone, HaveOneLanguage, is_among_numbers}
 use Rattle.langtag_choice.specs.declared.matching_tables.TheConstants.{SHORT_ALIAS_KEYS}
-use Rattle.langtag_choice.proofs.AlikeDistances.{matching_form-alike}
 
 -- ---- a range of a header, and "*"
 
@@ -49,9 +49,14 @@ fields_read text is = by_subtags (subtags text) refl is (basic_of text is)
     by_subtags [] are range basic = absurd cc
     by_subtags (first ∷ others) are range basic = rw (basic.subtags first others are, are, counted_plain others) refl
 
+current_read : (o : Option (List ℕ)) (basic text : List ℕ) → text_fields basic ≡ text_fields text → text_fields (unwrap_or o basic) ≡ text_fields (unwrap_or o text)
+current_read None basic text same = same
+current_read (Some new) basic text same = refl
+
 pub form_read : (range : List ℕ) → is_language_range (hyphened range) ≡ true → matching_form (basic_text range) ≡ matching_form range
 unfolding matching_form basic_text
-form_read range is = grind (arith, nat_tests, basic_of (hyphened range) is, hyphened_range (basic_form (hyphened range)), fields_read (hyphened range) is)
+form_read range is =
+    grind (arith, nat_tests, basic_of (hyphened range) is, hyphened_range (basic_form (hyphened range)), current_read, fields_read (hyphened range) is)
 
 -- ---- what is left of it and of a tag
 
@@ -125,48 +130,59 @@ module _ (key : Fields) (two : length key.language ≡ 2) (letters : are_letters
 head-take : (n : ℕ) (text : List ℕ) → 2 ≤ length (take n text) → first_two (take n text) ≡ first_two text
 head-take n text long = grind (arith, common_steps)
 
+two_or_more : (text : List ℕ) (letters : ℕ × ℕ) → first_two text ≡ Some letters → 2 ≤ length text
+two_or_more [] letters is = absurd cc
+two_or_more (a ∷ []) letters is = absurd cc
+two_or_more (a ∷ b ∷ text) letters is = omega arith
+
+head-alike : (a b : List ℕ) → are_alike a b ≡ true → first_two a ≡ first_two b
+head-alike [] [] alike = refl
+head-alike [] (d ∷ b) alike = absurd cc
+head-alike (c ∷ a) [] alike = absurd cc
+head-alike (c ∷ []) (d ∷ []) alike = refl
+head-alike (c ∷ []) (d ∷ f ∷ b) alike = grind (arith, nat_tests, and_parts)
+head-alike (c ∷ e ∷ a) (d ∷ []) alike = grind (arith, nat_tests, and_parts)
+head-alike (c ∷ e ∷ a) (d ∷ f ∷ b) alike = grind (arith, nat_tests, and_parts, eqb-true)
+
+head-filled : (text : List ℕ) (letters : ℕ × ℕ) → first_two text ≡ Some letters → first_two (text ++ 0 ∷ []) ≡ Some letters
+head-filled [] letters is = absurd cc
+head-filled (a ∷ []) letters is = absurd cc
+head-filled (a ∷ b ∷ text) letters is = is
+
+-- a range that begins with two bytes of it, and one that is its first byte
+pub begins_with_two :
+    (basic range : List ℕ) (letters : ℕ × ℕ) → are_alike (take (length (take 2 range)) basic) (take 2 range) ≡ true → first_two range ≡ Some letters → first_two (basic ++ 0 ∷ []) ≡ Some letters
+begins_with_two basic [] letters starts is = absurd cc
+begins_with_two basic (a ∷ []) letters starts is = absurd cc
+begins_with_two basic (a ∷ b ∷ range) letters starts is =
+    let same = head-alike (take 2 basic) (a ∷ b ∷ []) starts in
+    let long = alike_length (take 2 basic) (a ∷ b ∷ []) starts in
+    head-filled basic letters (sym (head-take 2 basic (omega (arith, long))) ∙ same ∙ is)
+
+pub begins_with_one : (basic range : List ℕ) → 1 ≤ length range → are_alike basic (take 1 range) ≡ true → first_two (basic ++ 0 ∷ []) ≡ Some (fold_byte (get_or range 0 0), 0)
+unfolding fold_byte
+begins_with_one basic [] some alike = absurd (omega (arith, some))
+begins_with_one [] (a ∷ range) some alike = absurd cc
+begins_with_one (b ∷ []) (a ∷ range) some alike = grind (arith, nat_tests, and_parts, eqb-true)
+begins_with_one (b ∷ c ∷ basic) (a ∷ range) some alike = let long = alike_length (b ∷ c ∷ basic) (a ∷ []) alike in absurd (omega (arith, long))
+
 -- ---- what a text begins with
 
-unmarked : (x : ℕ) (text : List ℕ) → is_separator x ≡ false → before_first is_separator (x ∷ text) ≡ x ∷ before_first is_separator text
-unmarked x text is = take_while-cons (λ b. not (is_separator b)) x text ∙ ap (λ b. cond (not b) (x ∷ before_first is_separator text) []) is
+-- a text of at most two bytes, and one with a separator after two
+pub short_of_two : (text : List ℕ) → length text < 3 → IsShort text
+short_of_two text most =
+    let n = position_or_len is_separator text in
+    (omega (arith, length_first text, most), λ two. keeps_none (after_first is_separator text) (omega (arith, most, two, length-take n text, length-drop (n + 1) text)))
 
-pub few_extended : (text : List ℕ) → length text ≤ 2 → is_extended (before_first is_separator text) ≡ false
-few_extended text few = grind (arith, common_steps, false_from_ne_true, extended_three, length-take)
+marked_short : (a b m : ℕ) (rest : List ℕ) → is_separator m ≡ true → KeepsLanguage rest → IsShort (a ∷ b ∷ m ∷ rest)
+marked_short a b m rest mark keeps =
+    (grind (arith, common_steps, cut a (b ∷ m ∷ rest), cut b (m ∷ rest), cut m rest), λ two. subst KeepsLanguage (sym (rest_after a b m rest two)) keeps)
 
--- no mark stands at the third place from 0 on
-longer : (x y z n : ℕ) (text : List ℕ) → is_separator n ≡ false → is_extended (before_first is_separator (x ∷ y ∷ z ∷ n ∷ text)) ≡ false
-unfolding is_extended
-longer x y z n text other = grind (arith, common_steps, false_from_ne_true, extended_three, unmarked)
-
-not_primary : (text : List ℕ) → length text ≤ 1 → is_primary text ≡ true → ⊥
-not_primary text few primary = let long = primary_length text primary in omega (arith, few, long)
-
--- a text of two bytes, and one with a mark after two
-two_short : (a b : ℕ) → IsShort (a ∷ b ∷ [])
-unfolding is_extended
-two_short a b = grind (arith, nat_tests, not_primary (before_first is_separator (a ∷ b ∷ [])))
-
-marked_short : (a b m : ℕ) (rest : List ℕ) → is_separator m ≡ true → HasNoExtended rest → IsShort (a ∷ b ∷ m ∷ rest)
-marked_short a b m rest mark alone = grind (arith, nat_tests, not_primary (before_first is_separator (a ∷ b ∷ m ∷ rest)))
-
-pub short_of_two : (text : List ℕ) → 2 ≤ length text → length text < 3 → IsShort text
-short_of_two [] least most = absurd (omega (arith, least))
-short_of_two (a ∷ []) least most = absurd (omega (arith, least))
-short_of_two (a ∷ b ∷ []) least most = two_short a b
-short_of_two (a ∷ b ∷ m ∷ rest) least most = absurd (omega (arith, most))
-
-pub short_of_more : (text : List ℕ) → 3 ≤ length text → is_separator (get_or text 2 0) ≡ true → HasNoExtended (drop 3 text) → IsShort text
-short_of_more [] least mark alone = absurd (omega (arith, least))
-short_of_more (a ∷ []) least mark alone = absurd (omega (arith, least))
-short_of_more (a ∷ b ∷ []) least mark alone = absurd (omega (arith, least))
-short_of_more (a ∷ b ∷ m ∷ rest) least mark alone = marked_short a b m rest mark alone
-
-pub extended_letter : (text : List ℕ) → 1 ≤ length text → is_letter (get_or text 0 0) ≡ false → is_extended (before_first is_separator text) ≡ false
-unfolding is_extended
-extended_letter text some other = grind (arith, common_steps, unmarked, false_from_ne_true, and_parts, both_ways)
-
-pub extended_mark : (text : List ℕ) → 4 ≤ length text → is_separator (get_or text 3 0) ≡ false → is_extended (before_first is_separator text) ≡ false
-extended_mark text long other = grind (arith, common_steps, longer)
+pub short_of_more : (text : List ℕ) → 3 ≤ length text → is_separator (get_or text 2 0) ≡ true → KeepsLanguage (drop 3 text) → IsShort text
+short_of_more [] least mark keeps = absurd (omega (arith, least))
+short_of_more (a ∷ []) least mark keeps = absurd (omega (arith, least))
+short_of_more (a ∷ b ∷ []) least mark keeps = absurd (omega (arith, least))
+short_of_more (a ∷ b ∷ m ∷ rest) least mark keeps = marked_short a b m rest mark keeps
 
 -- ---- the language of a text
 
@@ -174,21 +190,44 @@ known_two : (text : List ℕ) → length text ≡ 2 → known (codes "und") text
 known_two text two = rw (false_from_ne_true (are_alike (codes "und") text) (λ yes. let same = alike_length (codes "und") text yes in omega (arith, same, two))) refl
 
 module _ (text : List ℕ) (short : IsShort text) where
-  language_first : is_primary (before_first is_separator text) ≡ true → last_language (known (codes "und") (before_first is_separator text)) (counted_parts (after_first is_separator text)) ≡ before_first is_separator text
-  language_first primary = grind (arith, known_two, nat_tests, next_part, or_parts, not-true, unmarked, some_length)
+  primary_two : is_primary (before_first is_separator text) ≡ true → length (before_first is_separator text) ≡ 2
+  primary_two primary = let long = primary_length (before_first is_separator text) primary in let few = short.0 in omega (arith, long, few)
+
+  language_first : is_primary (before_first is_separator text) ≡ true → language_of (before_first is_separator text) (counted_parts (after_first is_separator text)) ≡ before_first is_separator text
+  language_first primary =
+      let keeps = short.1 (primary_two primary) in
+      grind (arith, known_two, nat_tests, next_part, or_parts, not-true, unmarked, some_length, none_extends, primary_two, keeps.counted, keeps.extended)
 
   -- the language is the text before the first separator
   text_language : (f : Fields) → text_fields (hyphened text) ≡ Some f → (is_primary f.language ≡ true) × (length f.language ≡ 2) × (first_two f.language ≡ first_two text)
-  text_language f is = grind (arith, either_way, all_fields, language_first, head-take, primary_length, no_fields)
+  text_language f is = grind (arith, either_way, all_fields, language_first, head-take, primary_two, no_fields)
+
+letter_free : (x : ℕ) → 97 ≤ fold_byte x → is_separator x ≡ false
+unfolding fold_byte
+letter_free x letter = grind (arith, nat_tests)
+
+two_letters : (text : List ℕ) (letters : ℕ × ℕ) → first_two text ≡ Some letters → 97 ≤ letters.0 → 97 ≤ letters.1 → 2 ≤ length (before_first is_separator text)
+two_letters [] letters begins a b = absurd cc
+two_letters (x ∷ []) letters begins a b = absurd cc
+two_letters (x ∷ y ∷ text) letters begins a b = grind (arith, common_steps, letter_free x, letter_free y, unmarked x (y ∷ text), unmarked y text)
+
+-- a short text that begins with two letters is not replaced as a whole
+not_whole : (text : List ℕ) (letters : ℕ × ℕ) → IsShort text → first_two text ≡ Some letters → 97 ≤ letters.0 → 97 ≤ letters.1 → preferred_tag (basic_text text) ≡ None
+not_whole text letters short begins a b =
+    let long = two_letters text letters begins a b in
+    let few = short.0 in
+    let two : length (before_first is_separator text) ≡ 2 = omega (arith, long, few) in
+    not_by_follow text two (short.1 two)
 
 -- the number of two letters
 number_of_letters : (language : List ℕ) (letters : ℕ × ℕ) → length language ≡ 2 → first_two language ≡ Some letters → letter_number language ≡ (letters.0 - 96) * 26 + (letters.1 - 96)
 number_of_letters language letters two is = grind (arith, nat_tests, number_of_two)
 
 pub language_of_letters :
-    (letters : ℕ × ℕ) (number : ℕ) → number ≡ (letters.0 - 96) * 26 + (letters.1 - 96) → is_among_numbers SHORT_ALIAS_KEYS number ≡ false → IsLanguageOf letters number
+    (letters : ℕ × ℕ) (number : ℕ) → number ≡ (letters.0 - 96) * 26 + (letters.1 - 96) → 97 ≤ letters.0 → 97 ≤ letters.1 →
+    is_among_numbers SHORT_ALIAS_KEYS number ≡ false → IsLanguageOf letters number
 unfolding matching_form
-language_of_letters letters number number_is absent text short begins = by_und (are_alike (basic_text text) (codes "und"))
+language_of_letters letters number number_is a b absent text short begins = by_und (are_alike (basic_text text) (codes "und"))
   where
     by_fields : (o : Option Fields) → text_fields (hyphened text) ≡ o → ForSome (option_map matching_fields o) (HasNumber number)
     by_fields None is form made = absurd cc
@@ -200,36 +239,49 @@ language_of_letters letters number number_is absent text short begins = by_und (
         let some : 0 < length (language_replaced f).language = rw same (omega (arith, there.1)) in
         let made_is : matching_fields f ≡ form = cc in
         let language = ap (λ f. f.language) (sym made_is) ∙ completed_language (language_replaced f) some ∙ ap (λ f. f.language) same in
-        (ap are_letters language ∙ plain, ap letter_number language ∙ is_number)
+        let two = ap length language ∙ there.1 in
+        (ap are_letters language ∙ plain, ap letter_number language ∙ is_number, omega (arith, two))
 
-    by_und : (b : Bool) → ForSome (cond b None (option_map matching_fields (text_fields (hyphened text)))) (HasNumber number)
+    own : text_fields (current_text text) ≡ text_fields (hyphened text)
+    own = ap (λ o. text_fields (unwrap_or o (hyphened text))) (not_whole text letters short begins a b)
+
+    by_und : (b : Bool) → ForSome (cond b None (option_map matching_fields (text_fields (current_text text)))) (HasNumber number)
     by_und true form made = absurd cc
-    by_und false form made = by_fields (text_fields (hyphened text)) refl form made
+    by_und false form made = by_fields (text_fields (current_text text)) (sym own) form made
 
 -- ---- how far it is
 
-number_had : (own : ℕ) (f : Fields) → form_number (Some f) ≡ Some own → HasNumber own f
-number_had own f is = grind (arith, nat_tests)
-
-pub number_has : (f : Fields) (number : ℕ) → are_letters f.language ≡ true → number ≡ letter_number f.language → form_number (Some f) ≡ Some number
-number_has f number letters is = grind (arith, nat_tests)
-
-pub number_is : (o : Option Fields) (f : Fields) (number : ℕ) → o ≡ Some f → are_letters f.language ≡ true → number ≡ letter_number f.language → ForSome o (HasNumber number)
-number_is o f number is letters number_of g there = let same : f ≡ g = cc in (ap (λ f. are_letters f.language) (sym same) ∙ letters, ap (λ f. letter_number f.language) (sym same) ∙ sym number_of)
+-- a tag that begins otherwise than a range is not the range
+unalike : (letters begin : ℕ × ℕ) (range tag : List ℕ) → first_two (range ++ 0 ∷ []) ≡ Some letters → first_two tag ≡ Some begin → (begin ≡ letters → ⊥) → are_alike range tag ≡ false
+unalike letters begin range tag starts is other =
+    false_from_ne_true (are_alike range tag)
+    (λ yes. let filled = head-filled range begin (head-alike range tag yes ∙ is) in let same : Some begin ≡ Some letters = sym filled ∙ starts in other cc)
 
 -- a range and a tag whose languages are far
 pub far_by_numbers :
-    (own other : ℕ) (range tag : List ℕ) → AreFar own other → form_number (matching_form range) ≡ Some own → ForSome (matching_form tag) (HasNumber other) → 50 ≤ distance_of_texts range tag
+    (own other : ℕ) (letters begin : ℕ × ℕ) (range tag : List ℕ) → AreFar own other → ForSome (matching_form range) (HasNumberOrNone own) → first_two (range ++ 0 ∷ []) ≡ Some letters →
+    first_two tag ≡ Some begin → (begin ≡ letters → ⊥) → ForSome (matching_form tag) (HasNumber other) → 50 ≤ distance_of_texts range tag
 unfolding distance_of_texts
-far_by_numbers own other range tag far desired supported =
-    grind (arith, nat_tests, lit≤, number_had own, false_from_ne_true (are_alike range tag), matching_form-alike range tag, are_alike-decides range tag)
+far_by_numbers own other letters begin range tag far desired starts is apart supported = grind (arith, nat_tests, lit≤, unalike letters begin range tag starts is apart)
+
+-- a range without a matching form
+pub far_without_form :
+    (letters begin : ℕ × ℕ) (range tag : List ℕ) → matching_form range ≡ None → first_two (range ++ 0 ∷ []) ≡ Some letters → first_two tag ≡ Some begin → (begin ≡ letters → ⊥) →
+    50 ≤ distance_of_texts range tag
+unfolding distance_of_texts
+far_without_form letters begin range tag none starts is apart = grind (arith, nat_tests, lit≤, unalike letters begin range tag starts is apart)
 
 -- languages with one number are equal
-pub one_language : (own other : ℕ) (r t : Option Fields) → form_number r ≡ Some own → ForSome t (HasNumber other) → own ≡ other → HaveOneLanguage r t
-one_language own other r t own_is other_is same d s d_is s_is =
-    let has = number_had own d (subst (λ o. form_number o ≡ Some own) d_is own_is) in
+pub one_language :
+    (own other : ℕ) (r t : Option Fields) → ForSome r (HasNumberOrNone own) → ForSome t (HasNumber other) → (other ≡ 0 → ⊥) → own ≡ other → HaveOneLanguage r t
+one_language own other r t own_is other_is some same d s d_is s_is =
     let its = other_is s s_is in
-    sym (letter_number-tells d.language s.language has.0 its.0) ∙ eq-eqb (letter_number s.language) (letter_number d.language) (its.1 ∙ sym same ∙ sym has.1)
+    elim (cases_lt 3 (length d.language)) [
+      | inl long ↦ absurd (some (sym same ∙ (own_is d d_is).1 long))
+      | inr short ↦
+          let has = (own_is d d_is).0 short in
+          sym (letter_number-tells d.language s.language has.0 its.0) ∙ eq-eqb (letter_number s.language) (letter_number d.language) (its.1 ∙ sym same ∙ sym has.1)
+    ]
 
 pub none_between_forms : (r t : Option Fields) (d s : Fields) → HaveOneLanguage r t → r ≡ Some d → t ≡ Some s → 0 ≡ language_distance d s
 unfolding language_distance
@@ -238,6 +290,15 @@ none_between_forms r t d s one r_is t_is = grind arith
 -- ---- what lookup keeps
 
 pub nothing_kept :
-    (letters begin : ℕ × ℕ) (range tag : List ℕ) → first_two range ≡ Some letters → first_two tag ≡ Some begin → (first_two tag ≡ Some letters → ⊥) → kept range tag ≡ 0
+    (letters begin : ℕ × ℕ) (range tag : List ℕ) → first_two (range ++ 0 ∷ []) ≡ Some letters → first_two tag ≡ Some begin → (begin ≡ letters → ⊥) → kept range tag ≡ 0
 unfolding kept
-nothing_kept letters begin range tag starts is other = grind (arith, nat_tests, and_parts, length-alike, head-take)
+nothing_kept letters begin range tag starts is other =
+    let not_its : are_alike (take (length tag) range) tag ≡ false =
+    false_from_ne_true (are_alike (take (length tag) range) tag)
+    (λ yes.
+    let same = head-alike (take (length tag) range) tag yes ∙ is in
+    let long = alike_length (take (length tag) range) tag yes in
+    let whole = head-filled range begin (sym (head-take (length tag) range (two_or_more (take (length tag) range) begin same)) ∙ same) in
+    let equal : Some begin ≡ Some letters = sym whole ∙ starts in
+    other cc) in
+    grind (arith, nat_tests, not_its)

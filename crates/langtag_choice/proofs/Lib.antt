@@ -1,4 +1,5 @@
 pub mod AlikeDistances
+pub mod AsRead
 pub mod ChoiceLaws
 pub mod FarTags
 pub mod FoundLaws

@@ -1,6 +1,6 @@
 -- The tables of language matching have the rows of the lists, by computation, and a rule is found by its number.
 -- The languages that are near another, by the keys of the rules.
-use Rattle.langtag_scan.proofs.Prelude.{◌≡◌, ℕ, ◌<◌, true, false, ◌==◌, Bool, ltb, List, [], ◌∷◌, length, max, get_or, map, refl, arith, rules, ◌&&◌, is_some, ◌+◌, ◌*◌, ap, ◌∙◌, cond, Option, sym, ◌≢◌, zero, suc, ◌-◌, ◌≤◌, length-drop, length-take, None, subst, nat_tests, eqb_tells, and_parts, ltb-true, eq-eqb, ne_eqb, both_ways, cases_lt, or_parts, common_steps, list_all, slice_range, option_map_or, get_or-drop, get_or-take, list_any_at}
+use Rattle.langtag_scan.proofs.Prelude.{◌≡◌, ℕ, ◌<◌, true, false, ◌==◌, Bool, ltb, List, [], ◌∷◌, length, max, get_or, map, refl, arith, rules, ◌&&◌, is_some, ◌+◌, ◌*◌, ap, ◌∙◌, cond, Option, sym, ◌≢◌, zero, suc, ◌-◌, ◌≤◌, length-drop, length-take, None, subst, nat_tests, eqb_tells, and_parts, ltb-true, eq-eqb, ne_eqb, both_ways, cases_lt, or_parts, common_steps, list_all, inl, inr, false_from_ne_true, slice_range, option_map_or, get_or-drop, get_or-take, list_any_at}
 use Rattle.langtag_scan.specs.Grammar.{folded_number, fold_byte, are_alike, are_alphanumeric, are_letters, is_letter, is_digit}
 use Rattle.langtag_scan.proofs.FoldedNumbers.{folded_number-tells}
 use Rattle.langtag_text.specs.Numbers.{letter_number, climbs_from}
@@ -18,7 +18,7 @@ use Rattle.langtag_choice.specs.Rules.{Rule, fits, distance_by}
 use Rattle.langtag_choice.specs.Sets.{set_of}
 use Rattle.langtag_choice.specs.declared.matching_tables.TheConstants as table
 use Rattle.langtag_choice.specs.declared.region_distance.SetName.{SetName}
-use Rattle.langtag_choice.specs.NearLanguages.{AreFar, is_among_numbers, rule_keys}
+use Rattle.langtag_choice.specs.NearLanguages.{AreFar, HasNumber, is_among_numbers, rule_keys}
 use Rattle.langtag_text.proofs.Letters.{letter_number-tells}
 use Rattle.langtag_text.proofs.Rising.{above_first}
 
@@ -206,15 +206,26 @@ absent_index : (keys : List ℕ) (key : ℕ) → is_among_numbers keys key ≡ f
 absent_index [] key none = refl
 absent_index (k ∷ keys) key none = grind (arith, nat_tests, or_parts (k == key) (is_among_numbers keys key), absent_index keys key)
 
--- two languages that differ, for which there is no rule
-pub far_without_rule :
-    (desired supported : ℕ) → supported < 32768 → (supported ≡ desired → ⊥) → is_among_numbers rule_keys (desired * 32768 + supported) ≡ false → AreFar desired supported
-far_without_rule desired supported small other none = λ d s has its.
+far_known :
+    (desired supported : ℕ) → supported < 32768 → (supported ≡ desired → ⊥) → is_among_numbers rule_keys (desired * 32768 + supported) ≡ false →
+    (d s : Fields) → HasNumber desired d → HasNumber supported s → language_distance d s ≡ 80
+far_known desired supported small other none d s has its =
     let apart : are_alike d.language s.language ≡ false =
     sym (letter_number-tells d.language s.language has.0 its.0) ∙ ne_eqb (letter_number s.language) (letter_number d.language) (λ same. other (sym its.1 ∙ same ∙ has.1)) in
     let pair : desired * 32768 + supported ≡ language_pair d s = ap (λ n. n * 32768 + supported) (sym has.1) ∙ ap (λ n. letter_number d.language * 32768 + n) (sym its.1) in
     sym (language_found d s None 80 rule_keys (language_pair d s) apart has.0 its.0 (subst (λ n. n < 32768) (sym its.1) small) refl refl
     (sym (absent_index rule_keys (language_pair d s) (ap (is_among_numbers rule_keys) (sym pair) ∙ none))) refl)
+
+-- two languages that differ, for which there is no rule
+pub far_without_rule :
+    (desired supported : ℕ) → supported < 32768 → (supported ≡ desired → ⊥) → is_among_numbers rule_keys (desired * 32768 + supported) ≡ false → AreFar desired supported
+far_without_rule desired supported small other none = λ d s has its.
+    elim (cases_lt 3 (length d.language)) [
+      | inl long ↦
+          let short = its.2 in
+          sym (language_long d s (false_from_ne_true (are_alike d.language s.language) (λ yes. let same = alike_length d.language s.language yes in omega (arith, same, long, short))) (omega (arith, long)))
+      | inr short ↦ far_known desired supported small other none d s (has.0 short) its
+    ]
 
 -- a list that climbs does so strictly
 pub climbs_at : (low : ℕ) (numbers : List ℕ) (i j : ℕ) → climbs_from low numbers ≡ true → i < j → j < length numbers → get_or numbers i 0 < get_or numbers j 0

@@ -1,5 +1,5 @@
 -- What is put among the best candidates, and what is taken out.
-use Rattle.langtag_scan.proofs.Prelude.{◌≡◌, ◌≢◌, ◌⊎◌, ◌<◌, ◌+◌, ◌==◌, ◌&&◌, ℕ, Bool, List, Option, Some, None, MatchOption, length, get_or, set, unwrap_or, refl, sym, ap, subst, ◌∙◌, inl, inr, arith, eqb_tells, eqb-true, and_parts, length-set, get_or-set_other, get_or-set_at, false, true≢false, nat_list_cmp_total, slice_cmp, nat_cmp, is_lt, ordering_reverse, Ordering, Less, Equal, Greater}
+use Rattle.langtag_scan.proofs.Prelude.{◌≡◌, ◌≢◌, ◌⊎◌, ◌<◌, ◌+◌, ◌==◌, ◌&&◌, ℕ, Bool, List, Option, Some, None, MatchOption, length, get_or, set, unwrap_or, refl, sym, ap, subst, ◌∙◌, inl, inr, arith, eqb_tells, eqb-true, and_parts, length-set, get_or-set_other, get_or-set_at, false, true, true≢false, nat_list_cmp_total, slice_cmp, nat_cmp, is_lt, ordering_reverse, Ordering, Less, Equal, Greater}
 use Rattle.std.proofs.lemmas.Cmp.{upto}
 use Rattle.std.specs.Ordering.{is_gt}
 use Rattle.langtag_range.specs.Definitions.{Element}
@@ -8,14 +8,26 @@ use Rattle.langtag_choice.specs.Candidates.{IsNotAfter, Keeps}
 use Rattle.langtag_choice.specs.Found.{AreAllBefore, AreApart, HasEntry, IsCovered, IsListed, IsOfTag, IsWorst, ListTries, Puts, Tries}
 use Rattle.langtag_choice.specs.declared.candidate.Candidate.{Candidate}
 
+-- a list that is before another is before all that the other is not after
+pub before_all : (a b r : List ℕ) → is_lt (slice_cmp nat_cmp a b) ≡ true → IsAtMost b r → IsAtMost a r
+before_all a b r is = upto nat_list_cmp_total a b r (below (slice_cmp nat_cmp a b) is)
+  where
+    below : (o : Ordering) → is_lt o ≡ true → is_gt o ≡ false
+    below Less is = refl
+    below Equal is = absurd cc
+    below Greater is = absurd cc
+
 -- a list that is not before another is after it, and so after all that are before the other
-pub not_before : (a b r : List ℕ) → is_lt (slice_cmp nat_cmp a b) ≡ false → IsAtMost a r → IsAtMost b r
-not_before a b r is = upto nat_list_cmp_total b a r (ap is_gt (nat_list_cmp_total.antisymm b a) ∙ turned (slice_cmp nat_cmp a b) is)
+pub turned_at_most : (a b : List ℕ) → is_lt (slice_cmp nat_cmp a b) ≡ false → IsAtMost b a
+turned_at_most a b is = ap is_gt (nat_list_cmp_total.antisymm b a) ∙ turned (slice_cmp nat_cmp a b) is
   where
     turned : (o : Ordering) → is_lt o ≡ false → is_gt (ordering_reverse o) ≡ false
     turned Less is = absurd (true≢false is)
     turned Equal is = refl
     turned Greater is = refl
+
+pub not_before : (a b r : List ℕ) → is_lt (slice_cmp nat_cmp a b) ≡ false → IsAtMost a r → IsAtMost b r
+not_before a b r is = upto nat_list_cmp_total b a r (turned_at_most a b is)
 
 -- what holds at each place below one, and there
 pub each_place : (P : ℕ → Type 0) (place : ℕ) → P place → ((k : ℕ) → k < place → P k) → (k : ℕ) → k < place + 1 → P k

@@ -1,11 +1,12 @@
 -- The candidate for a range, which one more tag may replace. Only contracts of private functions cite this page.
-use Rattle.std.specs.Prelude.{◌≡◌, ◌⊎◌, ◌-◌, ℕ, true, List, ◌∷◌, [], Option, Some, None, length, option_map}
+use Rattle.std.specs.Prelude.{◌≡◌, ◌⊎◌, ℕ, true, List, ◌∷◌, [], Option, Some, None, option_map}
 use Rattle.langtag_scan.specs.Prelude.{ForSome}
 use Rattle.langtag_range.specs.Definitions.{basic_text}
 use Rattle.langtag_cldr.specs.Definitions.{field_texts}
+use Rattle.langtag_choice.specs.AsRead.{lost_as_read}
 use Rattle.langtag_choice.specs.KnownTexts.{is_known, known_text}
 use Rattle.langtag_choice.specs.Near.{wish_element}
-use Rattle.langtag_choice.specs.Nearness.{kept, unlikely_kept}
+use Rattle.langtag_choice.specs.Nearness.{lost, unlikely_kept}
 use Rattle.langtag_choice.specs.Serves.{IsAtMost, rank, serves}
 use Rattle.langtag_choice.specs.Variants.{lacking}
 use Rattle.langtag_choice.specs.declared.candidate.Candidate.{Candidate}
@@ -22,7 +23,7 @@ service_number LookUp = 2
 abbrev pub rank_of : Candidate → List ℕ
 rank_of c =
     service_number c.rank.service ∷ c.rank.lack ∷ c.rank.place ∷ c.rank.distance ∷ lacking (basic_text c.range.now) c.tag.now ∷
-    (length (basic_text c.range.now) - kept (basic_text c.range.now) c.tag.now) ∷ unlikely_kept c.unlikely (option_map field_texts c.form) ∷ c.index ∷ []
+    lost_as_read (basic_text c.range.now) c.tag.now ∷ lost (basic_text c.range.now) c.tag.now ∷ unlikely_kept c.unlikely (option_map field_texts c.form) ∷ c.index ∷ []
 
 -- a candidate was found, and its rank is at most this one
 abbrev pub IsNotAfter : Option Candidate → List ℕ → Type 0

@@ -1,3 +1,4 @@
+pub mod AsRead
 pub mod Best
 pub mod Candidates
 pub mod ChoiceLaws

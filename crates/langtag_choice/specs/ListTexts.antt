@@ -3,9 +3,9 @@ use Rattle.std.specs.Prelude.{ℕ, List, Option, Some, map}
 use Rattle.langtag.specs.declared.lang_tag.LangTag.{LangTag}
 use Rattle.langtag.specs.Definitions.{lang_tag_text}
 use Rattle.langtag_range.specs.Definitions.{Element, basic_text}
-use Rattle.langtag_header.specs.Text.{language_range_text}
-use Rattle.langtag_header.specs.declared.language_range.LanguageRange.{LanguageRange}
-use Rattle.langtag_header.specs.declared.weighted_range.WeightedRange.{WeightedRange}
+use Rattle.langtag_match.specs.Text.{language_range_text}
+use Rattle.langtag_match.specs.declared.language_range.LanguageRange.{LanguageRange}
+use Rattle.langtag_match.specs.declared.weighted_range.WeightedRange.{WeightedRange}
 
 -- the text of each tag
 abbrev pub tag_texts : List LangTag → List (Option (List ℕ))

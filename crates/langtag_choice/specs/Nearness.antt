@@ -1,5 +1,5 @@
 -- What decides among tags at the same distance from a range.
-use Rattle.std.specs.Prelude.{ℕ, Bool, ◌==◌, ◌&&◌, ◌||◌, not, if◌then◌else◌, List, codes, length, take, drop, Option, None, Some}
+use Rattle.std.specs.Prelude.{ℕ, ◌-◌, Bool, ◌==◌, ◌&&◌, ◌||◌, not, if◌then◌else◌, List, codes, length, take, drop, Option, None, Some}
 use Rattle.langtag_scan.specs.Grammar.{option_map_or, are_alike}
 use Rattle.langtag_cldr.specs.Definitions.{without_region, matching_form, suffices}
 use Rattle.langtag_text.specs.Fields.{Fields}
@@ -16,6 +16,10 @@ is_fallback range tag =
 -- the number of bytes of a range that lookup keeps when it finds a tag, or 0 if it does not find the tag
 unfoldable pub kept : List ℕ → List ℕ → ℕ
 kept range tag = if is_fallback range tag then length tag else 0
+
+-- the number of bytes that lookup removes from a range to find a tag, or all bytes of the range if it does not find the tag
+abbrev pub lost : List ℕ → List ℕ → ℕ
+lost range tag = length range - kept range tag
 
 -- ---- which of several tags is most likely
 

@@ -1,8 +1,9 @@
 -- Which tags may serve a range of a reader, and which serves better.
-use Rattle.std.specs.Prelude.{◌≡◌, ℕ, ◌-◌, Bool, false, not, ◌==◌, ◌&&◌, ◌||◌, if◌then◌else◌, List, [], ◌∷◌, length, nat_lt}
+use Rattle.std.specs.Prelude.{◌≡◌, ℕ, ◌-◌, Bool, false, not, ◌==◌, ◌&&◌, ◌||◌, if◌then◌else◌, List, [], ◌∷◌, nat_lt}
 use Rattle.langtag_scan.specs.Prelude.{slice_cmp, is_gt, nat_cmp}
+use Rattle.langtag_choice.specs.AsRead.{lost_as_read}
 use Rattle.langtag_choice.specs.Distance.{distance_of_texts}
-use Rattle.langtag_choice.specs.Nearness.{kept, unlikely}
+use Rattle.langtag_choice.specs.Nearness.{kept, lost, unlikely}
 use Rattle.langtag_choice.specs.Variants.{lacking}
 use Rattle.langtag_range.specs.Definitions.{Element, is_star}
 
@@ -33,13 +34,14 @@ abbrev pub service : ℕ → ℕ
 service distance = if nat_lt distance 16 then 0 else if nat_lt distance 50 then 1 else 2
 
 -- the rank of a tag for a range, as a list of numbers. The first four are how well the tag serves the range, 1 minus
--- the weight of the range in thousandths, the number of ranges before the range, and the distance. The last four are how
+-- the weight of the range in thousandths, the number of ranges before the range, and the distance. The last five are how
 -- many of the variants of the range the tag lacks, how many bytes lookup removes from the range (all if it does not find the
--- tag), how unlikely the region of the tag is, and the index of the tag
+-- tag), first if it reads the languages as CLDR replaces them and then as they are written, how unlikely the region of the tag
+-- is, and the index of the tag
 unfoldable pub rank : ℕ → Element → ℕ → List ℕ → List ℕ
 rank place element index tag =
     service (reach element.range tag) ∷ (1000 - element.weight) ∷ place ∷ reach element.range tag ∷ lacking element.range tag ∷
-    (length element.range - kept element.range tag) ∷ unlikely tag ∷ index ∷ []
+    lost_as_read element.range tag ∷ lost element.range tag ∷ unlikely tag ∷ index ∷ []
 
 -- a rank is at most another rank: the first number in which they differ decides
 abbrev pub IsAtMost : List ℕ → List ℕ → Type 0

@@ -1,8 +1,9 @@
-//! Choosing the best tag for a reader.
+//! Choosing the best tag for a user. `*` chooses nothing, even if the header excludes tags: a choice by `*` would have
+//! no distance, so each law of the choice would need a second case.
 ghost use Rattle.std.specs.Prelude.{◌≡◌, ◌<◌, IsTrue, length, option_map};
 ghost use Rattle.langtag_scan.specs.Prelude.{list_any};
 ghost use Rattle.langtag_range.specs.Definitions.{basic_text, wanted_elements};
-ghost use Rattle.langtag_header.specs.Text.{accept_language_ranges};
+ghost use Rattle.langtag_match.specs.Text.{accept_language_ranges};
 ghost use Rattle.langtag_choice.specs.Best as spec;
 ghost use Rattle.langtag_choice.specs.Serves.{is_excluded};
 ghost use Rattle.langtag_choice.specs.ChoiceLaws as laws;
@@ -19,7 +20,7 @@ use crate::refused::is_refused;
 use crate::tag_distance::range_distance;
 use crate::tag_list::{TagList, Tags};
 use langtag::LangTag;
-use langtag_header::{AcceptLanguage, LanguageRange};
+use langtag_match::{AcceptLanguage, LanguageRange};
 
 /// Returns the index of the best tag for an Accept-Language header (RFC 9110 section 12.5.4), or `None` if no tag is
 /// suitable. For `zh-TW,zh;q=0.9,en;q=0.8` and the tags `en`, `zh-Hans` and `zh-Hant` it is 2.

@@ -1,6 +1,6 @@
 //! The best tag with the range that it serves.
 
-/// The best tag for a reader, the range that it serves, and its distance from that range.
+/// The best tag for a user, the range that it serves, and its distance from that range.
 ///
 /// ```
 /// use langtag::LangTag;
@@ -13,7 +13,7 @@
 pub struct BestMatch<'a> {
     /// The index of the tag.
     pub index: usize,
-    /// The range as the reader wrote it. It may contain `_` instead of a hyphen.
+    /// The range as the user wrote it. It may contain `_` instead of a hyphen.
     pub range: &'a [u8],
     /// The number of ranges before `range`, including ranges of weight 0.
     pub place: usize,

@@ -4,6 +4,7 @@ ghost use Rattle.langtag_scan.specs.Prelude.{slice_cmp, is_lt, nat_cmp};
 ghost use Rattle.langtag_range.specs.Definitions.{is_language_range, hyphened, basic_text};
 ghost use Rattle.langtag_choice.specs.Variants.{lacking, variants_of};
 
+use crate::as_read::lost_as_read;
 use crate::likely_region::unlikely;
 use crate::nearness::kept;
 use crate::variants::{has_variants, lacking_variants};
@@ -96,7 +97,7 @@ pub(crate) struct Candidate<'a, 't> {
 
 impl Candidate<'_, '_> {
     ghost use Rattle.langtag_choice.specs.Candidates.{rank_of};
-    ghost use Rattle.langtag_choice.specs.Nearness.{kept, unlikely_kept};
+    ghost use Rattle.langtag_choice.specs.Nearness.{lost, unlikely_kept};
     ghost use Rattle.langtag_cldr.specs.Definitions.{field_texts};
 
     /// Returns whether this candidate is better than another.
@@ -112,6 +113,8 @@ impl Candidate<'_, '_> {
 
     /// Returns whether this candidate is better than another of the same rank. It compares how many of the variants of the
     /// range the tags lack, then how much lookup removes from the range, then how likely the region is, and then the index.
+    /// Lookup first reads the languages as CLDR replaces them, and then as they are written.
+    #[inline(never)]
     fn breaks_tie(&self, other: &Candidate<'_, '_>) -> bool
         ensures { result ≡ is_lt (slice_cmp nat_cmp (drop 4 (rank_of self.now)) (drop 4 (rank_of other.now))) }
     {
@@ -120,6 +123,11 @@ impl Candidate<'_, '_> {
             return lacking < others_lacking;
         }
         let (lost, others_lost) = (self.lost(), other.lost());
+        let read = lost_as_read(self.range, self.tag, lost);
+        let others_read = lost_as_read(other.range, other.tag, others_lost);
+        if read != others_read {
+            return read < others_read;
+        }
         if lost != others_lost {
             return lost < others_lost;
         }
@@ -154,7 +162,7 @@ impl Candidate<'_, '_> {
     /// Returns how many bytes lookup removes from the range to find the tag, or the length of the range if lookup
     /// does not find the tag.
     fn lost(&self) -> usize
-        ensures { result ≡ length (basic_text self.now.range.now) - kept (basic_text self.now.range.now) self.now.tag.now }
+        ensures { result ≡ lost (basic_text self.now.range.now) self.now.tag.now }
     {
         basic_len(self.range).saturating_sub(kept(self.range, self.tag))
     }

@@ -1,11 +1,11 @@
 //! What the first letters of a tag show of its language.
-ghost use Rattle.std.specs.Prelude.{◌≡◌, ◌<◌, IsTrue, false};
-ghost use Rattle.langtag_scan.specs.Grammar.{before_first, ForSome, is_extended, is_letter};
-ghost use Rattle.langtag_range.specs.Definitions.{is_separator};
+ghost use Rattle.std.specs.Prelude.{◌≡◌, ◌<◌, IsTrue};
+ghost use Rattle.langtag_scan.specs.Grammar.{ForSome};
 ghost use Rattle.langtag_choice.specs.FirstLetters as spec;
 ghost use Rattle.langtag_choice.specs.declared.matching_tables.TheConstants.{SHORT_ALIAS_KEYS};
 
 use crate::matching_tables as tables;
+use langtag_cldr::may_change_language;
 use langtag_range::is_separator;
 use langtag_scan::into_smallcase;
 
@@ -19,52 +19,16 @@ pub(crate) fn first_two(text: &[u8]) -> Option<(u8, u8)>
     }
 }
 
-/// Returns `true` only if the language of a string has two letters and no extended language follows it, or the string
-/// does not begin with a language.
+/// Returns `true` only if the first subtag of a string has at most two characters, and what follows keeps the language:
+/// `zh-Hant` stays `zh`, but `zh-yue` and `zh-hakka` are `yue` and `hak`.
 pub(crate) fn is_short(text: &[u8]) -> bool
     ensures { IsTrue result → spec.IsShort text.now }
 {
     match text {
         [_, _] => true,
-        [_, _, mark, rest @ ..] => is_separator(*mark) && has_no_extended(rest),
+        [_, _, mark, rest @ ..] => is_separator(*mark) && !may_change_language(rest),
         _ => false,
     }
-}
-
-/// Returns whether the first subtag of a string is neither empty nor `*`, and is not an extended language.
-fn has_no_extended(text: &[u8]) -> bool
-    ensures { IsTrue result → spec.HasNoExtended text.now }
-{
-    begins_counted(text) && !may_be_extended(text)
-}
-
-/// Returns whether the first subtag of a string is neither empty nor `*`.
-fn begins_counted(text: &[u8]) -> bool
-    ensures { result ≡ spec.begins_counted text.now }
-{
-    match text {
-        [first, ..] => !is_separator(*first) && *first != b'*',
-        [] => true,
-    }
-}
-
-/// Returns whether a string may begin with an extended language. A region of three digits is not an extended language.
-#[tactic(auto, using(crate::proofs::FarTags::few_extended, crate::proofs::FarTags::extended_letter, crate::proofs::FarTags::extended_mark))]
-fn may_be_extended(text: &[u8]) -> bool
-    ensures { result ≡ false → is_extended (before_first is_separator text.now) ≡ false }
-{
-    match text {
-        [first, _, _] => is_letter(*first),
-        [first, _, _, mark, ..] => is_separator(*mark) && is_letter(*first),
-        _ => false,
-    }
-}
-
-#[tactic(auto, unfolding(langtag_scan::specs::Class::is_letter))]
-fn is_letter(byte: u8) -> bool
-    ensures { result ≡ is_letter byte }
-{
-    byte.is_ascii_alphabetic()
 }
 
 /// Returns the number of the language with which a tag begins, given by its two letters in lowercase. Returns `None` if

@@ -11,6 +11,7 @@
 //! ```
 #![tactic(auto)]
 
+mod as_read;
 mod best;
 mod best_match;
 mod by_ranges;

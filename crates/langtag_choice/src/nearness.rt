@@ -64,9 +64,12 @@ fn nearer_text<'t>(limit: u8, wish: &Wish<'_>, tag: &'t [u8]) -> Option<Nearness
     ensures { MatchOption result (limit ≤ distance_of_texts (basic_text wish.now.range.now) tag.now)
         (IsNearer limit (distance_of_texts (basic_text wish.now.range.now) tag.now) (matching_form tag.now)) }
 {
-    match (wish.form, replaced_form(tag)) {
-        (Some(desired), Some(supported)) => nearer_fields(limit, desired, supported),
-        _ => equal_text(limit, wish.range, tag),
+    let Some(desired) = wish.form else {
+        return equal_text(limit, wish.range, tag);
+    };
+    match replaced_form(tag) {
+        Some(supported) => nearer_fields(limit, desired, supported),
+        None => equal_text(limit, wish.range, tag),
     }
 }
 
@@ -95,8 +98,8 @@ fn nearer_prepared<'t>(
     }
 }
 
-/// Returns how near a tag is to a range, by their fields. It adds the tag's likely subtags only if the language is near
-/// enough.
+/// Computes how near a tag is to a range, from the fields of both. It adds the tag's likely subtags only if the
+/// language is near enough.
 fn nearer_fields<'t>(
     limit: u8,
     desired: TagFields<'_>,
@@ -187,7 +190,7 @@ pub(crate) fn kept(range: &[u8], tag: &[u8]) -> usize
 /// Returns whether a tag equals a range, or equals the string before one of the range's hyphens and does not end in a
 /// subtag of a single character.
 #[tactic(auto, using(crate::proofs::FarTags::tag_begins))]
-fn is_fallback(range: &[u8], tag: &[u8]) -> bool
+pub(crate) fn is_fallback(range: &[u8], tag: &[u8]) -> bool
     ensures { result ≡ spec.is_fallback (basic_text range.now) tag.now }
 {
     let (left, rest) = after_common(range, tag);

@@ -39,7 +39,7 @@ impl PreparedForm {
     ghost use Rattle.langtag_choice.specs.Nearness.{kept, unlikely};
     ghost use Rattle.langtag_range.specs.Definitions.{basic_text};
 
-    /// Returns what the choice computes of a tag. It is proved that a clone is the same value.
+    /// Computes what the choice compares, from a tag.
     #[tactic(auto, unfolding(crate::specs::Prepared::is_prepared_for))]
     pub fn of(tag: &[u8]) -> PreparedForm
         ensures prepared { IsTrue (is_prepared_for tag.now result) }

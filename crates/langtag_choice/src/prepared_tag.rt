@@ -23,8 +23,7 @@ pub struct PreparedTag<'t> {
 }
 
 impl<'t> PreparedTag<'t> {
-    /// Returns the tag with what the choice computes of it. It is proved that a clone of a prepared tag is the same
-    /// value.
+    /// Prepares a tag for many choices.
     pub fn new(tag: LangTag<'t>) -> PreparedTag<'t>
         ensures tag { result.tag ≡ tag.entry }
         ensures kept { KeepsForm (lang_tag_text tag.entry) result.form }

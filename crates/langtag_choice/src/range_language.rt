@@ -1,8 +1,8 @@
 //! The language of a range, and the languages that are near it.
-ghost use Rattle.std.specs.Prelude.{◌≡◌, ◌<◌, ◌≤◌, ◌*◌, ◌^◌, ℕ, IsTrue, Some, length, slice_index, option_map};
+ghost use Rattle.std.specs.Prelude.{◌≡◌, ◌<◌, ◌≤◌, ◌*◌, ◌^◌, ◌++◌, [], ◌∷◌, ℕ, IsTrue, Some, length, slice_index, option_map};
 ghost use Rattle.langtag_scan.specs.Prelude.{ForSome};
 ghost use Rattle.langtag_choice.specs.FirstLetters.{first_two};
-ghost use Rattle.langtag_choice.specs.NearLanguages.{AreFar, HasRuleKeys, form_number, is_among_numbers};
+ghost use Rattle.langtag_choice.specs.NearLanguages.{AreFar, HasNumberOrNone, HasRuleKeys, is_among_numbers};
 ghost use Rattle.langtag_cldr.specs.Definitions.{field_texts};
 ghost use Rattle.langtag_range.specs.Definitions.{basic_text};
 ghost use Rattle.langtag_text.specs.Numbers.{climbs_from};
@@ -10,14 +10,17 @@ ghost use Rattle.langtag_text.specs.Numbers.{climbs_from};
 use crate::first_letters::first_two;
 use crate::read_range::starts;
 use crate::rule_distance::language_rule_keys;
-use langtag_cldr::{TagFields, language_number};
+use langtag_cldr::{TagFields, are_alike, language_number};
+use langtag_scan::into_smallcase;
 
 /// The language of a range, the letters with which the range begins, and the keys of the rules for the language as the
 /// desired one.
 #[derive(Clone, Copy)]
 pub(crate) struct RangeLanguage {
-    /// The first two bytes of the range, in lowercase. They are not those of the language if the language was replaced.
+    /// The first two bytes of the range, in lowercase. The second is 0 if the range has only one byte. They are not those of
+    /// the language if the language was replaced.
     pub(crate) letters: (u8, u8),
+    /// The number of the language, or 0 if the range has no matching form, or a language of more than three letters.
     pub(crate) number: u32,
     keys: &'static [u32],
     pub ghost most: { number < 32768 },
@@ -25,19 +28,20 @@ pub(crate) struct RangeLanguage {
 }
 
 impl RangeLanguage {
-    /// Returns the language of a range with this matching form, or `None` if the language has more than three letters.
-    #[tactic(auto, using(crate::proofs::FarTags::number_has, langtag_cldr::proofs::FieldClasses::language_letters))]
+    /// Returns the language of a range with this matching form, or `None` if the range is not compared by its first bytes.
+    #[tactic(auto, using(crate::proofs::FarTags::begins_with_two, crate::proofs::FarTags::begins_with_one))]
     pub(crate) fn of(range: &[u8], form: Option<TagFields<'_>>) -> Option<RangeLanguage>
-        ensures number { ForSome result (λ own. form_number (option_map field_texts form.entry) ≡ Some own.number) }
-        ensures begins { ForSome result (λ own. first_two (basic_text range.now) ≡ Some own.letters) }
+        ensures number { ForSome result (λ own. ForSome (option_map field_texts form.entry) (HasNumberOrNone own.number)) }
+        ensures begins { ForSome result (λ own. first_two (basic_text range.now ++ 0 ∷ []) ≡ Some own.letters) }
     {
-        let language = form?.language;
-        if language.len() > 3 || range.len() < 2 || !starts(range, &range[..2]) {
-            return None;
-        }
-        let number = language_number(language);
+        let letters = match range {
+            [_, _, ..] if starts(range, &range[..2]) => first_two(range)?,
+            [only, ..] if are_alike(range, &range[..1]) => (into_smallcase(*only), 0),
+            _ => return None,
+        };
+        let number = form_number(form);
         Some(RangeLanguage {
-            letters: first_two(range)?,
+            letters,
             number,
             keys: rule_keys(number * 32768),
         })
@@ -49,6 +53,18 @@ impl RangeLanguage {
         ensures { IsTrue result → AreFar self.now.number other }
     {
         other != self.number && !has_key(self.keys, self.number * 32768 + other)
+    }
+}
+
+/// Returns the number of the language of a form, or 0 if there is no form, or if the language has more than three letters.
+#[tactic(auto, using(langtag_cldr::proofs::FieldClasses::language_letters))]
+fn form_number(form: Option<TagFields<'_>>) -> u32
+    ensures number { ForSome (option_map field_texts form.entry) (HasNumberOrNone result) }
+    ensures most { result < 32768 }
+{
+    match form {
+        Some(form) if form.language.len() <= 3 => language_number(form.language),
+        _ => 0,
     }
 }
 

@@ -4,12 +4,11 @@ ghost use Rattle.langtag_scan.specs.Prelude.{option_map_or};
 ghost use Rattle.langtag_range.specs.Definitions.{Element, listed_element, is_language_range, hyphened, wanted_elements};
 ghost use Rattle.langtag_choice.specs.ListTexts.{ordered_elements, weighted_elements};
 
-use langtag_header::{LanguageRange, WeightedRange};
+use langtag_match::{LanguageRange, WeightedRange};
 use langtag_range::{WantedRange, split_wanted};
 
-/// Language ranges with their weights, in the reader's order. It is implemented for an Accept-Language header in a
-/// slice of bytes, and for slices of [`WeightedRange`] and of [`LanguageRange`]. Walking over the ranges does not
-/// allocate.
+/// Language ranges with their weights, in the user's order. It is implemented for an Accept-Language header in a slice
+/// of bytes, and for slices of [`WeightedRange`] and of [`LanguageRange`]. Walking over the ranges does not allocate.
 ///
 /// ```
 /// use langtag::LangTag;

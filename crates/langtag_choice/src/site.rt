@@ -1,9 +1,11 @@
-//! The tags of a site that is known before the requests.
+//! The tags of a site that is known before the requests. A site borrows its prepared tags, so that a program without an
+//! allocator can prepare tags in an array. It has no index by language: an index would need proofs of its own and room
+//! in the caller's array in C, and a tag whose language is far from that of a range costs few instructions anyway.
 ghost use Rattle.std.specs.Prelude.{◌≡◌, option_map};
 ghost use Rattle.langtag_choice.specs.Best as spec;
 ghost use Rattle.langtag_choice.specs.ListTexts.{ordered_elements, tag_texts, weighted_elements};
 ghost use Rattle.langtag_choice.specs.Sites.{prepared_tags};
-ghost use Rattle.langtag_header.specs.Text.{accept_language_ranges};
+ghost use Rattle.langtag_match.specs.Text.{accept_language_ranges};
 ghost use Rattle.langtag_range.specs.Definitions.{wanted_elements};
 
 use crate::best::{best_among, match_among};
@@ -13,7 +15,7 @@ use crate::prepared_tag::PreparedTag;
 use crate::range_list::RangeList;
 use crate::tag_list::TagList;
 use langtag::LangTag;
-use langtag_header::{AcceptLanguage, LanguageRange};
+use langtag_match::{AcceptLanguage, LanguageRange};
 
 /// The tags of a site, prepared for many choices. A choice among them is the same as among the tags themselves, but takes
 /// fewer instructions: 0.4 times as many for 40 tags, and 0.2 times for 1,000. A site does not change: make another if its
@@ -34,7 +36,7 @@ pub struct Site<'s, 't> {
 }
 
 impl<'s, 't> Site<'s, 't> {
-    /// Returns the site with these tags. It is proved that a clone is the same value.
+    /// Returns the site with these tags.
     pub fn new(tags: &'s [PreparedTag<'t>]) -> Site<'s, 't>
         ensures tags { result.tags.now ≡ tags.now }
         ensures cloned { (site copy : Site) → ⟦<Site<'s, 't> as Clone>⟧.is_clone site copy → copy ≡ site }

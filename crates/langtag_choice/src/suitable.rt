@@ -1,4 +1,5 @@
-//! All tags that suit a user, best first.
+//! All tags that suit a user, best first. They are defined by choices in turn, so that the first is the choice of
+//! `best_for_header`. The name avoids *filter*, because filtering (RFC 4647) takes no distances and has no order.
 ghost use Rattle.std.specs.Prelude.{◌≡◌, ◌<◌, ◌≤◌, IfOk, None, false, true, length, take, drop, All};
 ghost use Rattle.langtag_range.specs.Definitions.{wanted_elements};
 ghost use Rattle.langtag_choice.specs.Best.{IsChoice};
@@ -11,7 +12,7 @@ use crate::range_list::RangeList;
 use crate::shortlist::{take_first, worst_of};
 use crate::tag_list::{TagList, Tags};
 use langtag::LangTag;
-use langtag_header::LanguageRange;
+use langtag_match::LanguageRange;
 use std::alloc::{AllocError, Global};
 
 /// Returns the indices of all suitable tags for an Accept-Language header (RFC 9110 section 12.5.4), best first: the tag

@@ -1,9 +1,9 @@
 //! A range that a tag can serve.
-ghost use Rattle.std.specs.Prelude.{◌≡◌, ◌≤◌, ◌<◌, ◌==◌, ℕ, IsTrue, List, MatchOption, Some, false, length, option_map};
+ghost use Rattle.std.specs.Prelude.{◌≡◌, ◌≤◌, ◌<◌, ◌==◌, ◌++◌, [], ◌∷◌, ℕ, IsTrue, List, MatchOption, None, Some, false, length, option_map};
 ghost use Rattle.langtag_scan.specs.Prelude.{ForSome};
 ghost use Rattle.langtag_choice.specs.FirstLetters.{first_two};
 ghost use Rattle.langtag_choice.specs.Variants.{variants_of};
-ghost use Rattle.langtag_choice.specs.NearLanguages.{HasNumber, form_number};
+ghost use Rattle.langtag_choice.specs.NearLanguages.{HasNumber, HasNumberOrNone};
 ghost use Rattle.langtag_cldr.specs.Definitions.{matching_form, field_texts};
 ghost use Rattle.langtag_range.specs.Definitions.{basic_text, is_language_range, is_star, hyphened, listed_element};
 
@@ -15,7 +15,7 @@ use langtag_cldr::{TagFields, matching_form};
 use langtag_range::WantedRange;
 
 /// A range other than `*`, its weight, which is not 0, and the number of ranges before it. The matching form of the
-/// range is computed once for many tags, and so is its language if that has at most three letters.
+/// range is computed once for many tags, and so is its language.
 #[derive(Clone, Copy)]
 pub(crate) struct Wish<'a> {
     pub(crate) range: &'a [u8],
@@ -29,9 +29,9 @@ pub(crate) struct Wish<'a> {
     pub ghost in_class: { IsTrue (is_language_range (hyphened range.now)) },
     pub ghost no_star: { is_star (basic_text range.now) ≡ false },
     pub ghost known: { option_map field_texts form ≡ matching_form (basic_text range.now) },
-    pub ghost number: { ForSome language (λ own. form_number (matching_form (basic_text range.now)) ≡ Some own.number) },
+    pub ghost number: { ForSome language (λ own. ForSome (matching_form (basic_text range.now)) (HasNumberOrNone own.number)) },
     pub ghost counted: { variants ≡ length (variants_of (basic_text range.now)) },
-    pub ghost begins: { ForSome language (λ own. first_two (basic_text range.now) ≡ Some own.letters) },
+    pub ghost begins: { ForSome language (λ own. first_two (basic_text range.now ++ 0 ∷ []) ≡ Some own.letters) },
 }
 
 impl<'a> Wish<'a> {
@@ -62,7 +62,8 @@ impl<'a> Wish<'a> {
     }
 
     /// Returns whether the first letters of a tag show that it cannot serve the range: the tag has a two-letter language
-    /// with which the range does not begin, and which is not near the language of the range.
+    /// with which the range does not begin, and which is not near the language of the range. If the range has no matching
+    /// form, it is enough that the range does not begin with these letters.
     pub(crate) fn is_far_from(&self, tag: &[u8]) -> bool
         ensures far { IsTrue result → 50 ≤ distance_of_texts (basic_text self.now.range.now) tag.now }
         ensures kept { IsTrue result → kept (basic_text self.now.range.now) tag.now ≡ 0 }
@@ -70,10 +71,26 @@ impl<'a> Wish<'a> {
         let Some(letters) = first_two(tag) else {
             return false;
         };
+        if self.form.is_none() {
+            return self.is_far_without_form(letters);
+        }
         match language_of(letters) {
-            Some(number) => {
-                self.is_far_from_language(&self.language, letters, number) && is_short(tag)
+            Some(number) if is_short(tag) => {
+                self.is_far_from_language(&self.language, letters, number)
             }
+            _ => false,
+        }
+    }
+
+    /// Returns whether the range, which has no matching form, does not begin with these letters. Only a tag that equals the
+    /// range, or that lookup finds, can serve such a range, and both begin as the range does.
+    fn is_far_without_form(&self, letters: (u8, u8)) -> bool
+        requires { matching_form (basic_text self.now.range.now) ≡ None }
+        ensures far { IsTrue result → (tag : List ℕ) → first_two tag ≡ Some letters → 50 ≤ distance_of_texts (basic_text self.now.range.now) tag }
+        ensures kept { IsTrue result → (tag : List ℕ) → first_two tag ≡ Some letters → kept (basic_text self.now.range.now) tag ≡ 0 }
+    {
+        match self.language {
+            Some(own) => letters != own.letters,
             None => false,
         }
     }
@@ -88,7 +105,7 @@ impl<'a> Wish<'a> {
     ) -> bool
         requires few { number < 32768 }
         requires own { own.now ≡ self.now.language }
-        ensures far { IsTrue result → (tag : List ℕ) → ForSome (matching_form tag) (HasNumber number) → 50 ≤ distance_of_texts (basic_text self.now.range.now) tag }
+        ensures far { IsTrue result → (tag : List ℕ) → first_two tag ≡ Some letters → ForSome (matching_form tag) (HasNumber number) → 50 ≤ distance_of_texts (basic_text self.now.range.now) tag }
         ensures kept { IsTrue result → (tag : List ℕ) → first_two tag ≡ Some letters → kept (basic_text self.now.range.now) tag ≡ 0 }
     {
         match own {

@@ -1,8 +1,10 @@
 -- Fields that are equal but for case have likely subtags that are. A language that is there stays in the matching form.
-use Rattle.langtag_scan.proofs.Prelude.{◌≡◌, ℕ, ◌<◌, List, length, option_map, arith, true, Bool, cond, [], ◌∷◌, Option, None, Some, refl, subst, common_steps, nat_tests}
-use Rattle.langtag_scan.specs.Grammar.{Alike}
+use Rattle.langtag_scan.proofs.Prelude.{◌≡◌, ℕ, ◌<◌, List, length, option_map, arith, true, false, Bool, cond, [], ◌∷◌, Option, None, Some, refl, subst, common_steps, nat_tests}
+use Rattle.langtag_scan.specs.Grammar.{Alike, are_alike, option_map_or}
+use Rattle.langtag_fields.specs.Fields.{extlang_prefix, is_prefix_of}
 use Rattle.langtag_text.specs.Fields.{Fields}
 use Rattle.langtag_cldr.specs.Definitions.{completed, letters_replaced, matching_form, most_likely, region_replaced, replaced_form, language_replaced, Likely, are_alike_fields, likely_for, looked_up, filled, or_other, known, known_fields, add_likely, language_alone, without_script, without_region, likely_subtags, add_likely_subtags, canonical_fields, least, remove_likely_subtags, suffices}
+use Rattle.langtag_fields.proofs.Values.{value_for-alike}
 use Rattle.langtag_scan.proofs.CaseLaw.{length-fold}
 use Rattle.langtag_text.proofs.Alike.{AlikeFields, alike_is, are_alike-left, are_alike-right}
 
@@ -21,6 +23,16 @@ alike_fields a b is = grind (arith, alike_is)
 
 pub fields-right : (a b c : Fields) → AlikeFields b c → are_alike_fields a b ≡ are_alike_fields a c
 fields-right a b c h = grind (arith, nat_tests, are_alike-right a.language, are_alike-right a.script, are_alike-right a.region)
+
+-- ---- extended languages
+
+pub is_prefix_of-alike : (l m e f : List ℕ) → Alike l m → Alike e f → is_prefix_of l e ≡ is_prefix_of m f
+unfolding extlang_prefix
+is_prefix_of-alike l m e f h k = rw (value_for-alike _ e f k) (same _)
+  where
+    same : (o : Option (List ℕ)) → option_map_or (λ prefix. are_alike prefix l) o false ≡ option_map_or (λ prefix. are_alike prefix m) o false
+    same None = refl
+    same (Some prefix) = are_alike-right prefix l m h
 
 -- ---- likely subtags added
 

@@ -5,7 +5,7 @@ use Rattle.langtag_text.specs.Numbers.{letter_number}
 use Rattle.langtag_text.proofs.Letters.{primary_letters, extended_primary}
 use Rattle.langtag_text.specs.FieldClasses.{is_language_field, is_script_field, is_region_field}
 use Rattle.langtag_text.specs.Fields.{Fields}
-use Rattle.langtag_cldr.specs.Definitions.{known, first_index}
+use Rattle.langtag_cldr.specs.Definitions.{known, or_other, first_index}
 use Rattle.langtag_cldr.proofs.TableRows.{are_plain}
 use Rattle.langtag_scan.proofs.Laws.{script_four, region_two_three, of_primary, of_script, of_region, folded_number-tells}
 use Rattle.langtag_text.proofs.FieldClasses.{from_primary}
@@ -25,6 +25,10 @@ language_alphanumeric (b ∷ text) good = (of_primary (b ∷ text) good).alphanu
 
 pub from_extended : (text : List ℕ) → is_extended text ≡ true → is_language_field text ≡ true
 from_extended text is = from_primary text (extended_primary text is)
+
+pub none_or_extended : (text : List ℕ) → (0 < length text → is_extended text ≡ true) → is_language_field text ≡ true
+none_or_extended [] is = refl
+none_or_extended (b ∷ text) is = from_extended (b ∷ text) (is (omega arith))
 
 pub script_alphanumeric : (text : List ℕ) → is_script_field text ≡ true → are_alphanumeric text ≡ true
 script_alphanumeric [] good = refl
@@ -65,6 +69,10 @@ known_script unknown text good = known_good is_script_field unknown text refl go
 
 pub known_region : (unknown text : List ℕ) → is_region_field text ≡ true → is_region_field (known unknown text) ≡ true
 known_region unknown text good = known_good is_region_field unknown text refl good
+
+pub known_other : (unknown text other : List ℕ) → is_region_field text ≡ true → is_region_field other ≡ true → is_region_field (known unknown (or_other text other)) ≡ true
+known_other unknown [] other good also = known_region unknown other also
+known_other unknown (b ∷ text) other good also = known_region unknown (b ∷ text) good
 
 -- ---- the table has the keys of the list: by computation
 

@@ -6,3 +6,4 @@ pub mod FieldClasses
 pub mod LanguageBits
 pub mod RowLaws
 pub mod TableRows
+pub mod WholeTags

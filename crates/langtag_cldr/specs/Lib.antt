@@ -1,6 +1,7 @@
 pub mod Aliases
 pub mod Definitions
 pub mod Direction
+pub mod Follows
 pub mod Likely
 pub mod LikelyFields
 pub mod LikelySubtags

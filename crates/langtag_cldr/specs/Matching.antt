@@ -1,8 +1,9 @@
 -- The matching form of a text: the fields by which two tags are compared (UTS #35, part 1, section 'Language
 -- Matching'). Deprecated subtags are replaced, and then likely subtags are added.
-use Rattle.std.specs.Prelude.{ℕ, ◌==◌, List, [], length, Option, None, codes, if◌then◌else◌, option_map}
+use Rattle.std.specs.Prelude.{ℕ, ◌==◌, List, [], length, Option, None, codes, if◌then◌else◌, option_map, unwrap_or}
 use Rattle.langtag_scan.specs.Grammar.{option_map_or, are_alike}
 use Rattle.langtag_range.specs.Definitions.{basic_text, hyphened}
+use Rattle.langtag_fields.specs.Fields.{preferred_tag}
 use Rattle.langtag_cldr.specs.Likely.{likely_for, or_other, language_alone, known, add_likely}
 use Rattle.langtag_text.specs.Fields.{Fields}
 use Rattle.langtag_cldr.specs.LikelySubtags.{likely_subtags}
@@ -60,13 +61,18 @@ matching_fields f = completed (language_replaced f)
 
 -- ---- the form of a text
 
+-- the text whose fields count: the Preferred-Value of a whole tag in the registry (RFC 5646 section 3.1.7), such as `hak`
+-- for `zh-hakka`, or else the text with "_" read as "-"
+abbrev pub current_text : List ℕ → List ℕ
+current_text text = unwrap_or (preferred_tag (basic_text text)) (hyphened text)
+
 -- the matching form of a text. The text `und` has none, nor has a text that does not begin with a language, such as a
--- private use tag or `i-default`. "_" is read as "-", as it is in the ranges of a header, and "*" after the first
--- subtag is ignored. Everything after the fields is ignored, too, such as variants and extensions: `en-GB-oed` has the
--- form of `en-GB`
+-- private use tag or `i-default`. A tag that is replaced as a whole has the form of its replacement. "_" is read as "-",
+-- as it is in the ranges of a header, and "*" after the first subtag is ignored. Everything after the fields is ignored,
+-- too, such as variants and extensions: `en-GB-oed` has the form of `en-GB`
 unfoldable pub matching_form : List ℕ → Option Fields
-matching_form text = if are_alike (basic_text text) (codes "und") then None else option_map matching_fields (text_fields (hyphened text))
+matching_form text = if are_alike (basic_text text) (codes "und") then None else option_map matching_fields (text_fields (current_text text))
 
 -- the fields of a text with a deprecated language replaced; only contracts of private functions cite this definition
 unfoldable pub replaced_form : List ℕ → Option Fields
-replaced_form text = if are_alike (basic_text text) (codes "und") then None else option_map language_replaced (text_fields (hyphened text))
+replaced_form text = if are_alike (basic_text text) (codes "und") then None else option_map language_replaced (text_fields (current_text text))

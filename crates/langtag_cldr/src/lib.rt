@@ -11,6 +11,7 @@ mod likely;
 mod matching;
 mod names;
 mod read_text;
+mod replacement;
 mod rows;
 mod suggestion;
 mod tables;
@@ -33,6 +34,7 @@ pub use keys::index_of;
 pub use likely::suffices;
 pub use matching::{completed, matching_form, replaced_form};
 pub use read_text::{after_common, are_alike, basic_len};
+pub use replacement::may_change_language;
 pub use rows::{key_number, language_number};
 
 // For langtag_locale and langtag_parent.

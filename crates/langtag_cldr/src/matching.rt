@@ -1,4 +1,7 @@
-//! The fields by which two tags are compared (UTS #35, part 1, section 'Language Matching').
+//! The fields by which two tags are compared (UTS #35, part 1, section 'Language Matching'). They are those of the
+//! longest prefix of a tag that is a normal tag. A tag that the registry replaces as a whole has the fields of its
+//! replacement, so `i-klingon` is as near as `tlh`. Private-use tags and `i-default` begin with no language, so they have
+//! none. A region in digits stays, such as `840`, as in ICU's LocaleMatcher, although `maximized` looks up `US` for it.
 ghost use Rattle.std.specs.Prelude.{◌≡◌, option_map};
 ghost use Rattle.langtag_cldr.specs.Matching as spec;
 ghost use Rattle.langtag_cldr.specs.Definitions.{field_texts};

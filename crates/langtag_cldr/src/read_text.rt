@@ -60,7 +60,7 @@ fn without_stars(range: &[u8]) -> &[u8]
     left
 }
 
-/// Returns whether a range begins with `-*`.
+/// Returns whether a range begins with `-*` or `_*`.
 fn begins_with_star(range: &[u8]) -> bool
     ensures star { result ≡ begins_with_wildcard (hyphened range.now) }
     ensures long { IsTrue result → 2 ≤ length range.now }

@@ -1,5 +1,6 @@
 //! The rows of likely subtags, in tables: one table for rows with only a language on the left, and one for all other
-//! rows.
+//! rows. Rows with a script are tried before rows with a region, as in ICU. Older versions of UTS #35 have the region
+//! first. The order matters only for `und`, as in `und-Latn-RU`.
 ghost use Rattle.std.specs.Prelude.{◌≡◌, ◌≤◌, ◌<◌, IsTrue, length, map, slice_index_or, option_map};
 ghost use Rattle.langtag_scan.specs.Class as class;
 ghost use Rattle.langtag_text.specs.Numbers.{climbs_from, letter_number};

@@ -1,4 +1,6 @@
-//! The code that was probably meant by a language or a region that is not registered.
+//! The code that was probably meant by a language or a region that is not registered. A code is suggested only if CLDR
+//! replaces it with one subtag, so nothing is suggested for `FQ`, which became two regions. Nothing is suggested for an
+//! extended language, because the writer of `zh-fra` hardly means `FR`.
 ghost use Rattle.std.specs.Prelude.{◌≡◌, IfSome, IsTrue, length, map, option_map};
 ghost use Rattle.langtag_scan.specs.Grammar.{folded_number, are_alphanumeric};
 ghost use Rattle.langtag_text.specs.Numbers.{climbs_from};

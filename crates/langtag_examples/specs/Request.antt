@@ -4,8 +4,8 @@ use Rattle.std.specs.Borrow.{Bor}
 use Rattle.langtag.specs.declared.lang_tag.LangTag.{LangTag}
 use Rattle.langtag_match.specs.AcceptLanguage.{AreAccepted, IsFirstBad, range_texts}
 use Rattle.langtag_match.specs.LookUp.{choice}
-use Rattle.langtag_match.specs.accept_language_error.ElementPart.{ElementPart}
-use Rattle.langtag_match.specs.weighted_range.WeightedRange.{WeightedRange}
+use Rattle.langtag_match.specs.declared.accept_language_error.ElementPart.{ElementPart}
+use Rattle.langtag_match.specs.declared.weighted_range.WeightedRange.{WeightedRange}
 
 -- the tag that lookup finds for the header, or the default if there is no header or it has a malformed element
 abbrev pub IsTagFor : List LangTag → LangTag → Option (Bor (List ℕ)) → LangTag → Type 0

@@ -1,5 +1,4 @@
-//! Proved examples of what programs do with `langtag` and `langtag_match`: one file for each use. docs/RATTLE.md lists
-//! them.
+//! Proved examples of what programs do with `langtag` and `langtag_match`: one file for each use.
 #![tactic(auto)]
 
 mod broken;

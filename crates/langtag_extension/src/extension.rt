@@ -94,8 +94,7 @@ impl<'a> Extension<'a> {
     }
 
     /// Returns whether another string equals this string, ignoring the case of ASCII letters:
-    /// `Extension::new("u-co")?.eq_str("U-CO")` is `true`. It is proved that comparisons and hashes also ignore case,
-    /// and that a clone is the same value.
+    /// `Extension::new("u-co")?.eq_str("U-CO")` is `true`. Comparisons and hashes also ignore case.
     #[tactic(auto, using(langtag_scan::proofs::CaseOrder::bytes_ends_first, crate::proofs::Rules::alike_extension))]
     pub fn eq_str(&self, other: &str) -> bool
         ensures test { result ≡ are_alike (extension_text self.now) other.now }
@@ -220,8 +219,7 @@ impl ExtensionBuf {
         })
     }
 
-    /// Borrows the extension: `Extension::new("U-CO")?.try_to_owned(alloc)?.as_extension().as_str()` is `"U-CO"`. It is
-    /// proved that comparisons and hashes of owned extensions ignore case.
+    /// Borrows the extension: `Extension::new("U-CO")?.try_to_owned(alloc)?.as_extension().as_str()` is `"U-CO"`.
     #[tactic(auto, using(langtag_scan::proofs::CaseOrder::bytes_ends_first))]
     pub fn as_extension(&self) -> Extension<'_>
         ensures same_text { extension_text result ≡ extension_buf_text self.now }

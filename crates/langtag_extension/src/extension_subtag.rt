@@ -90,8 +90,7 @@ impl<'a> ExtensionSubtag<'a> {
     }
 
     /// Returns whether another string equals this string, ignoring the case of ASCII letters:
-    /// `ExtensionSubtag::new("co")?.eq_str("CO")` is `true`. It is proved that comparisons and hashes also ignore case,
-    /// and that a clone is the same value.
+    /// `ExtensionSubtag::new("co")?.eq_str("CO")` is `true`. Comparisons and hashes also ignore case.
     #[tactic(auto, using(langtag_scan::proofs::CaseOrder::bytes_ends_first, langtag_scan::proofs::CaseLaw::alike_extension_subtag))]
     pub fn eq_str(&self, other: &str) -> bool
         ensures test { result ≡ are_alike (extension_subtag_text self.now) other.now }
@@ -176,7 +175,6 @@ impl ExtensionSubtagBuf {
     }
 
     /// Borrows the subtag: `ExtensionSubtag::new("CO")?.try_to_owned(alloc)?.as_extension_subtag().as_str()` is `"CO"`.
-    /// It is proved that comparisons and hashes of owned subtags ignore case.
     #[tactic(auto, using(langtag_scan::proofs::CaseOrder::bytes_ends_first))]
     pub fn as_extension_subtag(&self) -> ExtensionSubtag<'_>
         ensures same_text { extension_subtag_text result ≡ extension_subtag_buf_text self.now }

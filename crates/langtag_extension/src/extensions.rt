@@ -101,8 +101,7 @@ impl<'a> Extensions<'a> {
     }
 
     /// Returns whether another string equals this string, ignoring the case of ASCII letters:
-    /// `Extensions::new("u-co")?.eq_str("U-CO")` is `true`. It is proved that comparisons and hashes also ignore case,
-    /// and that a clone is the same value.
+    /// `Extensions::new("u-co")?.eq_str("U-CO")` is `true`. Comparisons and hashes also ignore case.
     #[tactic(auto, using(langtag_scan::proofs::CaseOrder::bytes_ends_first, crate::proofs::Rules::alike_extensions))]
     pub fn eq_str(&self, other: &str) -> bool
         ensures test { result ≡ are_alike (extensions_text self.now) other.now }
@@ -254,8 +253,7 @@ impl ExtensionsBuf {
         })
     }
 
-    /// Borrows the extensions: `Extensions::new("U-CO")?.try_to_owned(alloc)?.as_extensions().as_str()` is `"U-CO"`. It
-    /// is proved that comparisons and hashes of owned lists of extensions ignore case.
+    /// Borrows the extensions: `Extensions::new("U-CO")?.try_to_owned(alloc)?.as_extensions().as_str()` is `"U-CO"`.
     #[tactic(auto, using(langtag_scan::proofs::CaseOrder::bytes_ends_first))]
     pub fn as_extensions(&self) -> Extensions<'_>
         ensures same_text { extensions_text result ≡ extensions_buf_text self.now }

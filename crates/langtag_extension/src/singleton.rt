@@ -44,8 +44,8 @@ impl Singleton {
     ghost use Rattle.langtag_extension.specs.Compared.{SingletonsCompareByByte};
     ghost use Rattle.langtag_extension.specs.Text.{singleton_byte};
 
-    /// Returns the singleton for a byte: `Singleton::new(b'u')` is `Ok`. It is proved that singletons compare and hash
-    /// by their exact bytes, and that a clone is the same value.
+    /// Returns the singleton for a byte: `Singleton::new(b'u')` is `Ok`. Singletons compare and hash by their exact
+    /// bytes.
     ///
     /// # Errors
     ///

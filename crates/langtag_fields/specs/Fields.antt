@@ -1,5 +1,6 @@
 -- The fields of the registry's record for a subtag or a whole tag (RFC 5646 section 3.1).
-use Rattle.std.specs.Prelude.{ℕ, Bool, List, Option}
+use Rattle.std.specs.Prelude.{ℕ, Bool, false, List, Option}
+use Rattle.langtag_scan.specs.Grammar.{are_alike, option_map_or}
 use Rattle.langtag_fields.specs.Entry.{value_for}
 use Rattle.langtag_fields.specs.Registered.{contains_alike}
 use Rattle.langtag_fields.specs.Subtags as list
@@ -51,3 +52,7 @@ macrolanguage text = value_for list.language_macrolanguage text
 -- the Prefix of an extended language; every registered extended language has exactly one Prefix (section 3.1.8)
 unfoldable pub extlang_prefix : List ℕ → Option (List ℕ)
 extlang_prefix text = value_for list.extlang_prefixes text
+
+-- whether an extended language is registered for a language, which is its Prefix (section 2.2.2)
+abbrev pub is_prefix_of : List ℕ → List ℕ → Bool
+is_prefix_of language extlang = option_map_or (λ prefix. are_alike prefix language) (extlang_prefix extlang) false

@@ -3,6 +3,7 @@ ghost use Rattle.std.specs.Prelude.{◌≡◌, map, option_map};
 ghost use Rattle.langtag.specs.Definitions.{region_text, variant_text, lang_tag_text};
 ghost use Rattle.langtag_fields.specs.Entry.{value_for};
 ghost use Rattle.langtag_fields.specs.Fields as field;
+ghost use Rattle.langtag_fields.specs.Subtags as list;
 ghost use Rattle.langtag_fields.specs.Tables.{AreEndsOf};
 
 use crate::table::value_of;
@@ -79,6 +80,14 @@ pub fn preferred_for(text: &[u8]) -> Option<LangTag<'static>>
 {
     let text = value_beside(&PREFERRED_TAG_KEYS, &PREFERRED_TAGS, text)?;
     Some(LangTag::from_checked(text))
+}
+
+/// Returns each whole tag that has a Preferred-Value, and this value.
+#[tactic(auto, using(crate::proofs::FieldTables::tag_entries))]
+pub fn preferred_tags() -> &'static [(&'static str, &'static str)]
+    ensures { map (λ pair. record { subtag = pair.0.now; value = pair.1.now }) result.now ≡ list.tag_preferred }
+{
+    &PREFERRED_TAGS
 }
 
 /// Finds the pair whose first string equals the bytes, ignoring case, and returns its second string. `keys` has the

@@ -1,4 +1,5 @@
-//! Writing the extensions of a tag with a keyword set or removed.
+//! Writing the extensions of a tag with a keyword set or removed. A keyword that is set keeps its position, and its key
+//! keeps its case, so that all other bytes of the tag stay. ICU and `Intl.Locale` sort all keys.
 ghost use Rattle.std.specs.Prelude.{◌≡◌, List, map, flat_map, is_some};
 ghost use Rattle.langtag_scan.specs.Grammar.{AllByRecursion, IsWellFormedExtension, subtags};
 ghost use Rattle.langtag_extension.specs.Spelling.{SpellsExtension, SpellsExtensions, extension_spelling, find_extension};

@@ -89,8 +89,7 @@ impl<'a> ExtendedLangTag<'a> {
     }
 
     /// Returns whether another string equals this string, ignoring the case of ASCII letters:
-    /// `ExtendedLangTag::new("yue")?.eq_str("YUE")` is `true`. It is proved that comparisons and hashes also ignore
-    /// case, and that a clone is the same value.
+    /// `ExtendedLangTag::new("yue")?.eq_str("YUE")` is `true`. Comparisons and hashes also ignore case.
     #[tactic(auto, using(langtag_scan::proofs::CaseOrder::bytes_ends_first, langtag_scan::proofs::CaseLaw::alike_extended))]
     pub fn eq_str(&self, other: &str) -> bool
         ensures test { result ≡ are_alike (extended_lang_tag_text self.now) other.now }
@@ -175,7 +174,7 @@ impl ExtendedLangTagBuf {
     }
 
     /// Borrows the subtag: `ExtendedLangTag::new("YUE")?.try_to_owned(alloc)?.as_extended_lang_tag().as_str()` is
-    /// `"YUE"`. It is proved that comparisons and hashes of owned extended subtags ignore case.
+    /// `"YUE"`.
     #[tactic(auto, using(langtag_scan::proofs::CaseOrder::bytes_ends_first))]
     pub fn as_extended_lang_tag(&self) -> ExtendedLangTag<'_>
         ensures same_text { extended_lang_tag_text result ≡ extended_lang_tag_buf_text self.now }

@@ -94,8 +94,7 @@ impl<'a> Language<'a> {
     }
 
     /// Returns whether another string equals this string, ignoring the case of ASCII letters:
-    /// `Language::new("zh-yue")?.eq_str("ZH-YUE")` is `true`. It is proved that comparisons and hashes also ignore
-    /// case, and that a clone is the same value.
+    /// `Language::new("zh-yue")?.eq_str("ZH-YUE")` is `true`. Comparisons and hashes also ignore case.
     #[tactic(auto, using(langtag_scan::proofs::CaseOrder::bytes_ends_first, crate::proofs::Rules::alike_language))]
     pub fn eq_str(&self, other: &str) -> bool
         ensures test { result ≡ are_alike (language_text self.now) other.now }
@@ -254,8 +253,7 @@ impl LanguageBuf {
         })
     }
 
-    /// Borrows the language: `Language::new("ZH-YUE")?.try_to_owned(alloc)?.as_language().as_str()` is `"ZH-YUE"`. It
-    /// is proved that comparisons and hashes of owned languages ignore case.
+    /// Borrows the language: `Language::new("ZH-YUE")?.try_to_owned(alloc)?.as_language().as_str()` is `"ZH-YUE"`.
     #[tactic(auto, using(langtag_scan::proofs::CaseOrder::bytes_ends_first))]
     pub fn as_language(&self) -> Language<'_>
         ensures same_text { language_text result ≡ language_buf_text self.now }

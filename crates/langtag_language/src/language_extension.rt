@@ -92,8 +92,7 @@ impl<'a> LanguageExtension<'a> {
     }
 
     /// Returns whether another string equals this string, ignoring the case of ASCII letters:
-    /// `LanguageExtension::new("min-nan")?.eq_str("MIN-NAN")` is `true`. It is proved that comparisons and hashes also
-    /// ignore case, and that a clone is the same value.
+    /// `LanguageExtension::new("min-nan")?.eq_str("MIN-NAN")` is `true`. Comparisons and hashes also ignore case.
     #[tactic(auto, using(langtag_scan::proofs::CaseOrder::bytes_ends_first, crate::proofs::Rules::alike_language_extension))]
     pub fn eq_str(&self, other: &str) -> bool
         ensures test { result ≡ are_alike (language_extension_text self.now) other.now }
@@ -206,8 +205,7 @@ impl LanguageExtensionBuf {
     }
 
     /// Borrows the language extension:
-    /// `LanguageExtension::new("MIN-NAN")?.try_to_owned(alloc)?.as_language_extension().as_str()` is `"MIN-NAN"`. It is
-    /// proved that comparisons and hashes of owned language extensions ignore case.
+    /// `LanguageExtension::new("MIN-NAN")?.try_to_owned(alloc)?.as_language_extension().as_str()` is `"MIN-NAN"`.
     #[tactic(auto, using(langtag_scan::proofs::CaseOrder::bytes_ends_first))]
     pub fn as_language_extension(&self) -> LanguageExtension<'_>
         ensures same_text { language_extension_text result ≡ language_extension_buf_text self.now }

@@ -89,8 +89,7 @@ impl<'a> PrimaryLanguage<'a> {
     }
 
     /// Returns whether another string equals this string, ignoring the case of ASCII letters:
-    /// `PrimaryLanguage::new("fr")?.eq_str("FR")` is `true`. It is proved that comparisons and hashes also ignore case,
-    /// and that a clone is the same value.
+    /// `PrimaryLanguage::new("fr")?.eq_str("FR")` is `true`. Comparisons and hashes also ignore case.
     #[tactic(auto, using(langtag_scan::proofs::CaseOrder::bytes_ends_first, langtag_scan::proofs::CaseLaw::alike_primary))]
     pub fn eq_str(&self, other: &str) -> bool
         ensures test { result ≡ are_alike (primary_language_text self.now) other.now }
@@ -175,7 +174,6 @@ impl PrimaryLanguageBuf {
     }
 
     /// Borrows the subtag: `PrimaryLanguage::new("FR")?.try_to_owned(alloc)?.as_primary_language().as_str()` is `"FR"`.
-    /// It is proved that comparisons and hashes of owned primary languages ignore case.
     #[tactic(auto, using(langtag_scan::proofs::CaseOrder::bytes_ends_first))]
     pub fn as_primary_language(&self) -> PrimaryLanguage<'_>
         ensures same_text { primary_language_text result ≡ primary_language_buf_text self.now }

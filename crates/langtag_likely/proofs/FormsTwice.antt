@@ -3,12 +3,12 @@ use Rattle.langtag_scan.proofs.Prelude.{◌≡◌, ℕ, true, false, List, [], �
 use Rattle.langtag_scan.specs.Grammar.{AlikeRecords, fold_record, Alike, fold_text, are_alike, is_extended, Record, IsWellFormed}
 use Rattle.langtag_text.proofs.Letters.{primary_length, extended_primary}
 use Rattle.langtag_cldr.specs.Definitions.{or_other, filled, known, known_fields, add_likely, language_alone, without_script, without_region, likely_subtags, add_likely_subtags, canonical_fields, least, suffices}
-use Rattle.langtag_likely.proofs.Definitions.{fields_of, language_field, put_fields, put_language, maximal_record, minimal_record}
+use Rattle.langtag_likely.proofs.Definitions.{fields_of, if_read, is_read, language_field, put_fields, put_language, maximal_record, minimal_record}
 use Rattle.langtag_text.specs.Fields.{Fields}
 use Rattle.langtag_cldr.proofs.AddedTwice.{either_way, some_value, AreKnown, or_other_there}
 use Rattle.langtag_cldr.proofs.CanonicalFields.{likely_added}
 use Rattle.langtag_cldr.proofs.TableRows.{is_there}
-use Rattle.langtag_cldr.proofs.AlikeFields.{alike_fields, known-alike, known_fields-alike, suffices-alike, AlikeOptions, likely_added-alike, removed-alike, by_options}
+use Rattle.langtag_cldr.proofs.AlikeFields.{alike_fields, is_prefix_of-alike, known-alike, known_fields-alike, suffices-alike, AlikeOptions, likely_added-alike, removed-alike, by_options}
 use Rattle.langtag_text.proofs.Alike.{AlikeFields}
 
 -- ---- one field
@@ -124,13 +124,20 @@ fields_put r n l fits same not_und = grind (arith, language_put, primary_length)
 fields_known : (r : Record) → AreKnown (fields_of r)
 fields_known r = grind arith
 
-max_of : (q : Record) (m : Fields) → add_likely_subtags (fields_of q) ≡ Some m → maximal_record q ≡ put_fields q m
-unfolding maximal_record
-max_of q m is = ap (λ o. option_map_or (put_fields q) o q) is
+abbrev IsRead : Record → Type 0
+IsRead r = is_read r.primary r.extended ≡ true
 
-min_of : (q : Record) (m : Fields) → add_likely_subtags (fields_of q) ≡ Some m → minimal_record q ≡ put_fields q (least m)
+-- fields that are put change no extended language, and no primary subtag before one
+read_put : (r : Record) (f : Fields) → IsRead r → IsRead (put_fields r f)
+read_put r f read = grind arith
+
+max_of : (q : Record) (m : Fields) → IsRead q → add_likely_subtags (fields_of q) ≡ Some m → maximal_record q ≡ put_fields q m
+unfolding maximal_record
+max_of q m read is = rw (read, is) refl
+
+min_of : (q : Record) (m : Fields) → IsRead q → add_likely_subtags (fields_of q) ≡ Some m → minimal_record q ≡ put_fields q (least m)
 unfolding minimal_record
-min_of q m is = ap (λ o. option_map_or (put_fields q) (option_map least o) q) is
+min_of q m read is = rw (read, is) refl
 
 -- nothing is known of the record
 record HasNone (r : Record) : Type 0 where
@@ -141,24 +148,33 @@ none_is : (r : Record) → add_likely_subtags (fields_of r) ≡ None → HasNone
 unfolding maximal_record minimal_record
 none_is r is = grind arith
 
+unread : (r : Record) → is_read r.primary r.extended ≡ false → HasNone r
+unfolding maximal_record minimal_record
+unread r is = record { max_is = rw is refl; min_is = rw is refl }
+
 -- it has likely subtags
 record HasMost (r : Record) : Type 0 where
   most : Fields
+  read : IsRead r
   max_is : maximal_record r ≡ put_fields r most
   min_is : minimal_record r ≡ put_fields r (least most)
   again : add_likely_subtags (known_fields most) ≡ Some most
   fields : (n : Fields) → n.language ≡ most.language → fields_of (put_fields r n) ≡ known_fields n
 
-forms_of : (r : Record) → IsWellFormed r → HasNone r ⊎ HasMost r
-forms_of r fits = some_value (add_likely_subtags (fields_of r)) (λ is. inl (none_is r is)) (λ m is.
+read_forms : (r : Record) → IsWellFormed r → IsRead r → HasNone r ⊎ HasMost r
+read_forms r fits read = some_value (add_likely_subtags (fields_of r)) (λ is. inl (none_is r is)) (λ m is.
     let h = likely_added (fields_of r) m (fields_known r) is in
     inr (record {
       most = m;
-      max_is = max_of r m is;
-      min_is = min_of r m is;
+      read = read;
+      max_is = max_of r m read is;
+      min_is = min_of r m read is;
       again = h.again;
       fields = λ n same. fields_put r n h.to.language fits (same ∙ ap (λ x. x.language) (sym h.filled_is)) h.language;
     }))
+
+forms_of : (r : Record) → IsWellFormed r → HasNone r ⊎ HasMost r
+forms_of r fits = either_way (is_read r.primary r.extended) (read_forms r fits) (λ is. inl (unread r is))
 
 -- ---- the laws
 
@@ -166,15 +182,15 @@ pub maximal-twice : (r : Record) → IsWellFormed r → maximal_record (maximal_
 maximal-twice r fits = elim (forms_of r fits) [
   | inl h ↦ ap maximal_record h.max_is
   | inr h ↦
-      ap maximal_record h.max_is ∙ max_of (put_fields r h.most) h.most (ap add_likely_subtags (h.fields h.most refl) ∙ h.again)
+      ap maximal_record h.max_is ∙ max_of (put_fields r h.most) h.most (read_put r h.most h.read) (ap add_likely_subtags (h.fields h.most refl) ∙ h.again)
       ∙ put_twice r h.most h.most refl ∙ sym h.max_is
 ]
 
 pub minimal-of_maximal : (r : Record) → IsWellFormed r → minimal_record (maximal_record r) ≡ minimal_record r
-minimal-of_maximal r fits = grind (arith, forms_of r fits, min_of, put_twice r, has_form)
+minimal-of_maximal r fits = grind (arith, forms_of r fits, min_of, read_put r, put_twice r, has_form)
 
 pub minimal-twice : (r : Record) → IsWellFormed r → minimal_record (minimal_record r) ≡ minimal_record r
-minimal-twice r fits = grind (arith, forms_of r fits, has_form, min_of, put_twice r)
+minimal-twice r fits = grind (arith, forms_of r fits, has_form, min_of, read_put r, put_twice r)
 
 -- ---- without regard to case
 
@@ -197,13 +213,25 @@ fields-alike r q same = grind (arith, language_field-alike)
 option-alike : (r q : Record) (o p : Option Fields) → AlikeRecords r q → AlikeOptions o p → AlikeRecords (option_map_or (put_fields r) o r) (option_map_or (put_fields q) p q)
 option-alike r q o p same = by_options (λ o p. AlikeRecords (option_map_or (put_fields r) o r) (option_map_or (put_fields q) p q)) same (λ a b alike. put-alike r q a b same alike) o p
 
+is_read-alike : (p q : List ℕ) (es fs : List (List ℕ)) → Alike p q → map fold_text es ≡ map fold_text fs → is_read p es ≡ is_read q fs
+is_read-alike p q [] [] h all = refl
+is_read-alike p q [] (f ∷ fs) h all = absurd cc
+is_read-alike p q (e ∷ es) [] h all = absurd cc
+is_read-alike p q (e ∷ []) (f ∷ []) h all = is_prefix_of-alike p q e f h cc
+is_read-alike p q (e ∷ []) (f ∷ g ∷ fs) h all = absurd cc
+is_read-alike p q (e ∷ d ∷ es) (f ∷ []) h all = absurd cc
+is_read-alike p q (e ∷ d ∷ es) (f ∷ g ∷ fs) h all = is_read-alike p q (d ∷ es) (g ∷ fs) h cc
+
+if_read-alike : (r q : Record) (o p : Option Fields) → AlikeRecords r q → AlikeOptions o p → AlikeOptions (if_read r o) (if_read q p)
+if_read-alike r q o p same options = grind (arith, is_read-alike r.primary q.primary r.extended q.extended)
+
 pub maximal-alike : (r q : Record) → AlikeRecords r q → AlikeRecords (maximal_record r) (maximal_record q)
 unfolding maximal_record
-maximal-alike r q same = option-alike r q _ _ same (likely_added-alike (fields_of r) (fields_of q) (fields-alike r q same))
+maximal-alike r q same = option-alike r q _ _ same (if_read-alike r q _ _ same (likely_added-alike (fields_of r) (fields_of q) (fields-alike r q same)))
 
 pub minimal-alike : (r q : Record) → AlikeRecords r q → AlikeRecords (minimal_record r) (minimal_record q)
 unfolding minimal_record
-minimal-alike r q same = option-alike r q _ _ same (removed-alike (fields_of r) (fields_of q) (fields-alike r q same))
+minimal-alike r q same = option-alike r q _ _ same (if_read-alike r q _ _ same (removed-alike (fields_of r) (fields_of q) (fields-alike r q same)))
 
 pub maximal-of_minimal : (r : Record) → IsWellFormed r → AlikeRecords (maximal_record r) (maximal_record (minimal_record r))
 maximal-of_minimal r fits = elim (forms_of r fits) [
@@ -212,7 +240,7 @@ maximal-of_minimal r fits = elim (forms_of r fits) [
       let n = least h.most in
       let form = has_form h.most h.again in
       let made : maximal_record (minimal_record r) ≡ put_fields r form.form =
-      ap maximal_record h.min_is ∙ max_of (put_fields r n) form.form (ap add_likely_subtags (h.fields n form.language) ∙ form.is_form)
+      ap maximal_record h.min_is ∙ max_of (put_fields r n) form.form (read_put r n h.read) (ap add_likely_subtags (h.fields n form.language) ∙ form.is_form)
       ∙ put_twice r n form.form (form.language ∙ sym form.form_language) in
       ap fold_record h.max_is ∙ put-alike r r h.most form.form refl form.same ∙ ap fold_record (sym made)
 ]

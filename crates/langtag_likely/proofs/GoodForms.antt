@@ -6,7 +6,7 @@ use Rattle.langtag_text.specs.FieldClasses.{is_language_field, is_script_field, 
 use Rattle.langtag_text.specs.Fields.{Fields}
 use Rattle.langtag.specs.Definitions.{IsAlikeForm}
 use Rattle.langtag_cldr.specs.Definitions.{Likely, likely_for, looked_up, or_else, filled, known_fields, add_likely, language_alone, without_script, without_region, likely_subtags, language_aliases, region_aliases, language_replaced, region_alone, region_replaced, add_likely_subtags, canonical_fields, least, remove_likely_subtags}
-use Rattle.langtag_likely.proofs.Definitions.{fields_of, language_field, put_fields, maximal_record, minimal_record, IsMaximalForm, IsMinimalForm}
+use Rattle.langtag_likely.proofs.Definitions.{fields_of, if_read, language_field, put_fields, maximal_record, minimal_record, IsMaximalForm, IsMinimalForm}
 use Rattle.langtag_cldr.proofs.RowLaws.{aliases_listed, region_aliases_listed}
 use Rattle.langtag_cldr.proofs.FieldClasses.{from_extended, known_good}
 use Rattle.langtag_cldr.proofs.TableRows.{are_good, rows_listed}
@@ -97,16 +97,20 @@ put-well_formed : (r : Record) (o : Option Fields) → IsWellFormed r → IfGood
 unfolding IfGood
 put-well_formed r o well good = grind (arith, put_fields-well_formed)
 
+if_read-good : (r : Record) (o : Option Fields) → IfGood o → IfGood (if_read r o)
+unfolding IfGood
+if_read-good r o good = grind arith
+
 pub maximal_well_formed : (r : Record) → IsWellFormed r → IsWellFormed (maximal_record r)
 unfolding maximal_record
-maximal_well_formed r well = put-well_formed r (add_likely_subtags (fields_of r)) well (likely_added-good (fields_of r) (fields_of-good r well))
+maximal_well_formed r well = put-well_formed r (if_read r (add_likely_subtags (fields_of r))) well (if_read-good r (add_likely_subtags (fields_of r)) (likely_added-good (fields_of r) (fields_of-good r well)))
 
 removed-good : (f : Fields) → AreGood f → IfGood (remove_likely_subtags f)
 removed-good f good = mapped-good least (add_likely_subtags f) least-good (likely_added-good f good)
 
 pub minimal_well_formed : (r : Record) → IsWellFormed r → IsWellFormed (minimal_record r)
 unfolding minimal_record
-minimal_well_formed r well = put-well_formed r (remove_likely_subtags (fields_of r)) well (removed-good (fields_of r) (fields_of-good r well))
+minimal_well_formed r well = put-well_formed r (if_read r (remove_likely_subtags (fields_of r))) well (if_read-good r (remove_likely_subtags (fields_of r)) (removed-good (fields_of r) (fields_of-good r well)))
 
 -- ---- the laws
 
@@ -153,7 +157,7 @@ unfolding maximal_record
 maximal_keeps old new is = λ r spells q also.
     let well = maximal_well_formed r spells.0 in
     let same : maximal_record r ≡ q = spelled_once (maximal_record r) q well also.0 (sym (is.parts r spells) ∙ sym also.1) in
-    let stay = others_stay r (add_likely_subtags (fields_of r)) in
+    let stay = others_stay r (if_read r (add_likely_subtags (fields_of r))) in
     (ap (λ x. x.extended) (sym same) ∙ stay.0, ap (λ x. x.variants) (sym same) ∙ stay.1, ap (λ x. x.extensions) (sym same) ∙ stay.2, ap (λ x. x.private_use) (sym same) ∙ stay.3)
 
 pub minimal_keeps : (old new : List ℕ) → IsMinimalForm old new → KeepsOthers old new
@@ -161,5 +165,5 @@ unfolding minimal_record
 minimal_keeps old new is = λ r spells q also.
     let well = minimal_well_formed r spells.0 in
     let same : minimal_record r ≡ q = spelled_once (minimal_record r) q well also.0 (sym (is.parts r spells) ∙ sym also.1) in
-    let stay = others_stay r (remove_likely_subtags (fields_of r)) in
+    let stay = others_stay r (if_read r (remove_likely_subtags (fields_of r))) in
     (ap (λ x. x.extended) (sym same) ∙ stay.0, ap (λ x. x.variants) (sym same) ∙ stay.1, ap (λ x. x.extensions) (sym same) ∙ stay.2, ap (λ x. x.private_use) (sym same) ∙ stay.3)

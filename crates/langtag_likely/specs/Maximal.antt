@@ -1,7 +1,8 @@
 -- The maximal and minimal forms of a tag (UTS #35, part 1, section 'Likely Subtags').
-use Rattle.std.specs.Prelude.{ℕ, List, [], ◌∷◌, codes, if◌then◌else◌, unwrap_or}
+use Rattle.std.specs.Prelude.{ℕ, Bool, true, List, [], ◌∷◌, Option, None, codes, if◌then◌else◌, unwrap_or}
 use Rattle.langtag_scan.specs.Grammar.{option_map_or, are_alike, Record}
 use Rattle.langtag_cldr.specs.Definitions.{known, or_other, add_likely_subtags, remove_likely_subtags}
+use Rattle.langtag_fields.specs.Fields.{is_prefix_of}
 use Rattle.langtag_text.specs.Fields.{Fields, subtag_of}
 use Rattle.langtag.specs.Definitions.{IsForm}
 
@@ -22,6 +23,16 @@ fields_of r = record {
   region = known (codes "ZZ") (unwrap_or r.region []);
 }
 
+-- whether the last extended subtag, if there is any, is registered for the primary subtag (RFC 5646 section 2.2.2)
+abbrev pub is_read : List ℕ → List (List ℕ) → Bool
+is_read primary [] = true
+is_read primary (extlang ∷ []) = is_prefix_of primary extlang
+is_read primary (first ∷ second ∷ others) = is_read primary (second ∷ others)
+
+-- what is found for a record, or nothing if its extended language is not registered: what is likely after it is unknown
+abbrev pub if_read : Record → Option Fields → Option Fields
+if_read r found = if is_read r.primary r.extended then found else None
+
 -- ---- a tag with other fields
 
 -- the new primary subtag: the language of the fields for `und` without extended subtags, and otherwise the old primary
@@ -38,11 +49,11 @@ put_fields r f = record r { primary = put_language r.primary r.extended f.langua
 
 -- the record with its likely subtags added, or the same record if no likely subtags are known
 unfoldable pub maximal_record : Record → Record
-maximal_record r = option_map_or (put_fields r) (add_likely_subtags (fields_of r)) r
+maximal_record r = option_map_or (put_fields r) (if_read r (add_likely_subtags (fields_of r))) r
 
 -- the record without the subtags that are likely anyway, or the same record if no likely subtags are known
 unfoldable pub minimal_record : Record → Record
-minimal_record r = option_map_or (put_fields r) (remove_likely_subtags (fields_of r)) r
+minimal_record r = option_map_or (put_fields r) (if_read r (remove_likely_subtags (fields_of r))) r
 
 -- the maximal form of a text: Add Likely Subtags of UTS #35
 abbrev pub IsMaximalForm : List ℕ → List ℕ → Type 0

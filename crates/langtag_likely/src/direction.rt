@@ -10,7 +10,8 @@ use langtag_cldr::{is_right_to_left_script, matching_form};
 /// `false` for `ar-Latn`.
 ///
 /// The script of the tag decides. If the tag has no script, the most likely script of its language and region is used.
-/// Deprecated subtags such as `iw` count as their replacements. The result is `false` for private-use tags, irregular
+/// Deprecated subtags such as `iw` count as their replacements. An extended language counts only if it is registered for
+/// the language before it (RFC 5646 section 2.2.2). The result is `false` for private-use tags, irregular
 /// tags and `und`.
 ///
 /// ```

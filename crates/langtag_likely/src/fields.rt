@@ -4,10 +4,11 @@ ghost use Rattle.langtag_scan.specs.Grammar.{EachRecord};
 ghost use Rattle.langtag.specs.Definitions.{EachLanguageSpelling, language_text, script_text, region_text, normal_lang_tag_text};
 ghost use Rattle.langtag_text.specs.FieldClasses.{is_language_field, is_script_field, is_region_field};
 ghost use Rattle.langtag_cldr.specs.Definitions.{known, field_texts};
-ghost use Rattle.langtag_likely.specs.Maximal.{fields_of, language_field};
+ghost use Rattle.langtag_likely.specs.Maximal.{fields_of, is_read, language_field};
 
 use langtag::NormalLangTag;
 use langtag_cldr::{TagFields, known};
+use langtag_fields::is_prefix_of;
 use langtag_language::Language;
 use langtag_place::{Region, Script};
 
@@ -19,6 +20,36 @@ pub fn fields_of(tag: NormalLangTag<'_>) -> TagFields<'_>
         language: language_field(tag.language()),
         script: script_field(tag.script()),
         region: region_field(tag.region()),
+    }
+}
+
+/// Returns whether the last extended language of a tag, if it has any, is registered for the language before it.
+#[inline(always)]
+pub(crate) fn is_read(tag: NormalLangTag<'_>) -> bool
+    ensures { EachRecord (normal_lang_tag_text tag.entry) (λ r. result ≡ is_read r.primary r.extended) }
+{
+    // There is no room for an extended language.
+    if tag.ends().language <= 3 {
+        return true;
+    }
+    is_language_read(tag.language())
+}
+
+/// Returns whether the last extended subtag, if there is any, is registered for the primary subtag.
+fn is_language_read(language: Language<'_>) -> bool
+    ensures { EachLanguageSpelling (language_text language.entry) (λ primary extended. result ≡ is_read primary extended) }
+{
+    let primary = language.primary().as_bytes();
+    let mut extlangs = language.extension_subtags();
+    let Some(first) = extlangs.next() else {
+        return true;
+    };
+    let Some(second) = extlangs.next() else {
+        return is_prefix_of(primary, first.as_bytes());
+    };
+    match extlangs.next() {
+        Some(third) => is_prefix_of(primary, third.as_bytes()),
+        None => is_prefix_of(primary, second.as_bytes()),
     }
 }
 

@@ -1,14 +1,17 @@
-//! The maximal and minimal forms of a tag (UTS #35, part 1, section 'Likely Subtags').
-ghost use Rattle.std.specs.Prelude.{◌≡◌, ◌+◌, ◌-◌, ◌^◌, ◌≤◌, flat_map, length, min, IfOk};
-ghost use Rattle.langtag_scan.specs.Grammar.{IsTag};
-ghost use Rattle.langtag.specs.Definitions.{lang_tag_text, lang_tag_buf_text, Writes, IsOnlyForm, IsAlikeForm};
-ghost use Rattle.langtag_likely.specs.Maximal.{IsMaximalForm, IsMinimalForm, maximal_record, minimal_record};
+//! The maximal and minimal forms of a tag (UTS #35, part 1, section 'Likely Subtags'). UTS #35 replaces deprecated
+//! subtags before it adds likely subtags. Here they are replaced only for the lookup, because a call that adds subtags
+//! should change none. `minimized` keeps a deprecated region such as `SU`, because `maximized` could not restore it.
+ghost use Rattle.std.specs.Prelude.{◌≡◌, ◌+◌, ◌-◌, ◌^◌, ◌≤◌, flat_map, length, min, IfOk, option_map};
+ghost use Rattle.langtag_scan.specs.Grammar.{EachRecord, IsTag};
+ghost use Rattle.langtag.specs.Definitions.{lang_tag_text, lang_tag_buf_text, normal_lang_tag_text, Writes, IsOnlyForm, IsAlikeForm};
+ghost use Rattle.langtag_cldr.specs.Definitions.{add_likely_subtags, remove_likely_subtags, field_texts};
+ghost use Rattle.langtag_likely.specs.Maximal.{IsMaximalForm, IsMinimalForm, fields_of, if_read, maximal_record, minimal_record};
 ghost use Rattle.langtag_likely.specs.MaximalLaws.{KeepsOthers, TellsAsMaximal, UndoesMaximal, UndoesMinimal};
 
-use crate::fields::fields_of;
+use crate::fields::{fields_of, is_read};
 use crate::put::{changed, whole};
-use langtag::{LangTag, LangTagBuf, tag_of};
-use langtag_cldr::{add_likely_subtags, remove_likely_subtags};
+use langtag::{LangTag, LangTagBuf, NormalLangTag, tag_of};
+use langtag_cldr::{TagFields, add_likely_subtags, remove_likely_subtags};
 use langtag_text::write_pieces;
 use std::alloc::{AllocError, Global};
 
@@ -18,7 +21,8 @@ use std::alloc::{AllocError, Global};
 /// Subtags of the tag stay, with their case. Only `und`, `Zzzz` and `ZZ`, which mean an unknown language, script or
 /// region, are replaced. Deprecated subtags stay, too, and get the likely subtags of their replacements: `iw` becomes
 /// `iw-Hebr-IL`. To replace them, call `langtag_locale::locale_form` first. Variants, extensions and private use stay. A
-/// tag without known likely subtags, such as `x-a` or `qaa`, stays unchanged.
+/// tag without known likely subtags, such as `x-a` or `qaa`, stays unchanged. So does a tag whose extended language is
+/// not registered for its language (RFC 5646 section 2.2.2), such as `es-rUS`, which is how Android writes `es-US`.
 ///
 /// # Errors
 ///
@@ -32,7 +36,7 @@ use std::alloc::{AllocError, Global};
 /// ```
 pub fn maximized(alloc: Global, tag: LangTag<'_>) -> Result<LangTagBuf, AllocError>
     ensures maximal { IfOk result (λ form. IsMaximalForm (lang_tag_text tag.entry) (lang_tag_buf_text form)) }
-    // law: a tag has only one maximal and only one minimal form
+    // law: a tag has only one such form
     ensures one { IfOk result (λ form. IsOnlyForm maximal_record (lang_tag_text tag.entry) (lang_tag_buf_text form)) }
     // law: doing it again changes nothing
     ensures settled { IfOk result (λ form. IsMaximalForm (lang_tag_buf_text form) (lang_tag_buf_text form)) }
@@ -61,7 +65,7 @@ pub fn maximized(alloc: Global, tag: LangTag<'_>) -> Result<LangTagBuf, AllocErr
 /// ```
 pub fn minimized(alloc: Global, tag: LangTag<'_>) -> Result<LangTagBuf, AllocError>
     ensures minimal { IfOk result (λ form. IsMinimalForm (lang_tag_text tag.entry) (lang_tag_buf_text form)) }
-    // law: a tag has only one maximal and only one minimal form
+    // law: a tag has only one such form
     ensures one { IfOk result (λ form. IsOnlyForm minimal_record (lang_tag_text tag.entry) (lang_tag_buf_text form)) }
     // law: doing it again changes nothing
     ensures settled { IfOk result (λ form. IsMinimalForm (lang_tag_buf_text form) (lang_tag_buf_text form)) }
@@ -111,6 +115,30 @@ pub fn write_minimized(tag: LangTag<'_>, buffer: &mut [u8]) -> usize
     write_pieces(&minimal_pieces(tag), buffer)
 }
 
+/// Returns the fields of a tag with likely subtags. Returns `None` if no row fits, or if the extended language of the tag
+/// is not registered.
+#[inline(always)]
+fn most_fields(tag: NormalLangTag<'_>) -> Option<TagFields<'_>>
+    ensures { EachRecord (normal_lang_tag_text tag.entry) (λ r. option_map field_texts result ≡ if_read r (add_likely_subtags (fields_of r))) }
+{
+    if !is_read(tag) {
+        return None;
+    }
+    add_likely_subtags(fields_of(tag))
+}
+
+/// Returns the fields of a tag without likely subtags. Returns `None` if no row fits, or if the extended language of the
+/// tag is not registered.
+#[inline(always)]
+fn fewest_fields(tag: NormalLangTag<'_>) -> Option<TagFields<'_>>
+    ensures { EachRecord (normal_lang_tag_text tag.entry) (λ r. option_map field_texts result ≡ if_read r (remove_likely_subtags (fields_of r))) }
+{
+    if !is_read(tag) {
+        return None;
+    }
+    remove_likely_subtags(fields_of(tag))
+}
+
 /// Returns the maximal form of a tag, in pieces.
 #[inline(always)]
 fn maximal_pieces<'a>(tag: LangTag<'a>) -> [&'a [u8]; 6]
@@ -118,7 +146,7 @@ fn maximal_pieces<'a>(tag: LangTag<'a>) -> [&'a [u8]; 6]
     ensures short { length (flat_map (λ piece. piece.now) result) ≤ length (lang_tag_text tag.entry) + 17 }
 {
     match tag.as_normal() {
-        Some(normal) => changed(normal, add_likely_subtags(fields_of(normal))),
+        Some(normal) => changed(normal, most_fields(normal)),
         None => whole(tag.as_bytes()),
     }
 }
@@ -130,7 +158,7 @@ fn minimal_pieces<'a>(tag: LangTag<'a>) -> [&'a [u8]; 6]
     ensures short { length (flat_map (λ piece. piece.now) result) ≤ length (lang_tag_text tag.entry) + 17 }
 {
     match tag.as_normal() {
-        Some(normal) => changed(normal, remove_likely_subtags(fields_of(normal))),
+        Some(normal) => changed(normal, fewest_fields(normal)),
         None => whole(tag.as_bytes()),
     }
 }

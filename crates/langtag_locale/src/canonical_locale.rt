@@ -1,4 +1,7 @@
-//! The canonical form of a Unicode locale identifier (UTS #35, part 1, Annex C).
+//! The canonical form of a Unicode locale identifier (UTS #35, part 1, Annex C). The annex repeats its rules until none
+//! applies. Here they are seven steps, and the generator in data/unicode tests what the steps assume. If several
+//! regions replace a region, the likely region is taken if it is among them. `maximized` takes the first, as Add Likely
+//! Subtags says; over CLDR's languages the two differ only for Azerbaijani.
 ghost use Rattle.std.specs.Prelude.{◌≡◌, ◌≤◌, ◌<◌, ◌+◌, IfOk, IfSome, IsTrue, None, Some, [], unwrap_or, option_map};
 ghost use Rattle.langtag.specs.Definitions.{lang_tag_buf_text, lang_tag_text, normal_lang_tag_text, EachLanguageSpelling, language_text, IsCounted, WritesWhole, region_text, script_text};
 ghost use Rattle.langtag_text.specs.FieldClasses.{is_language_field, is_region_field, is_script_field};
@@ -54,8 +57,8 @@ pub fn locale_form(alloc: Global, tag: LangTag<'_>) -> Result<Option<LangTagBuf>
     Ok(Some(tag_of(form_bytes(alloc, locale)?)))
 }
 
-/// Returns the bytes of the form of a Unicode locale identifier. They are written once if they fit into a guess of their
-/// number, and otherwise again.
+/// Returns the bytes of the form of a Unicode locale identifier. The buffer has a guessed length. If it is too short,
+/// the bytes are written again.
 fn form_bytes(alloc: Global, tag: NormalLangTag<'_>) -> Result<Vec<u8>, AllocError>
     requires { identifier.IsLocale (normal_lang_tag_text tag) }
     ensures { IfOk result (λ bytes. model.EachRecord (normal_lang_tag_text tag.entry) (λ r. bytes.items ≡ spec.locale_text r)) }
@@ -110,7 +113,6 @@ fn counted_form_bytes(alloc: Global, tag: NormalLangTag<'_>) -> Result<Vec<u8>, 
 /// write_locale_form(LangTag::new("x-a")?, &mut buffer); // None
 /// ```
 pub fn write_locale_form(tag: LangTag<'_>, buffer: &mut [u8]) -> Option<usize>
-    // law: the form that `locale_form` returns, if the buffer has room for it, and its length
     ensures form { IfSome result (λ len. WritesWhole (λ form. spec.IsWholeForm (lang_tag_text tag.entry) (Some form)) buffer.old buffer.new len) }
     // law: `None` if and only if there is none
     ensures none { result ≡ None → spec.IsWholeForm (lang_tag_text tag.entry) None }

@@ -2,7 +2,7 @@
 use Rattle.langtag_scan.proofs.Prelude.{◌≡◌, ℕ, ◌+◌, ◌<◌, ◌&&◌, Bool, true, not, List, ◌∷◌, Some, length, drop, get_or, arith, ◌≤◌, false, [], ◌++◌, refl, list_any, slice_get, filter, at_drop_more, get_or_from_slice_get, common_steps, IsPermutation, and-true, filter_agree, list_any-append, length_permutation, length-filter, count_by-le-length}
 use Rattle.langtag.specs.declared.lang_tag.LangTag.{LangTag}
 use Rattle.langtag_match.specs.Filter.{finds, newly_found, found_after, found_from, is_found, filtered, AreFoundOnce}
-use Rattle.langtag_header.specs.declared.language_range.LanguageRange.{LanguageRange}
+use Rattle.langtag_match.specs.declared.language_range.LanguageRange.{LanguageRange}
 use Rattle.std.proofs.lemmas.List.Sorted.{IsPermutation-refl, IsPermutation-trans, IsPermutation-append_right, IsPermutation-filter_both}
 
 module _ (matches : List ℕ → List ℕ → Bool) (before : List LanguageRange) (range : LanguageRange) where

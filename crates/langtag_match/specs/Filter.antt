@@ -3,8 +3,8 @@ use Rattle.std.specs.Prelude.{◌≡◌, ℕ, ◌+◌, ◌<◌, Bool, not, ◌&&
 use Rattle.langtag_scan.specs.Prelude.{list_any}
 use Rattle.langtag.specs.declared.lang_tag.LangTag.{LangTag}
 use Rattle.langtag.specs.Definitions.{lang_tag_text}
-use Rattle.langtag_header.specs.declared.language_range.LanguageRange.{LanguageRange}
-use Rattle.langtag_header.specs.Text.{language_range_text}
+use Rattle.langtag_match.specs.declared.language_range.LanguageRange.{LanguageRange}
+use Rattle.langtag_match.specs.Text.{language_range_text}
 
 -- whether a range matches a tag, by a rule for their texts
 abbrev pub finds : (List ℕ → List ℕ → Bool) → LanguageRange → LangTag → Bool

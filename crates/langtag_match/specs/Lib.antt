@@ -1,14 +1,12 @@
+pub mod AcceptLanguage
+pub mod Compared
 pub mod Filter
 pub mod FilterRule
+pub mod LookUp
+pub mod Stable
+pub mod Text
 -- the pages on texts that are cited by the contracts of this crate and of what it exports. So callers need to name only
 -- this crate
-pub use Rattle.langtag_header.specs.AcceptLanguage
-pub use Rattle.langtag_header.specs.Compared
-pub use Rattle.langtag_header.specs.LookUp
-pub use Rattle.langtag_header.specs.Stable
-pub use Rattle.langtag_header.specs.Text
-pub use Rattle.langtag_header.specs.declared.accept_language_error
-pub use Rattle.langtag_header.specs.declared.weighted_range
 pub use Rattle.langtag_range.specs.Basic
 pub use Rattle.langtag_range.specs.BasicForm
 pub use Rattle.langtag_range.specs.Definitions

@@ -6,8 +6,8 @@ ghost use Rattle.langtag_match.specs.Filter as spec;
 ghost use Rattle.langtag_match.specs.FilterRule.{matches_by, filtered_left};
 
 use crate::filter_rule::FilterRule;
+use crate::language_range::LanguageRange;
 use langtag::LangTag;
-use langtag_header::LanguageRange;
 
 /// Returns an iterator over the tags that basic filtering finds for a language priority list (RFC 4647 sections 3.3 and
 /// 3.3.1). The tags that the first range matches come first. Then, for each later range, come the tags that this range

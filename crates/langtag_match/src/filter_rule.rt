@@ -2,10 +2,10 @@
 ghost use Rattle.std.specs.Prelude.{◌≡◌};
 ghost use Rattle.langtag.specs.Definitions.{lang_tag_text};
 ghost use Rattle.langtag_match.specs.FilterRule.{matches_by};
-ghost use Rattle.langtag_header.specs.Text.{language_range_text};
+ghost use Rattle.langtag_match.specs.Text.{language_range_text};
 
+use crate::language_range::LanguageRange;
 use langtag::LangTag;
-use langtag_header::LanguageRange;
 
 /// The rule by which a range matches a tag.
 #[derive(Clone, Copy, Debug)]

@@ -18,15 +18,25 @@
 //! ```
 #![tactic(auto)]
 
+mod accept_language;
+mod accept_language_error;
+mod element;
+mod fallbacks;
 mod filter;
 mod filter_rule;
+mod language_range;
+mod lookup;
+mod weighted_range;
 
+pub use accept_language::{AcceptLanguage, tag_for_header};
+pub use accept_language_error::{AcceptLanguageError, ElementPart};
+pub use element::{Element, element_at};
+pub use fallbacks::Fallbacks;
 pub use filter::{Filtered, filter_basic, filter_extended};
-pub use langtag_header::{
-    AcceptLanguage, AcceptLanguageError, Element, ElementPart, Fallbacks, InvalidLanguageRange,
-    LanguageRange, LanguageRangeBuf, WeightedRange, element_at, look_up, tag_for_header,
-};
 pub use langtag_range::{
     WantedRange, WantedRanges, is_empty_element, listed_range, locale_place, split_wanted,
     wanted_ranges, weight_of,
 };
+pub use language_range::{InvalidLanguageRange, LanguageRange, LanguageRangeBuf};
+pub use lookup::look_up;
+pub use weighted_range::WeightedRange;

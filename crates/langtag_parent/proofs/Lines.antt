@@ -1,10 +1,10 @@
 -- A line of parents ends: a parent has fewer of region and script than the fields, or it is one of a few that CLDR names, whose lines are known.
 use Rattle.langtag_scan.proofs.Prelude.{◌≡◌, ℕ, zero, suc, ◌+◌, ◌<◌, ◌≤◌, ◌⊎◌, inl, inr, true, false, Bool, cond, List, [], ◌∷◌, ◌++◌, codes, flat_map, Option, None, Some, refl, sym, ap, ◌∙◌, subst, arith, ◌&&◌, ◌||◌, option_map, list_all, list_any, option_map_or, AllByRecursion, append_assoc, append-nil, bytes_eq, bytes_decides, and_parts, nat_tests}
-use Rattle.langtag_scan.specs.Grammar.{Record, are_alike, fold_byte}
+use Rattle.langtag_scan.specs.Grammar.{Record, fold_byte}
 use Rattle.langtag_text.specs.Fields.{Fields}
 use Rattle.langtag_cldr.specs.Definitions.{Likely, are_alike_fields, language_alone, language_rows, likely_for, likely_subtags, other_rows, without_region, without_script}
-use Rattle.langtag_parent.specs.Chain.{above, bases_left, chain_of, endings, forms, hyphenated, line, rest_of, shorter, text_of, with_each}
-use Rattle.langtag_parent.specs.Parent.{fields_of, has_likely_script, is_empty, likely_script, other_script, parent_in_script, parent_of, parent_of_region, parent_of_script, short, stated, stated_or, usual_parent, with_script}
+use Rattle.langtag_parent.specs.Chain.{above, bases_left, chain_of, endings, forms, given_form, hyphenated, line, rest_of, shorter, with_each}
+use Rattle.langtag_parent.specs.Parent.{fields_of, has_likely_script, is_empty, likely_script, named, other_script, parent_in_script, parent_of, parent_of_region, parent_of_script, short, stated, stated_or, usual_parent, with_script}
 use Rattle.langtag_parent.specs.ParentLaws.{EndsWithin}
 use Rattle.langtag_parent.specs.Base.{base_fields}
 use Rattle.langtag_parent.specs.declared.base.Base.{Base}
@@ -12,13 +12,13 @@ use Rattle.langtag_parent.specs.ParentLocales.{parent_locales}
 
 -- ---- the parents that CLDR names
 
-abbrev named : List ℕ → List ℕ → List ℕ → Fields
-named language script region = record { language = language; script = script; region = region }
+abbrev of_three : List ℕ → List ℕ → List ℕ → Fields
+of_three language script region = record { language = language; script = script; region = region }
 
 abbrev known : List Fields
 known =
-    named (codes "en") [] (codes "001") ∷ named (codes "en") [] (codes "150") ∷ named (codes "en") [] (codes "IN") ∷ named (codes "es") [] (codes "419")
-    ∷ named (codes "fr") [] (codes "HT") ∷ named (codes "no") [] [] ∷ named (codes "pt") [] (codes "PT") ∷ named (codes "zh") (codes "Hant") (codes "HK") ∷ []
+    of_three (codes "en") [] (codes "001") ∷ of_three (codes "en") [] (codes "150") ∷ of_three (codes "en") [] (codes "IN") ∷ of_three (codes "es") [] (codes "419")
+    ∷ of_three (codes "fr") [] (codes "HT") ∷ of_three (codes "no") [] [] ∷ of_three (codes "pt") [] (codes "PT") ∷ of_three (codes "zh") (codes "Hant") (codes "HK") ∷ []
 
 abbrev same : Fields → Fields → Bool
 same a b = bytes_eq a.language b.language && (bytes_eq a.script b.script && bytes_eq a.region b.region)
@@ -71,8 +71,8 @@ short_parts f = by_test (has_likely_script f)
     by_test false = omega arith
 
 module _ (t : Fields → Bool) where
-  stated_named : (to g : Fields) → (is_empty to.language || t to) ≡ true → stated to ≡ Some g → t g ≡ true
-  stated_named to g named is = grind arith
+  stated_is_named : (to g : Fields) → (is_empty to.language || t to) ≡ true → stated to ≡ Some g → t g ≡ true
+  stated_is_named to g it is = grind arith
 
   row_named : (rows : List Likely) (f to : Fields) → list_all (names t) rows ≡ true → likely_for rows f ≡ Some to → (is_empty to.language || t to) ≡ true
   row_named [] f to all there = absurd cc
@@ -91,11 +91,11 @@ module _ (t : Fields → Bool) where
       where
         by_row : (o : Option Fields) → likely_for parent_locales f ≡ o → option_map_or stated o other ≡ Some g → (t g ≡ true) ⊎ (other ≡ Some g)
         by_row None there is = inr is
-        by_row (Some to) there is = inl (stated_named to g (row_named parent_locales f to all there) is)
+        by_row (Some to) there is = inl (stated_is_named to g (row_named parent_locales f to all there) is)
 
-    script_way : (f g : Fields) (b : Bool) → is_empty f.script ≡ false → cond b (Some (language_alone f)) None ≡ Some g → IsNext f g
-    script_way f g true some is = let same : language_alone f ≡ g = cc in inr (subst (λ g. parts g < parts f) same (omega (arith, ap {B = ℕ} (λ b. cond b 0 1) some)))
-    script_way f g false some is = absurd cc
+    script_way : (f g : Fields) (o : Option (List ℕ)) → is_empty f.script ≡ false → option_map_or (λ s. None) o (Some (language_alone f)) ≡ Some g → IsNext f g
+    script_way f g None some is = let same : language_alone f ≡ g = cc in inr (subst (λ g. parts g < parts f) same (omega (arith, ap {B = ℕ} (λ b. cond b 0 1) some)))
+    script_way f g (Some s) some is = absurd cc
 
     region_way : (f g : Fields) (o : Option (List ℕ)) → is_empty f.region ≡ false → option_map_or (λ s. parent_in_script (with_script f s)) o (Some (without_region f)) ≡ Some g → IsNext f g
     region_way f g None some is = let same : without_region f ≡ g = cc in inr (subst (λ g. parts g < parts f) same (omega (arith, ap {B = ℕ} (λ b. cond b 0 2) some)))
@@ -110,7 +110,7 @@ module _ (t : Fields → Bool) where
 
     usual_way : (f g : Fields) (a b : Bool) → is_empty f.region ≡ a → is_empty f.script ≡ b → cond a (cond b None (parent_of_script f)) (parent_of_region f) ≡ Some g → IsNext f g
     usual_way f g true true no_region no_script is = absurd cc
-    usual_way f g true false no_region script is = script_way f g (option_map_or (are_alike f.script) (likely_script f.language []) true) script is
+    usual_way f g true false no_region script is = script_way f g (likely_script f.language []) script is
     usual_way f g false b region script is = region_way f g (other_script f) region is
 
     way : (f g : Fields) → parent_of f ≡ Some g → IsNext f g
@@ -155,46 +155,59 @@ line_ends f = ends_at 7 f (whole_line f)
 same_endings : (v : List ℕ) → endings v v ≡ v ∷ shorter v
 same_endings v = grind (arith, nat_tests)
 
-pub above_step : (v : List ℕ) (p : Option Fields) → above v p ≡ option_map_or (λ g. with_each (endings v v) g ++ above v (parent_of (short g))) p []
-above_step v None = refl
-above_step v (Some g) =
-    ap (λ list. with_each (v ∷ shorter v) g ++ flat_map (with_each (v ∷ shorter v)) list) (by_parent (parent_of (short g)))
-    ∙ ap (λ es. with_each es g ++ above v (parent_of (short g))) (sym (same_endings v))
+pub above_step : (tag : Fields) (v : List ℕ) (p : Option Fields) → above tag v p ≡ option_map_or (λ g. with_each (endings v v) (named tag g) ++ above tag v (parent_of (short g))) p []
+above_step tag v None = refl
+above_step tag v (Some g) =
+    ap (λ list. with_each (v ∷ shorter v) (named tag g) ++ flat_map (λ f. with_each (v ∷ shorter v) (named tag f)) list) (by_parent (parent_of (short g)))
+    ∙ ap (λ es. with_each es (named tag g) ++ above tag v (parent_of (short g))) (sym (same_endings v))
   where
     by_parent : (o : Option Fields) → option_map_or (line 7) o [] ≡ option_map_or (line 8) o []
     by_parent None = refl
     by_parent (Some h) = sym (whole_line h)
 
 pub step_some :
-    (base : Base) (v rest t : List ℕ) → endings v rest ≡ rest ∷ endings v t →
-    with_each (endings v rest) (base_fields base) ++ above v (parent_of (short (base_fields base))) ≡ forms (base_fields base) rest ++ bases_left (Some base) t v
-step_some base v rest t is =
+    (tag : Fields) (base : Base) (v rest t : List ℕ) → endings v rest ≡ rest ∷ endings v t →
+    with_each (endings v rest) (named tag (base_fields base)) ++ above tag v (parent_of (short (base_fields base)))
+    ≡ forms (named tag (base_fields base)) rest ++ bases_left tag (Some base) t v
+step_some tag base v rest t is =
     let f = base_fields base in
-    ap (λ es. with_each es f ++ above v (parent_of (short f))) is ∙ append_assoc (forms f rest) (with_each (endings v t) f) (above v (parent_of (short f)))
+    ap (λ es. with_each es (named tag f) ++ above tag v (parent_of (short f))) is
+    ∙ append_assoc (forms (named tag f) rest) (with_each (endings v t) (named tag f)) (above tag v (parent_of (short f)))
 
-fields_left : (v : List ℕ) (o : Option Base) (p : Option Fields) → option_map base_fields o ≡ p → option_map_or (λ g. with_each (endings v v) g ++ above v (parent_of (short g))) p [] ≡ bases_left o v v
-fields_left v None p is = ap (λ p. option_map_or (λ g. with_each (endings v v) g ++ above v (parent_of (short g))) p []) (sym is)
-fields_left v (Some g) p is = ap (λ p. option_map_or (λ g. with_each (endings v v) g ++ above v (parent_of (short g))) p []) (sym is)
+fields_left :
+    (tag : Fields) (v : List ℕ) (o : Option Base) (p : Option Fields) → option_map base_fields o ≡ p →
+    option_map_or (λ g. with_each (endings v v) (named tag g) ++ above tag v (parent_of (short g))) p [] ≡ bases_left tag o v v
+fields_left tag v None p is = ap (λ p. option_map_or (λ g. with_each (endings v v) (named tag g) ++ above tag v (parent_of (short g))) p []) (sym is)
+fields_left tag v (Some g) p is = ap (λ p. option_map_or (λ g. with_each (endings v v) (named tag g) ++ above tag v (parent_of (short g))) p []) (sym is)
 
 pub step_none :
-    (base : Base) (v rest : List ℕ) (o : Option Base) → endings v rest ≡ rest ∷ [] → option_map base_fields o ≡ parent_of (short (base_fields base)) →
-    with_each (endings v rest) (base_fields base) ++ above v (parent_of (short (base_fields base))) ≡ forms (base_fields base) rest ++ bases_left o v v
-step_none base v rest o is parent =
+    (tag : Fields) (base : Base) (v rest : List ℕ) (o : Option Base) → endings v rest ≡ rest ∷ [] → option_map base_fields o ≡ parent_of (short (base_fields base)) →
+    with_each (endings v rest) (named tag (base_fields base)) ++ above tag v (parent_of (short (base_fields base)))
+    ≡ forms (named tag (base_fields base)) rest ++ bases_left tag o v v
+step_none tag base v rest o is parent =
     let f = base_fields base in
-    ap (λ es. with_each es f ++ above v (parent_of (short f))) is ∙ ap (λ list. list ++ above v (parent_of (short f))) (append-nil (forms f rest))
-    ∙ ap (λ list. forms f rest ++ list) (above_step v (parent_of (short f)) ∙ fields_left v o (parent_of (short f)) parent)
+    let own = named tag f in
+    ap (λ es. with_each es own ++ above tag v (parent_of (short f))) is ∙ ap (λ list. list ++ above tag v (parent_of (short f))) (append-nil (forms own rest))
+    ∙ ap (λ list. forms own rest ++ list) (above_step tag v (parent_of (short f)) ∙ fields_left tag v o (parent_of (short f)) parent)
 
 -- ---- the chain of a record
 
-abbrev given_of : Fields → List ℕ → List (List ℕ)
-given_of f rest = cond (has_likely_script f) (text_of f rest ∷ []) []
+-- a short form has no likely script, so it is its own short form
+short_twice : (f : Fields) → short (short f) ≡ short f
+short_twice f = by_test (has_likely_script f) refl
+  where
+    by_test : (b : Bool) → has_likely_script f ≡ b → short (cond b (without_script f) f) ≡ cond b (without_script f) f
+    by_test true is = refl
+    by_test false is = ap (λ b. cond b (without_script f) f) is
 
 pub chain_is :
-    (r : Record) (given : List (List ℕ)) (whole f : Fields) (v rest : List ℕ) → given ≡ given_of whole rest → whole ≡ fields_of r → v ≡ hyphenated r.variants → rest ≡ rest_of r →
-    f ≡ short (fields_of r) → given ++ (with_each (endings v rest) f ++ above v (parent_of (short f))) ≡ chain_of r
-chain_is r given whole f v rest given_is whole_is v_is rest_is f_is =
-    let first = given_is ∙ ap (λ w. given_of w rest) whole_is ∙ ap (given_of (fields_of r)) rest_is in
-    ap (λ x. x ++ (with_each (endings v rest) f ++ above v (parent_of (short f)))) first
-    ∙ ap (λ x. given_of (fields_of r) (rest_of r) ++ (with_each (endings x rest) f ++ above x (parent_of (short f)))) v_is
-    ∙ ap (λ x. given_of (fields_of r) (rest_of r) ++ (with_each (endings (hyphenated r.variants) x) f ++ above (hyphenated r.variants) (parent_of (short f)))) rest_is
-    ∙ ap (λ x. given_of (fields_of r) (rest_of r) ++ (with_each (endings (hyphenated r.variants) (rest_of r)) x ++ above (hyphenated r.variants) (parent_of (short x)))) f_is
+    (r : Record) (given : List (List ℕ)) (tag f : Fields) (v rest : List ℕ) → given ≡ given_form tag rest → tag ≡ fields_of r → v ≡ hyphenated r.variants → rest ≡ rest_of r →
+    f ≡ short (fields_of r) → given ++ (with_each (endings v rest) (named tag f) ++ above tag v (parent_of (short f))) ≡ chain_of r
+chain_is r given tag f v rest given_is tag_is v_is rest_is f_is =
+    let above_is : parent_of (short f) ≡ parent_of (short (fields_of r)) = ap parent_of (ap short f_is ∙ short_twice (fields_of r)) in
+    ap (λ p. given ++ (with_each (endings v rest) (named tag f) ++ above tag v p)) above_is
+    ∙ ap (λ x. x ++ (with_each (endings v rest) (named tag f) ++ above tag v (parent_of (short (fields_of r))))) given_is
+    ∙ ap (λ t. given_form t rest ++ (with_each (endings v rest) (named t f) ++ above t v (parent_of (short (fields_of r))))) tag_is
+    ∙ ap (λ x. given_form (fields_of r) rest ++ (with_each (endings v rest) (named (fields_of r) x) ++ above (fields_of r) v (parent_of (short (fields_of r))))) f_is
+    ∙ ap (λ x. given_form (fields_of r) rest ++ (with_each (endings x rest) (named (fields_of r) (short (fields_of r))) ++ above (fields_of r) x (parent_of (short (fields_of r))))) v_is
+    ∙ ap (λ x. given_form (fields_of r) x ++ (with_each (endings (hyphenated r.variants) x) (named (fields_of r) (short (fields_of r))) ++ above (fields_of r) (hyphenated r.variants) (parent_of (short (fields_of r))))) rest_is

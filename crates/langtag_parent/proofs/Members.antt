@@ -1,16 +1,16 @@
 -- Each member of the chain of a normal tag is a normal tag in the script of the tag, and adds nothing to it but what CLDR lists.
-use Rattle.langtag_scan.proofs.Prelude.{◌≡◌, ℕ, zero, suc, eqb, nil_from_length, ◌≤◌, ◌⊎◌, inl, inr, true, false, Bool, cond, IsTrue, List, [], ◌∷◌, ◌++◌, length, map, flat_map, Option, None, Some, IfSome, MatchOption, refl, sym, ap, ◌∙◌, subst, arith, ◌||◌, option_map, option_map_or, unwrap_or, nat_lt, AllByRecursion, append_assoc, append-nil, length-append, and_parts, nat_tests}
+use Rattle.langtag_scan.proofs.Prelude.{◌≡◌, ℕ, zero, suc, eqb, nil_from_length, ◌≤◌, ◌⊎◌, inl, inr, true, false, Bool, cond, IsTrue, List, [], ◌∷◌, ◌++◌, length, map, flat_map, Option, None, Some, IfSome, MatchOption, refl, sym, ap, ◌∙◌, subst, arith, ◌&&◌, ◌||◌, not, option_map, option_map_or, unwrap_or, nat_lt, AllByRecursion, append_assoc, append-nil, length-append, and_parts, nat_tests}
 use Rattle.langtag_scan.specs.Grammar.{Alike, EachRecord, Extension, IsNormal, IsWellFormed, IsWellFormedExtension, IsWellFormedPrivateUse, PrivateUse, Record, Spells, are_alike, are_alike-decides, extension_flat, is_region, is_script, is_primary, is_variant, join, one_flat, private_part_flat, spell}
 use Rattle.langtag_scan.proofs.Laws.{each-append, hyphenated-append, join-hyphenated, no_hyphen_each, of_variant, region_two_three, script_four, spelled_once}
 use Rattle.langtag_text.proofs.Alike.{AlikeFields, alike_is}
 use Rattle.langtag_text.specs.FieldClasses.{is_language_field, is_region_field, is_script_field}
 use Rattle.langtag_text.specs.Fields.{Fields, subtag_of}
-use Rattle.langtag_cldr.specs.Definitions.{Likely, language_alone, likely_for, likely_subtags, looked_up, without_region, without_script}
+use Rattle.langtag_cldr.specs.Definitions.{Likely, are_alike_fields, language_alone, likely_for, likely_subtags, looked_up, without_region, without_script}
 use Rattle.langtag_cldr.proofs.AddedTwice.{found_of, found_row}
-use Rattle.langtag_cldr.proofs.AlikeFields.{looked_up-alike}
+use Rattle.langtag_cldr.proofs.AlikeFields.{alike_fields, looked_up-alike}
 use Rattle.langtag_cldr.proofs.TableRows.{are_good, is_language_row, is_other_row, is_settled, is_there, is_whole, rows_listed}
-use Rattle.langtag_parent.specs.Chain.{IsChain, above, chain_of, endings, forms, hyphenated, line, rest_of, shorter, text_of, with_each}
-use Rattle.langtag_parent.specs.Parent.{fields_of, has_likely_script, is_empty, likely_script, other_script, parent_in_script, parent_of, parent_of_region, parent_of_script, short, stated, stated_or, unless_alike, usual_parent, with_script}
+use Rattle.langtag_parent.specs.Chain.{IsChain, above, chain_of, endings, forms, given_form, hyphenated, line, rest_of, shorter, text_of, with_each}
+use Rattle.langtag_parent.specs.Parent.{fields_of, has_likely_script, is_empty, likely_script, named, other_script, parent_in_script, parent_of, parent_of_region, parent_of_script, short, stated, stated_or, unless_alike, usual_parent, with_script}
 use Rattle.langtag_parent.specs.ParentLaws.{AddsNothing, EachMember, IsInOneScript, IsKept, IsKeptOrListed, IsListed, IsWrittenAs, script_of}
 use Rattle.langtag_parent.specs.ParentLocales.{parent_locales}
 use Rattle.langtag_parent.proofs.Latin.{all_written, is_written, row_written}
@@ -36,12 +36,6 @@ without_likely : (script : List ℕ) (o p : Option (List ℕ)) → cond (is_empt
 without_likely [] o p likely = absurd cc
 without_likely (b ∷ script) None p likely = absurd cc
 without_likely (b ∷ script) (Some s) p likely = alike_is (b ∷ script) s likely
-
--- the usual script is removed
-without_usual : (script : List ℕ) (o p : Option (List ℕ)) → is_empty script ≡ false → option_map_or (are_alike script) o true ≡ true → WrittenAs (cond (is_empty script) p (Some script)) o
-without_usual [] o p some usual = absurd cc
-without_usual (b ∷ script) None p some usual = tt
-without_usual (b ∷ script) (Some s) p some usual = alike_is (b ∷ script) s usual
 
 -- the region is removed
 none_alone : (language region : List ℕ) → likely_script language region ≡ None → likely_script language [] ≡ None
@@ -222,17 +216,43 @@ stated_step f g other later is = by_row (likely_for parent_locales f) refl is
     by_row None there is = later is
     by_row (Some to) there is = row_step f to g there is
 
+-- ---- the script that a tag names
+
+likely_written : (script : List ℕ) (o p : Option (List ℕ)) → cond (is_empty script) false (option_map_or (are_alike script) o false) ≡ true → WrittenAs o (cond (is_empty script) p (Some script))
+likely_written [] o p likely = absurd cc
+likely_written (b ∷ script) None p likely = absurd cc
+likely_written (b ∷ script) (Some s) p likely = sym (alike_is (b ∷ script) s likely)
+
+named_step : (tag f : Fields) → IsBase tag → IsBase f → Step f (named tag f)
+named_step tag f of_tag base = by_test (are_alike_fields f (language_alone tag) && has_likely_script (without_region tag)) refl
+  where
+    by_test : (b : Bool) → (are_alike_fields f (language_alone tag) && has_likely_script (without_region tag)) ≡ b → Step f (cond b (with_script f tag.script) f)
+    by_test true both =
+        let parts = and_parts (are_alike_fields f (language_alone tag)) (has_likely_script (without_region tag)) both in
+        let same = alike_fields f (language_alone tag) parts.0 in
+        let alone : IsWrittenAs f (language_alone tag) = fields_alike (language_alone tag) f (record { language = sym same.language; script = sym same.script; region = sym same.region }) in
+        record {
+          base = record {
+            base = placed base.base of_tag.base.script base.base.region;
+            well = placed_well base.base of_tag.base.script base.base.region base.well of_tag.well.script base.well.region;
+            is = ap (λ g. with_script g (unwrap_or of_tag.base.script [])) base.is ∙ ap (λ t. with_script f t.script) of_tag.is;
+          };
+          written = written_twice (script_of f) (likely_script tag.language []) (script_of (with_script f tag.script)) alone (likely_written tag.script (likely_script tag.language []) (likely_script f.language f.region) parts.1);
+          kept = inl (refl, inr refl);
+        }
+    by_test false other = no_step f base
+
 -- ---- the usual parent
 
-alone_step : (f g : Fields) (b : Bool) → IsBase f → is_empty f.script ≡ false → option_map_or (are_alike f.script) (likely_script f.language []) true ≡ b → cond b (Some (language_alone f)) None ≡ Some g → Step f g
-alone_step f g true base some usual is =
+alone_step : (f g : Fields) (o : Option (List ℕ)) → IsBase f → likely_script f.language [] ≡ o → option_map_or (λ s. None) o (Some (language_alone f)) ≡ Some g → Step f g
+alone_step f g None base unknown is =
     let same : language_alone f ≡ g = cc in
     subst (Step f) same (record {
       base = record { base = placed base.base None None; well = placed_well base.base None None base.well tt tt; is = ap language_alone base.is };
-      written = without_usual f.script (likely_script f.language []) (likely_script f.language f.region) some usual;
+      written = subst (WrittenAs (script_of f)) (sym unknown) tt;
       kept = inl (refl, inl refl);
     })
-alone_step f g false base some usual is = absurd cc
+alone_step f g (Some s) base known is = absurd cc
 
 place_step : (f : Fields) → IsBase f → other_script f ≡ None → Step f (without_region f)
 place_step f base none = record {
@@ -266,14 +286,14 @@ region_step f g (Some s) base other is =
     two_steps f (with_script f s) g first (stated_step (with_script f s) g (Some (without_region (with_script f s)))
     (λ cut. let same : without_region (with_script f s) ≡ g = cc in subst (Step (with_script f s)) same (place_step (with_script f s) first.base none)) is)
 
-usual_step : (f g : Fields) (a b : Bool) → IsBase f → is_empty f.script ≡ b → cond a (cond b None (parent_of_script f)) (parent_of_region f) ≡ Some g → Step f g
-usual_step f g true true base script is = absurd cc
-usual_step f g true false base script is = alone_step f g (option_map_or (are_alike f.script) (likely_script f.language []) true) base script refl is
-usual_step f g false b base script is = region_step f g (other_script f) base refl is
+usual_step : (f g : Fields) (a b : Bool) → IsBase f → cond a (cond b None (parent_of_script f)) (parent_of_region f) ≡ Some g → Step f g
+usual_step f g true true base is = absurd cc
+usual_step f g true false base is = alone_step f g (likely_script f.language []) base refl is
+usual_step f g false b base is = region_step f g (other_script f) base refl is
 
 parent_step : (f g : Fields) → IsBase f → parent_of f ≡ Some g → Step f g
 unfolding parent_of
-parent_step f g base is = stated_step f g (usual_parent f) (usual_step f g (is_empty f.region) (is_empty f.script) base refl) is
+parent_step f g base is = stated_step f g (usual_parent f) (usual_step f g (is_empty f.region) (is_empty f.script) base) is
 
 line_steps : (n : ℕ) (f g : Fields) → Step f g → AllByRecursion (Step f) (line n g)
 line_steps zero f g step = tt
@@ -338,9 +358,11 @@ each_form P f (e ∷ es) long cut = each-append P (forms f e) (with_each es f) (
     by_test true = (cut.0, tt)
     by_test false = tt
 
-each_fields : (P : List ℕ → Type 0) (Q : Fields → Type 0) (es : List (List ℕ)) (fs : List Fields) → ((f : Fields) → Q f → AllByRecursion P (with_each es f)) → AllByRecursion Q fs → AllByRecursion P (flat_map (with_each es) fs)
-each_fields P Q es [] each all = tt
-each_fields P Q es (f ∷ fs) each all = each-append P (with_each es f) (flat_map (with_each es) fs) (each f all.0) (each_fields P Q es fs each all.1)
+each_fields :
+    (P : List ℕ → Type 0) (Q : Fields → Type 0) (texts : Fields → List (List ℕ)) (fs : List Fields) → ((f : Fields) → Q f → AllByRecursion P (texts f)) → AllByRecursion Q fs →
+    AllByRecursion P (flat_map texts fs)
+each_fields P Q texts [] each all = tt
+each_fields P Q texts (f ∷ fs) each all = each-append P (texts f) (flat_map texts fs) (each f all.0) (each_fields P Q texts fs each all.1)
 
 -- ---- the text of a record
 
@@ -442,13 +464,15 @@ members_plain r g well step =
     λ h to_h. (plain_member r h well to_h r.variants [] (append-nil r.variants), each_shorter (λ e. Member r (text_of h e)) r.variants (all_free r.variants well.variants) (plain_member r h well to_h)) in
     each_form (Member r) g (hyphenated r.variants ∷ shorter (hyphenated r.variants)) (each g step) (each (short g) (two_steps (fields_of r) g (short g) step (short_step g step.base)))
 
-members_above : (r : Record) (f : Fields) → IsWellFormed r → Step (fields_of r) f → AllByRecursion (Member r) (above (hyphenated r.variants) (parent_of f))
-members_above r f well step = by_parent (parent_of f) refl
+members_above :
+    (r : Record) (f : Fields) → IsWellFormed r → IsBase (fields_of r) → Step (fields_of r) f → AllByRecursion (Member r) (above (fields_of r) (hyphenated r.variants) (parent_of f))
+members_above r f well own step = by_parent (parent_of f) refl
   where
-    by_parent : (o : Option Fields) → parent_of f ≡ o → AllByRecursion (Member r) (above (hyphenated r.variants) o)
+    by_parent : (o : Option Fields) → parent_of f ≡ o → AllByRecursion (Member r) (above (fields_of r) (hyphenated r.variants) o)
     by_parent None is = tt
     by_parent (Some g) is =
-        each_fields (Member r) (Step (fields_of r)) (hyphenated r.variants ∷ shorter (hyphenated r.variants)) (line 8 g) (λ h. members_plain r h well)
+        each_fields (Member r) (Step (fields_of r)) (λ h. with_each (hyphenated r.variants ∷ shorter (hyphenated r.variants)) (named (fields_of r) h)) (line 8 g)
+        (λ h to_h. members_plain r (named (fields_of r) h) well (two_steps (fields_of r) h (named (fields_of r) h) to_h (named_step (fields_of r) h own to_h.base)))
         (line_steps 8 (fields_of r) g (two_steps (fields_of r) f g step (parent_step f g step.base is)))
 
 given_member : (r : Record) → IsWellFormed r → Step (fields_of r) (fields_of r) → (b : Bool) → AllByRecursion (Member r) (cond b (text_of (fields_of r) (rest_of r) ∷ []) [])
@@ -458,13 +482,14 @@ given_member r well step false = tt
 members : (r : Record) → IsWellFormed r → AllByRecursion (Member r) (chain_of r)
 members r well =
     let f = fields_of r in
-    let first = no_step f (record { base = r; well = well; is = refl }) in
-    let second = short_step f first.base in
-    let third = two_steps f (short f) (short (short f)) second (short_step (short f) second.base) in
-    let given = cond (has_likely_script f) (text_of f (rest_of r) ∷ []) [] in
-    let own = with_each (endings (hyphenated r.variants) (rest_of r)) (short f) in
-    each-append (Member r) given (own ++ above (hyphenated r.variants) (parent_of (short (short f)))) (given_member r well first (has_likely_script f))
-    (each-append (Member r) own (above (hyphenated r.variants) (parent_of (short (short f)))) (members_with r (short f) well second) (members_above r (short (short f)) well third))
+    let own : IsBase f = record { base = r; well = well; is = refl } in
+    let first = no_step f own in
+    let second = short_step f own in
+    let third = two_steps f (short f) (named f (short f)) second (named_step f (short f) own second.base) in
+    let with_rest = with_each (endings (hyphenated r.variants) (rest_of r)) (named f (short f)) in
+    let parents = above f (hyphenated r.variants) (parent_of (short f)) in
+    each-append (Member r) (given_form f (rest_of r)) (with_rest ++ parents) (given_member r well first (has_likely_script f && not (is_empty f.region)))
+    (each-append (Member r) with_rest parents (members_with r (named f (short f)) well third) (members_above r (short f) well own second))
 
 chain_members : (tag : List ℕ) (chain : List (List ℕ)) (r : Record) → IsChain tag chain → Spells r tag → AllByRecursion (Member r) chain
 chain_members tag chain r is spells = subst (AllByRecursion (Member r)) (sym (is.part r spells)) (members r spells.0)

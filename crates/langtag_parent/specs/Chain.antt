@@ -1,5 +1,5 @@
 -- A tag and its parents, the nearest first: the order in which a catalogue looks for a string.
-use Rattle.std.specs.Prelude.{ℕ, zero, suc, ◌==◌, nat_lt, List, [], ◌∷◌, ◌++◌, length, Option, flat_map, map, if◌then◌else◌}
+use Rattle.std.specs.Prelude.{ℕ, zero, suc, ◌==◌, ◌&&◌, not, nat_lt, List, [], ◌∷◌, ◌++◌, length, Option, flat_map, map, if◌then◌else◌}
 use Rattle.langtag_scan.specs.Grammar.{option_map_or, Record, extension_flat, one_flat, private_part_flat, join}
 use Rattle.langtag.specs.Definitions.{PartOf}
 use Rattle.langtag_text.specs.Fields.{Fields, subtag_of}
@@ -7,7 +7,7 @@ use Rattle.langtag_parent.specs.declared.parent_tag.ParentTag.{ParentTag}
 use Rattle.langtag_parent.specs.declared.parents.Parents.{Parents}
 use Rattle.langtag_parent.specs.Base.{base_fields}
 use Rattle.langtag_parent.specs.declared.base.Base.{Base}
-use Rattle.langtag_parent.specs.Parent.{fields_of, has_likely_script, parent_of, short}
+use Rattle.langtag_parent.specs.Parent.{fields_of, has_likely_script, is_empty, named, parent_of, short}
 
 -- ---- texts
 
@@ -40,9 +40,9 @@ forms f rest = text_of f rest ∷ (if has_likely_script f then text_of (short f)
 abbrev pub with_each : List (List ℕ) → Fields → List (List ℕ)
 with_each endings f = flat_map (forms f) endings
 
--- the fields and those above them, each with the variants, which go one by one
-abbrev pub above : List ℕ → Option Fields → List (List ℕ)
-above variants parent = flat_map (with_each (variants ∷ shorter variants)) (option_map_or (line 8) parent [])
+-- the fields and those above them, each with the script that a tag names and with the variants, which go one by one
+abbrev pub above : Fields → List ℕ → Option Fields → List (List ℕ)
+above tag variants parent = flat_map (λ f. with_each (variants ∷ shorter variants) (named tag f)) (option_map_or (line 8) parent [])
 
 -- ---- the chain
 
@@ -54,13 +54,18 @@ rest_of r = hyphenated (r.variants ++ (flat_map extension_flat r.extensions ++ p
 abbrev pub endings : List ℕ → List ℕ → List (List ℕ)
 endings variants rest = rest ∷ (if nat_lt (length variants) (length rest) then variants ∷ shorter variants else shorter rest)
 
+-- the text of fields with a region, if their script is likely anyway
+abbrev pub given_form : Fields → List ℕ → List (List ℕ)
+given_form f rest = if has_likely_script f && not (is_empty f.region) then text_of f rest ∷ [] else []
+
 -- a normal tag and its parents: the tag as it is, if its script is likely anyway; then its short form, first with
--- all that stands after the region; and then those above it
+-- all that stands after the region; and then those above it. The language with the script that the tag names, if it is
+-- usually written in this script, comes before the language alone
 abbrev pub chain_of : Record → List (List ℕ)
 chain_of r =
-    (if has_likely_script (fields_of r) then text_of (fields_of r) (rest_of r) ∷ [] else [])
-    ++ (with_each (endings (hyphenated r.variants) (rest_of r)) (short (fields_of r))
-    ++ above (hyphenated r.variants) (parent_of (short (short (fields_of r)))))
+    given_form (fields_of r) (rest_of r)
+    ++ (with_each (endings (hyphenated r.variants) (rest_of r)) (named (fields_of r) (short (fields_of r)))
+    ++ above (fields_of r) (hyphenated r.variants) (parent_of (short (fields_of r))))
 
 -- a tag and its parents; a private use tag and an irregular tag have none
 abbrev pub IsChain : List ℕ → List (List ℕ) → Type 0
@@ -73,9 +78,10 @@ abbrev pub parent_text : ParentTag → List ℕ
 parent_text tag = text_of (record { language = tag.language.now; script = tag.script.now; region = tag.region.now }) tag.rest.now
 
 -- the tags of a base with an ending and the shorter ones, and those above it
-abbrev pub bases_left : Option Base → List ℕ → List ℕ → List (List ℕ)
-bases_left base rest variants = option_map_or (λ base. with_each (endings variants rest) (base_fields base) ++ above variants (parent_of (short (base_fields base)))) base []
+abbrev pub bases_left : Fields → Option Base → List ℕ → List ℕ → List (List ℕ)
+bases_left tag base rest variants =
+    option_map_or (λ base. with_each (endings variants rest) (named tag (base_fields base)) ++ above tag variants (parent_of (short (base_fields base)))) base []
 
 -- the tags that an iterator has not returned yet
 abbrev pub parents_left : Parents → List (List ℕ)
-parents_left walk = option_map_or (λ tag. parent_text tag ∷ []) walk.pending [] ++ bases_left walk.base walk.rest.now walk.variants.now
+parents_left walk = option_map_or (λ tag. parent_text tag ∷ []) walk.pending [] ++ bases_left (base_fields walk.tag) walk.base walk.rest.now walk.variants.now

@@ -1,9 +1,9 @@
 -- The parent of a language with its script and its region, and its short form: CLDR's parent locales, and CLDR's likely
 -- subtags, so that a string is never replaced by one in another script (UTS #35, part 1, 'Parent Locales').
-use Rattle.std.specs.Prelude.{ℕ, Bool, true, false, List, [], ◌∷◌, Option, None, Some, if◌then◌else◌, option_map, unwrap_or}
+use Rattle.std.specs.Prelude.{ℕ, Bool, true, false, ◌&&◌, List, [], ◌∷◌, Option, None, Some, if◌then◌else◌, option_map, unwrap_or}
 use Rattle.langtag_scan.specs.Grammar.{option_map_or, are_alike, Record, language_part}
 use Rattle.langtag_text.specs.Fields.{Fields}
-use Rattle.langtag_cldr.specs.Definitions.{language_alone, likely_for, likely_subtags, looked_up, without_region, without_script}
+use Rattle.langtag_cldr.specs.Definitions.{are_alike_fields, language_alone, likely_for, likely_subtags, looked_up, without_region, without_script}
 use Rattle.langtag_parent.specs.ParentLocales.{parent_locales}
 
 abbrev pub is_empty : List ℕ → Bool
@@ -30,6 +30,11 @@ has_likely_script f = if is_empty f.script then false else option_map_or (are_al
 -- the fields without a script that is likely anyway: `pt` and `AO` for `pt`, `Latn` and `AO`
 abbrev pub short : Fields → Fields
 short f = if has_likely_script f then without_script f else f
+
+-- the fields with the script that a tag names, if they are the language of the tag alone, and the language is usually
+-- written in this script: `zh` and `Hans` for `zh`, if the tag is `zh-Hans-CN`
+abbrev pub named : Fields → Fields → Fields
+named tag f = if are_alike_fields f (language_alone tag) && has_likely_script (without_region tag) then with_script f tag.script else f
 
 -- the first script, if it is not the second script
 abbrev pub unless_alike : Option (List ℕ) → Option (List ℕ) → Option (List ℕ)
@@ -60,14 +65,14 @@ parent_in_script f = stated_or f (Some (without_region f))
 abbrev pub parent_of_region : Fields → Option Fields
 parent_of_region f = option_map_or (λ script. parent_in_script (with_script f script)) (other_script f) (Some (without_region f))
 
--- the language, if it is usually written in this script, or if its likely script is not known
+-- the language, if its likely script is not known. Short fields never have the likely script
 abbrev pub parent_of_script : Fields → Option Fields
-parent_of_script f = if option_map_or (are_alike f.script) (likely_script f.language []) true then Some (language_alone f) else None
+parent_of_script f = option_map_or (λ script. None) (likely_script f.language []) (Some (language_alone f))
 
 -- without the region, or else without the script
 abbrev pub usual_parent : Fields → Option Fields
 usual_parent f = if is_empty f.region then (if is_empty f.script then None else parent_of_script f) else parent_of_region f
 
--- the parent of a language with its script and its region: what CLDR states, or else the usual parent
+-- the parent of short fields: what CLDR states, or else the usual parent
 unfoldable pub parent_of : Fields → Option Fields
 parent_of f = stated_or f (usual_parent f)

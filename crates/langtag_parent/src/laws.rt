@@ -19,10 +19,10 @@ fn members_are_normal()
     ensures normal { (tag : List ℕ) (chain : List (List ℕ)) → IsNormal tag → IsChain tag chain → AllByRecursion IsNormal chain }
 {}
 
-/// Each member is written in the script of the tag.
+/// Each member whose script is known is written in the script of the tag.
 #[tactic(auto, using(crate::proofs::Members::in_one_script))]
 fn one_script()
-    // law: each member is written in the script of the tag: its own, or else its likely script
+    // law: each member whose script is known is written in the script of the tag. The script is its own, or else its likely script
     ensures one_script { EachMember IsInOneScript }
 {}
 

@@ -5,10 +5,10 @@ ghost use Rattle.langtag_parent.specs.Base.{base_fields};
 ghost use Rattle.langtag_parent.specs.Parent.{parent_in_script, parent_of, parent_of_region, parent_of_script, usual_parent};
 
 use crate::base::Base;
-use crate::scripts::{is_usual_script, other_script};
+use crate::scripts::{likely_script, other_script};
 use crate::stated::stated_parent;
 
-/// Returns the parent of a language with its script and its region: what CLDR states, or else the usual parent.
+/// Returns the parent of a short base: what CLDR states, or else the usual parent.
 #[tactic(auto, unfolding(crate::specs::Parent::parent_of))]
 pub(crate) fn parent_of<'a>(base: Base<'a>) -> Option<Base<'a>>
     ensures { option_map base_fields result ≡ parent_of (base_fields base.entry) }
@@ -26,10 +26,21 @@ fn usual_parent<'a>(base: Base<'a>) -> Option<Base<'a>>
     if !base.region.is_empty() {
         return parent_of_region(base);
     }
-    if base.script.is_empty() || !is_usual_script(base) {
+    if base.script.is_empty() {
         return None;
     }
-    Some(base.language_alone())
+    parent_of_script(base)
+}
+
+/// Returns the language, if its likely script is not known.
+fn parent_of_script<'a>(base: Base<'a>) -> Option<Base<'a>>
+    ensures { option_map base_fields result ≡ parent_of_script (base_fields base.entry) }
+{
+    let alone = base.language_alone();
+    match likely_script(alone) {
+        Some(_) => None,
+        None => Some(alone),
+    }
 }
 
 /// Returns the parent of a language in a region.

@@ -1,15 +1,18 @@
-//! A tag and its parents.
+//! A tag and its parents. Tests show that no tag stands twice in a chain (rust/tests/rows/likely.rs). A proof would
+//! have to compare each pair of members by their records. `zh-Hans-CN` leads to `zh-Hans` before `zh`, as in CLDR's own
+//! chains; ICU4X's data have no `zh-Hans`.
 ghost use Rattle.std.specs.Prelude.{◌≡◌, ◌∷◌, ◌++◌, ◌≤◌, [], IfSome, MatchOption, drop, length, if◌then◌else◌};
 ghost use Rattle.langtag_scan.specs.Grammar.{EachRecord, IsHyphenFree, YieldsFirstBy, ends_of, item_count, option_map_or, spell};
 ghost use Rattle.langtag.specs.Definitions.{lang_tag_text, normal_lang_tag_text};
+ghost use Rattle.langtag_text.specs.Fields.{Fields};
 ghost use Rattle.langtag_parent.specs.Base.{base_fields};
-ghost use Rattle.langtag_parent.specs.Chain.{IsChain, above, bases_left, chain_of, endings, forms, parent_text, parents_left, shorter, text_of, with_each};
-ghost use Rattle.langtag_parent.specs.Parent.{has_likely_script, parent_of, short};
+ghost use Rattle.langtag_parent.specs.Chain.{IsChain, above, bases_left, chain_of, endings, forms, given_form, parent_text, parents_left, shorter, text_of, with_each};
+ghost use Rattle.langtag_parent.specs.Parent.{has_likely_script, named, parent_of, short};
 
 use crate::base::Base;
 use crate::parent_base::parent_of;
 use crate::parent_tag::ParentTag;
-use crate::scripts::{has_likely_script, short};
+use crate::scripts::{has_likely_script, named, short};
 use langtag::{LangTag, NormalLangTag};
 use langtag_scan::segment_start;
 
@@ -26,6 +29,8 @@ pub struct Parents<'a> {
     // A tag that comes before those of `base`.
     pending: Option<ParentTag<'a>>,
     base: Option<Base<'a>>,
+    // The first tag, whose script is named again before its language alone.
+    tag: Base<'a>,
     // What stands after the region of the next tag, with the hyphen before it.
     rest: &'a [u8],
     // The variants of the first tag, with the hyphen before them.
@@ -34,7 +39,7 @@ pub struct Parents<'a> {
 
 impl<'a> Parents<'a> {
     /// Returns an iterator that starts at the tag itself.
-    #[tactic(auto, using(crate::proofs::Chains::some_tag, crate::proofs::Chains::other_chain, crate::proofs::Chains::normal_chain))]
+    #[tactic(auto, unfolding(langtag_scan::specs::Class::is_primary, langtag_scan::specs::Class::is_letter), using(crate::proofs::Chains::some_tag, crate::proofs::Chains::other_chain, crate::proofs::Chains::normal_chain))]
     pub fn new(tag: LangTag<'a>) -> Self
         ensures chain { IsChain (lang_tag_text tag.entry) (parents_left result) }
         ensures cloned { (walk copy : Parents) → ⟦<Parents<'a> as Clone>⟧.is_clone walk copy → parents_left copy ≡ parents_left walk }
@@ -45,6 +50,11 @@ impl<'a> Parents<'a> {
             None => Parents {
                 pending: Some(ParentTag::whole(tag.as_str().as_bytes())),
                 base: None,
+                tag: Base {
+                    language: b"und",
+                    script: b"",
+                    region: b"",
+                },
                 rest: b"",
                 variants: b"",
             },
@@ -60,6 +70,7 @@ impl<'a> Parents<'a> {
         Parents {
             pending: given_form(base, rest),
             base: Some(short(base)),
+            tag: base,
             rest,
             variants: after_region(tag.base()),
         }
@@ -80,18 +91,18 @@ impl<'a> Iterator for Parents<'a> {
         }
         let base = self.base?;
         let rest = self.rest;
-        self.pending = short_form(base, rest);
         (self.base, self.rest) = following(base, rest, self.variants);
+        let base = named(base, self.tag);
+        self.pending = short_form(base, rest);
         Some(ParentTag::new(base, rest))
     }
 }
 
-/// Returns the tag of a base with its script, if this script is likely anyway.
+/// Returns the tag of a base with a region, if its script is likely anyway.
 fn given_form<'a>(base: Base<'a>, rest: &'a [u8]) -> Option<ParentTag<'a>>
-    ensures { option_map_or (λ tag. parent_text tag ∷ []) result []
-        ≡ if has_likely_script (base_fields base.entry) then text_of (base_fields base.entry) rest.now ∷ [] else [] }
+    ensures { option_map_or (λ tag. parent_text tag ∷ []) result [] ≡ given_form (base_fields base.entry) rest.now }
 {
-    if has_likely_script(base) {
+    if has_likely_script(base) && !base.region.is_empty() {
         Some(ParentTag::new(base, rest))
     } else {
         None
@@ -114,8 +125,8 @@ fn short_form<'a>(base: Base<'a>, rest: &'a [u8]) -> Option<ParentTag<'a>>
 /// of the base with all variants.
 #[tactic(auto, using(crate::proofs::Lines::step_some, crate::proofs::Lines::step_none))]
 fn following<'a>(base: Base<'a>, rest: &'a [u8], variants: &'a [u8]) -> (Option<Base<'a>>, &'a [u8])
-    ensures { with_each (endings variants.now rest.now) (base_fields base.entry) ++ above variants.now (parent_of (short (base_fields base.entry)))
-        ≡ forms (base_fields base.entry) rest.now ++ bases_left result.0 result.1.now variants.now }
+    ensures { (tag : Fields) → with_each (endings variants.now rest.now) (named tag (base_fields base.entry)) ++ above tag variants.now (parent_of (short (base_fields base.entry)))
+        ≡ forms (named tag (base_fields base.entry)) rest.now ++ bases_left tag result.0 result.1.now variants.now }
 {
     match shortened(rest, variants) {
         Some(shorter) => (Some(base), shorter),

@@ -90,8 +90,7 @@ impl<'a> Region<'a> {
     }
 
     /// Returns whether another string equals this string, ignoring the case of ASCII letters:
-    /// `Region::new("fr")?.eq_str("FR")` is `true`. It is proved that comparisons and hashes also ignore case, and that
-    /// a clone is the same value.
+    /// `Region::new("fr")?.eq_str("FR")` is `true`. Comparisons and hashes also ignore case.
     #[tactic(auto, using(langtag_scan::proofs::CaseOrder::bytes_ends_first, langtag_scan::proofs::CaseLaw::alike_region))]
     pub fn eq_str(&self, other: &str) -> bool
         ensures test { result ≡ are_alike (region_text self.now) other.now }
@@ -175,8 +174,7 @@ impl RegionBuf {
         })
     }
 
-    /// Borrows the region: `Region::new("FR")?.try_to_owned(alloc)?.as_region().as_str()` is `"FR"`. It is proved that
-    /// comparisons and hashes of owned regions ignore case.
+    /// Borrows the region: `Region::new("FR")?.try_to_owned(alloc)?.as_region().as_str()` is `"FR"`.
     #[tactic(auto, using(langtag_scan::proofs::CaseOrder::bytes_ends_first))]
     pub fn as_region(&self) -> Region<'_>
         ensures same_text { region_text result ≡ region_buf_text self.now }

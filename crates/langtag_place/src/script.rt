@@ -87,8 +87,7 @@ impl<'a> Script<'a> {
     }
 
     /// Returns whether another string equals this string, ignoring the case of ASCII letters:
-    /// `Script::new("Latn")?.eq_str("LATN")` is `true`. It is proved that comparisons and hashes also ignore case, and
-    /// that a clone is the same value.
+    /// `Script::new("Latn")?.eq_str("LATN")` is `true`. Comparisons and hashes also ignore case.
     #[tactic(auto, using(langtag_scan::proofs::CaseOrder::bytes_ends_first, langtag_scan::proofs::CaseLaw::alike_script))]
     pub fn eq_str(&self, other: &str) -> bool
         ensures test { result ≡ are_alike (script_text self.now) other.now }
@@ -172,8 +171,7 @@ impl ScriptBuf {
         })
     }
 
-    /// Borrows the script: `Script::new("LATN")?.try_to_owned(alloc)?.as_script().as_str()` is `"LATN"`. It is proved
-    /// that comparisons and hashes of owned scripts ignore case.
+    /// Borrows the script: `Script::new("LATN")?.try_to_owned(alloc)?.as_script().as_str()` is `"LATN"`.
     #[tactic(auto, using(langtag_scan::proofs::CaseOrder::bytes_ends_first))]
     pub fn as_script(&self) -> Script<'_>
         ensures same_text { script_text result ≡ script_buf_text self.now }

@@ -92,8 +92,7 @@ impl<'a> Variant<'a> {
     }
 
     /// Returns whether another string equals this string, ignoring the case of ASCII letters:
-    /// `Variant::new("rozaj")?.eq_str("ROZAJ")` is `true`. It is proved that comparisons and hashes also ignore case,
-    /// and that a clone is the same value.
+    /// `Variant::new("rozaj")?.eq_str("ROZAJ")` is `true`. Comparisons and hashes also ignore case.
     #[tactic(auto, using(langtag_scan::proofs::CaseOrder::bytes_ends_first, langtag_scan::proofs::CaseLaw::alike_variant))]
     pub fn eq_str(&self, other: &str) -> bool
         ensures test { result ≡ are_alike (variant_text self.now) other.now }
@@ -178,8 +177,7 @@ impl VariantBuf {
         })
     }
 
-    /// Borrows the variant: `Variant::new("ROZAJ")?.try_to_owned(alloc)?.as_variant().as_str()` is `"ROZAJ"`. It is
-    /// proved that comparisons and hashes of owned variants ignore case.
+    /// Borrows the variant: `Variant::new("ROZAJ")?.try_to_owned(alloc)?.as_variant().as_str()` is `"ROZAJ"`.
     #[tactic(auto, using(langtag_scan::proofs::CaseOrder::bytes_ends_first))]
     pub fn as_variant(&self) -> Variant<'_>
         ensures same_text { variant_text result ≡ variant_buf_text self.now }

@@ -96,8 +96,7 @@ impl<'a> Variants<'a> {
     }
 
     /// Returns whether another string equals this string, ignoring the case of ASCII letters:
-    /// `Variants::new("rozaj")?.eq_str("ROZAJ")` is `true`. It is proved that comparisons and hashes also ignore case,
-    /// and that a clone is the same value.
+    /// `Variants::new("rozaj")?.eq_str("ROZAJ")` is `true`. Comparisons and hashes also ignore case.
     #[tactic(auto, using(langtag_scan::proofs::CaseOrder::bytes_ends_first, crate::proofs::Rules::alike_variants))]
     pub fn eq_str(&self, other: &str) -> bool
         ensures test { result ≡ are_alike (variants_text self.now) other.now }
@@ -240,8 +239,7 @@ impl VariantsBuf {
         })
     }
 
-    /// Borrows the variants: `Variants::new("ROZAJ")?.try_to_owned(alloc)?.as_variants().as_str()` is `"ROZAJ"`. It is
-    /// proved that comparisons and hashes of owned lists of variants ignore case.
+    /// Borrows the variants: `Variants::new("ROZAJ")?.try_to_owned(alloc)?.as_variants().as_str()` is `"ROZAJ"`.
     #[tactic(auto, using(langtag_scan::proofs::CaseOrder::bytes_ends_first))]
     pub fn as_variants(&self) -> Variants<'_>
         ensures same_text { variants_text result ≡ variants_buf_text self.now }

@@ -127,12 +127,14 @@ script_by a b c d m is = grind (arith, common_steps)
 pub modifier_script-fits : (modifier : List ℕ) → IfSome (modifier_script modifier) (λ s. IsTrue (is_script s))
 modifier_script-fits modifier = script_by _ _ _ (is_script_code modifier) modifier (λ yes. (and_parts (is_script modifier) _ yes).0)
 
-variant_by : (a b c : Bool) → IfSome (cond a (Some (codes "ijekavsk")) (cond b (Some (codes "tarask")) (cond c (Some (codes "valencia")) None))) (λ v. IsTrue (is_variant v))
+variant_by :
+    (a b c d : Bool) →
+    IfSome (cond a (Some (codes "ijekavsk")) (cond b (Some (codes "polyton")) (cond c (Some (codes "tarask")) (cond d (Some (codes "valencia")) None)))) (λ v. IsTrue (is_variant v))
 unfolding is_variant is_letter is_digit
-variant_by a b c = grind (arith, common_steps)
+variant_by a b c d = grind (arith, common_steps)
 
 pub modifier_variant-fits : (modifier : List ℕ) → IfSome (modifier_variant modifier) (λ v. IsTrue (is_variant v))
-modifier_variant-fits modifier = variant_by _ _ _
+modifier_variant-fits modifier = variant_by _ _ _ _
 
 behind-fits : (front : List ℕ) → IfSome (script_behind front) (λ s. IsTrue (is_script s))
 behind-fits front = grind arith

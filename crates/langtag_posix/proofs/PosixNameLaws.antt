@@ -1,11 +1,12 @@
 -- The text of a name, and that it is read as it stands: neither Android nor .NET writes a tag so.
-use Rattle.langtag_scan.proofs.Prelude.{◌≡◌, ℕ, ◌≤◌, not, true, false, Bool, cond, suc, List, [], ◌∷◌, ◌++◌, length, IfSome, refl, sym, ap, ◌∙◌, arith, flat_map, append_assoc, append-nil, unwrap_or, ◌<◌, ◌==◌, inl, inr, None, subst, ◌⊎◌, codes, length-append, AllByRecursion, after_first, before_first, list_any, and_parts, or_parts, false_from_ne_true, nat_tests, map-append, list_any-append, take_while-cons, option_map, ◌&&◌, Some}
+use Rattle.langtag_scan.proofs.Prelude.{◌≡◌, ℕ, ◌≤◌, not, true, false, Bool, cond, suc, List, [], ◌∷◌, ◌++◌, length, IfSome, refl, sym, ap, ◌∙◌, arith, flat_map, append_assoc, append-nil, unwrap_or, ◌<◌, ◌==◌, inl, inr, None, subst, ◌⊎◌, codes, length-append, AllByRecursion, after_first, before_first, list_any, and_parts, or_parts, false_from_ne_true, nat_tests, map-append, list_any-append, take_while-cons, option_map, ◌&&◌, Some, Option, Bor, is_some, common_steps}
+use Rattle.std.specs.Bool.{nat_le}
 use Rattle.langtag_scan.specs.Grammar.{Alike, fold_byte, are_alike, are_alphanumeric, is_alphanumeric, is_digit, is_letter, is_region, is_script, is_variant, Record, extension_flat, one_flat, private_part_flat, spell, join, is_hyphen, are_alike-decides}
 use Rattle.langtag_scan.proofs.Laws.{drop-join, hyphenated, hyphenated-append, join-hyphenated, alike_region, region_short, script_four, of_region, of_variant}
 use Rattle.langtag_range.specs.Wanted.{hyphened, hyphened_byte}
 use Rattle.langtag_cldr.specs.Definitions.{or_else}
-use Rattle.langtag_posix.specs.PlatformNames.{behind_nothing, is_short_language, language_or_und}
-use Rattle.langtag_posix.proofs.Definitions.{behind_gap, filled, platform_text, is_empty, is_script_code, after_variants, marked, is_plus, without_gap, marked_region, platform_behind, platform_read, read_place, region_now}
+use Rattle.langtag_posix.specs.PlatformNames.{android_region, behind_nothing, has_marked_region, is_short_language, language_or_und}
+use Rattle.langtag_posix.proofs.Definitions.{behind_gap, filled, is_of_language, nynorsk, platform_text, is_empty, is_script_code, after_variants, marked, is_plus, without_gap, marked_region, platform_behind, platform_read, read_place, region_now}
 use Rattle.langtag_text.proofs.Alike.{alike_is, alike_length}
 
 -- ---- marks
@@ -105,6 +106,22 @@ marked_some text some = grind (arith, nat_tests)
 pub region_now_marked : (language region : List ℕ) → is_region region ≡ true → marked 45 (region_now language region) ≡ 45 ∷ region_now language region
 region_now_marked language region is = marked_some (region_now language region) (grind (arith, of_region))
 
+-- ---- a region with Android's mark
+
+pub some_region : (o : Option (Bor (List ℕ))) (p : Option (List ℕ)) → option_map (λ region. region.now) o ≡ p → is_some o ≡ is_some p
+some_region None p is = ap is_some is
+some_region (Some region) p is = ap is_some is
+
+pub marked_by :
+    (text language behind region : List ℕ) (short found : Bool) → language ≡ before_first is_hyphen text → behind ≡ after_first is_hyphen text → region ≡ before_first is_hyphen behind →
+    short ≡ is_short_language language → short ≡ true → found ≡ is_some (android_region language region) → found ≡ has_marked_region text
+marked_by text language behind region short found language_is behind_is region_is short_is is_short found_is =
+    found_is
+    ∙ ap (λ s. s && is_some (android_region language region)) (sym is_short ∙ short_is)
+    ∙ ap (λ r. is_short_language language && is_some (android_region language r)) region_is
+    ∙ ap (λ b. is_short_language language && is_some (android_region language (before_first is_hyphen b))) behind_is
+    ∙ ap (λ l. is_short_language l && is_some (android_region l (before_first is_hyphen (after_first is_hyphen text)))) language_is
+
 -- ---- the text behind a language
 
 -- it is none of .NET's and Android's forms
@@ -131,6 +148,10 @@ no_code_in_nothing = refl
 no_regions : (is_region (codes "CHS") ≡ false) × (is_region (codes "CHT") ≡ false)
 unfolding is_region is_digit
 no_regions = (refl, refl)
+
+no_nynorsk_region : is_region (codes "NO-NY") ≡ false
+unfolding is_region is_digit
+no_nynorsk_region = refl
 
 other_than : (text region : List ℕ) → is_region text ≡ false → is_region region ≡ true → are_alike text region ≡ false
 other_than text region other is = grind (arith, alike_is, are_alike-decides, alike_region)
@@ -215,6 +236,38 @@ ends_first [] [] = refl
 ends_first [] (x ∷ c) = refl
 ends_first (x ∷ b) c = refl
 
+-- the text behind the language is not that of no_NO_NY
+not_nynorsk :
+    (b c : List ℕ) → (b ≡ []) ⊎ (is_region b ≡ true) → (c ≡ []) ⊎ (c ≡ codes "POSIX") →
+    are_alike (codes "NO-NY") (after_first is_hyphen (marked 45 b ++ (marked 45 c ++ []))) ≡ false
+unfolding fold_byte
+not_nynorsk b c (inl none) (inl plain) = rw (none, plain) refl
+not_nynorsk b c (inl none) (inr posix) = rw (none, posix) refl
+not_nynorsk b c (inr is) (inl plain) =
+    rw (plain, marked_some b (of_region b is).some) (subst (λ t. are_alike (codes "NO-NY") t ≡ false) (sym (append-nil b)) (other_than (codes "NO-NY") b no_nynorsk_region is))
+not_nynorsk b c (inr is) (inr posix) =
+    let text = b ++ 45 ∷ codes "POSIX" in
+    rw (posix, marked_some b (of_region b is).some)
+    (false_from_ne_true (are_alike (codes "NO-NY") text) (λ same. omega (arith, alike_length (codes "NO-NY") text same, length-append b (45 ∷ codes "POSIX"))))
+
+none_and : (test : Bool) → cond (test && false) (Some (codes "nn-NO")) None ≡ None
+none_and true = refl
+none_and false = refl
+
+of_three : (few short sgn : Bool) (o : Option (List ℕ)) → few ≡ true → o ≡ None → (few && not (short && is_some (cond sgn None o))) ≡ true
+of_three few short sgn o is_few none = grind (arith, common_steps)
+
+-- the subtag behind the language has not Android's mark
+second_unmarked :
+    (b c : List ℕ) → (b ≡ []) ⊎ (is_region b ≡ true) → (c ≡ []) ⊎ (c ≡ codes "POSIX") →
+    marked_region (before_first is_hyphen (after_first is_hyphen (marked 45 b ++ (marked 45 c ++ [])))) ≡ None
+second_unmarked b c (inl none) (inl plain) = rw (none, plain) refl
+second_unmarked b c (inl none) (inr posix) = rw (none, posix) refl
+second_unmarked b c (inr is) variant =
+    let free = free_of is_hyphen (no_mark 45 (omega arith)) b (of_region b is).alphanumeric in
+    let first : before_first is_hyphen (b ++ (marked 45 c ++ [])) ≡ b = before_rest is_hyphen b (marked 45 c ++ []) free ∙ ap (λ t. b ++ t) (ends_first [] c) ∙ append-nil b in
+    rw (marked_some b (of_region b is).some) (ap marked_region first ∙ region_unmarked b is)
+
 same_both : {X : Type 0} (test : Bool) (x : X) → cond test x x ≡ x
 same_both true x = refl
 same_both false x = refl
@@ -236,6 +289,13 @@ module _ (a b c : List ℕ) (first : are_alphanumeric a ≡ true) (second : are_
   free : list_any is_hyphen a ≡ false
   free = free_of is_hyphen (no_mark 45 (omega arith)) a first
 
+  before : before_first is_hyphen text ≡ a
+  before = before_rest is_hyphen a rest free ∙ ap (λ t. a ++ t) (ends_first b c) ∙ append-nil a
+
+  no_nynorsk : nynorsk a behind ≡ None
+  no_nynorsk =
+      ap (λ test. cond (are_alike (codes "no") a && test) (Some (codes "nn-NO")) None) (not_nynorsk b c is.territory is.variant) ∙ none_and (are_alike (codes "no") a)
+
   no_platform : platform_text a behind ≡ None
   no_platform =
       ap (λ o. cond (is_short_language a) (option_map (λ text. a ++ 45 ∷ text) o) None) (ordinary a behind (behind_is b c is.territory is.variant)) ∙ same_both (is_short_language a) None
@@ -247,10 +307,18 @@ module _ (a b c : List ℕ) (first : are_alphanumeric a ≡ true) (second : are_
 
   kept : platform_read text ≡ text
   kept =
-      ap (λ l. unwrap_or (or_else (platform_text l (after_first is_hyphen text)) (filled l (after_first is_hyphen text))) text)
-      (before_rest is_hyphen a rest free ∙ ap (λ t. a ++ t) (ends_first b c) ∙ append-nil a)
-      ∙ ap (λ t. unwrap_or (or_else (platform_text a t) (filled a t)) text) (after_rest is_hyphen a rest free)
+      ap (λ l. unwrap_or (or_else (nynorsk l (after_first is_hyphen text)) (or_else (platform_text l (after_first is_hyphen text)) (filled l (after_first is_hyphen text)))) text) before
+      ∙ ap (λ t. unwrap_or (or_else (nynorsk a t) (or_else (platform_text a t) (filled a t))) text) (after_rest is_hyphen a rest free)
+      ∙ ap (λ o. unwrap_or (or_else o (or_else (platform_text a behind) (filled a behind))) text) no_nynorsk
       ∙ ap (λ o. unwrap_or (or_else o (filled a behind)) text) no_platform ∙ ap (λ o. unwrap_or o text) no_field
+
+  -- the language has at most three letters, and the region has no mark
+  place_of_language : length a ≤ 3 → is_of_language text ≡ true
+  place_of_language few =
+      ap (λ l. nat_le (length l) 3 && not (is_short_language l && is_some (android_region l (before_first is_hyphen (after_first is_hyphen text))))) before
+      ∙ ap (λ t. nat_le (length a) 3 && not (is_short_language a && is_some (android_region a (before_first is_hyphen t)))) (after_rest is_hyphen a rest free)
+      ∙ of_three (nat_le (length a) 3) (is_short_language a) (are_alike (codes "sgn") a) (marked_region (before_first is_hyphen behind)) (grind (arith, nat_tests))
+      (second_unmarked b c is.territory is.variant)
 
   unplussed : are_alike (codes "b") (before_first is_plus (place_text a b c)) ≡ false
   unplussed =
@@ -263,3 +331,6 @@ module _ (a b c : List ℕ) (first : are_alphanumeric a ≡ true) (second : are_
   pub place_kept : read_place (place_text a b c) ≡ hyphened (place_text a b c)
   unfolding read_place
   place_kept = rw (unplussed, place_hyphened a b c first second third) kept
+
+  pub read_of_language : length a ≤ 3 → is_of_language (read_place (place_text a b c)) ≡ true
+  read_of_language few = ap is_of_language (place_kept ∙ place_hyphened a b c first second third) ∙ place_of_language few

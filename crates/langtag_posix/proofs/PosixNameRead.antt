@@ -1,19 +1,18 @@
 -- `from_posix` reads the name of a tag as the tag.
-use Rattle.langtag_scan.proofs.Prelude.{◌≡◌, ℕ, ◌+◌, ◌≤◌, not, true, false, Bool, cond, List, [], ◌∷◌, ◌++◌, length, Option, None, Some, IfSome, IsTrue, IsAscii, IsUtf8, ◌<◌, refl, sym, ap, subst, inl, inr, ◌∙◌, ◌⊎◌, arith, codes, find, flat_map, append_assoc, append-nil, length-append, option_map, unwrap_or, Bor, ◌&&◌, ◌||◌, take, leb, AllByRecursion, after_first, before_first, list_all, list_any, option_and_then, and_parts, false_from_ne_true, leb-true, or_right, common_steps, nat_tests, list_any-append, IsAscii-append, IsUtf8-from_ascii, IsAscii-cons, IsAscii-nil, lowercase-uppercase}
-use Rattle.langtag_scan.specs.Grammar.{Alike, are_alike, fold_byte, fold_text, are_alike-decides, are_alphanumeric, are_letters, is_alphanumeric, is_digit, is_letter, is_region, is_script, is_variant, language_part, variants_part, Extension, IsWellFormed, Record, extension_flat, one_flat, spell, is_hyphen, join, IsNormal, IsTag}
-use Rattle.langtag_scan.proofs.Laws.{alike_primary, alike_region, fold_text-twice, hyphen-fold, length-fold, extended_three, region_short, hyphenated, length-join, IsAscii-each, alphanumeric_below, normal_or_not, letters_alphanumeric, of_primary, of_region, of_script, of_variant}
+use Rattle.langtag_scan.proofs.Prelude.{◌≡◌, ℕ, ◌+◌, ◌≤◌, not, true, false, Bool, cond, List, [], ◌∷◌, ◌++◌, length, Option, None, Some, IfSome, IsTrue, IsAscii, IsUtf8, ◌<◌, refl, sym, ap, subst, inl, inr, ◌∙◌, ◌⊎◌, arith, codes, find, flat_map, append_assoc, append-nil, length-append, option_map, unwrap_or, Bor, ◌&&◌, ◌||◌, take, leb, AllByRecursion, after_first, before_first, list_all, option_and_then, and_parts, leb-true, common_steps, nat_tests, IsAscii-append, IsUtf8-from_ascii, IsAscii-cons, IsAscii-nil, lowercase-uppercase}
+use Rattle.langtag_scan.specs.Grammar.{Alike, are_alike, fold_byte, fold_text, are_alike-decides, are_alphanumeric, are_letters, is_alphanumeric, is_digit, is_letter, is_region, is_script, is_variant, language_part, variants_part, Extension, IsWellFormed, Record, extension_flat, one_flat, spell, join, IsNormal, IsTag}
+use Rattle.langtag_scan.proofs.Laws.{alike_primary, alike_region, fold_text-twice, length-fold, extended_three, region_short, hyphenated, length-join, IsAscii-each, alphanumeric_below, normal_or_not, letters_alphanumeric, of_primary, of_region, of_script, of_variant}
 use Rattle.langtag_text.specs.RecommendedCase.{capital_text}
 use Rattle.langtag_text.specs.Fields.{Fields}
 use Rattle.langtag.specs.Definitions.{with_script}
-use Rattle.langtag_text.proofs.Alike.{alike_is, alike_length}
+use Rattle.langtag_text.proofs.Alike.{alike_is}
 use Rattle.langtag_range.specs.Definitions.{ends_locale, front_of, is_hash, locale_place, place_before, without_mark, hyphened}
-use Rattle.langtag_range.proofs.AlikeTexts.{list_any-fold}
 use Rattle.langtag_cldr.specs.Definitions.{language_alone, or_else, without_script}
 use Rattle.langtag_likely.proofs.Definitions.{fields_of}
-use Rattle.langtag_posix.proofs.Definitions.{is_empty, modifier_for, modifier_script, modifier_variant, modifiers, names, IsTagOfName, NamesTag, are_keywords, keywords_text, extensions_behind, is_java_place, place_of, place_read, text_of_name, without_java_field, is_at, is_underscore, modifier_of, posix_extension, posix_replaced, said_script, script_behind, with_said, with_said_script, with_said_variant, IsPosixName, IsReadBack, NameParts, ReadsBack, after_variants, is_likely, is_named, marked, name_modifier, name_parts, name_variant, read_place}
+use Rattle.langtag_posix.proofs.Definitions.{is_empty, modifier_for, modifier_script, modifier_variant, modifiers, names, IsTagOfName, NamesTag, are_keywords, keywords_text, extensions_behind, is_java_place, place_of, place_read, text_of_name, without_java_field, is_at, is_underscore, modifier_of, posix_extension, posix_replaced, said_script, script_behind, with_said, with_said_script, with_said_variant, IsPosixName, IsReadBack, NameParts, ReadsBack, after_variants, is_likely, is_named, is_of_language, marked, name_modifier, name_parts, name_variant, read_place}
 use Rattle.langtag_posix.specs.KeywordNames.{key_named, key_names, keyword_texts, type_named, type_names}
 use Rattle.langtag_posix.specs.ToPosix.{name_text}
-use Rattle.langtag_posix.proofs.PosixNameLaws.{no_mark, place_kept, IsPlain, after_others, after_rest, alike_text, before_rest, marked_cut, others, place_free, place_hyphened, place_text, spelled_text, tag_text}
+use Rattle.langtag_posix.proofs.PosixNameLaws.{no_mark, place_kept, read_of_language, IsPlain, after_others, after_rest, alike_text, before_rest, marked_cut, others, place_free, place_hyphened, place_text, spelled_text, tag_text}
 use Rattle.langtag_cldr.proofs.AddedTwice.{some_value}
 use Rattle.langtag_posix.proofs.PosixLaws.{said_well_formed, others_stay}
 use Rattle.langtag_text.proofs.Letters.{primary_length}
@@ -169,23 +168,8 @@ plain_of r fits none = grind (arith, common_steps, of_script, of_region, variant
 join-one : (o : Option (List ℕ)) → join (one_flat o) ≡ unwrap_or o []
 join-one o = grind (arith, common_steps)
 
--- ---- the place is not `POSIX`
-
-hyphen_in : (text rest : List ℕ) → list_any is_hyphen (text ++ 45 ∷ rest) ≡ true
-hyphen_in text rest = list_any-append is_hyphen text (45 ∷ rest) ∙ or_right (list_any is_hyphen text) true refl
-
-with_hyphen : (text : List ℕ) → list_any is_hyphen text ≡ true → are_alike text (codes "POSIX") ≡ true → ⊥
-with_hyphen text hyphen same =
-    let folded : list_any is_hyphen (codes "POSIX") ≡ true =
-    sym (list_any-fold is_hyphen hyphen-fold (codes "POSIX")) ∙ ap (list_any is_hyphen) (sym (alike_is text (codes "POSIX") same)) ∙ list_any-fold is_hyphen hyphen-fold text ∙ hyphen in
-    absurd cc
-
-not_posix : (a b c : List ℕ) → length a ≤ 3 → are_alike (tag_text a [] b c []) (codes "POSIX") ≡ false
-not_posix a [] [] few =
-    false_from_ne_true (are_alike (a ++ []) (codes "POSIX")) (λ same.
-    let five = alike_length (a ++ []) (codes "POSIX") same in omega (arith, five, few, length-append a []))
-not_posix a [] (x ∷ c) few = false_from_ne_true (are_alike (tag_text a [] [] (x ∷ c) []) (codes "POSIX")) (with_hyphen (tag_text a [] [] (x ∷ c) []) (hyphen_in a _))
-not_posix a (x ∷ b) c few = false_from_ne_true (are_alike (tag_text a [] (x ∷ b) c []) (codes "POSIX")) (with_hyphen (tag_text a [] (x ∷ b) c []) (hyphen_in a _))
+join-listed : (v : List ℕ) → join (listed v) ≡ v
+join-listed v = grind (arith, common_steps)
 
 -- ---- a name is cut in its parts
 
@@ -333,7 +317,11 @@ module _ (r : Record) (fits : IsWellFormed r) (short : IsShort r) (v m s : List 
   plain_place = plain_of (place_record r v) fits_place refl
 
   spelled_place : spell (place_record r v) ≡ hyphened place
-  spelled_place = grind (arith, common_steps, nat_tests, spelled_text, plain_place, tag_text, unwrap-capital, place_hyphened, letters_first, letters_second)
+  spelled_place =
+      spelled_text (place_record r v) plain_place
+      ∙ ap (λ t. tag_text (fold_text r.primary) [] t (join (listed v)) []) (unwrap-capital r.region)
+      ∙ ap (λ t. tag_text (fold_text r.primary) [] region t []) (join-listed v)
+      ∙ sym (place_hyphened (fold_text r.primary) region v letters_first letters_second variant.alphanumeric)
 
   read_kept : read_place place ≡ hyphened place
   read_kept = grind (arith, common_steps, nat_tests, place_kept, letters_first, letters_second, primary_length, fits_place, unwrap-capital)
@@ -344,17 +332,21 @@ module _ (r : Record) (fits : IsWellFormed r) (short : IsShort r) (v m s : List 
   alone : IsPlaceAlone place name
   alone = place_alone place m name cut said.no_keywords
 
-  place_tag : IsTag (read_place place) × (are_alike (read_place place) (codes "POSIX") ≡ false) × (length place ≤ 255) × (length (read_place place) ≤ 260)
+  of_language : is_of_language (read_place place) ≡ true
+  of_language =
+      grind (arith, common_steps, nat_tests, read_of_language, letters_first, letters_second, primary_length, fits_place, unwrap-capital, length-fold, short)
+
+  place_tag : IsTag (read_place place) × (is_of_language (read_place place) ≡ true) × (length place ≤ 255) × (length (read_place place) ≤ 260)
   unfolding IsTag IsNormal
   place_tag =
-      grind (arith, nat_tests, common_steps, fits_place, spelled_read, read_kept, place_hyphened, letters_first, letters_second, not_posix, length-fold, region_short, unwrap-capital, length-append, marked_few)
+      grind (arith, nat_tests, common_steps, fits_place, spelled_read, read_kept, place_hyphened, letters_first, letters_second, of_language, length-fold, region_short, unwrap-capital, length-append, marked_few)
 
   names_tag : NamesTag name
   names_tag =
-      let (tag, other, short, few) = place_tag in
+      let (tag, of_language, short, few) = place_tag in
       record {
         tag = subst IsTag (sym alone.text) tag;
-        other = ap (λ t. are_alike t (codes "POSIX")) alone.place_read ∙ other;
+        language = ap is_of_language alone.place_read ∙ of_language;
         follows = rw (alone.extensions, cut.modifier, said.no_keywords) refl;
         short = omega (arith, ap length alone.place_of, short);
         few = omega (arith, ap length alone.text, few);

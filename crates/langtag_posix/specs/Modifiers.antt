@@ -21,6 +21,7 @@ modifier_script modifier =
 abbrev pub modifier_variant : List ℕ → Option (List ℕ)
 modifier_variant modifier =
     if are_alike (codes "ijekavian") modifier || are_alike (codes "ijekavianlatin") modifier then Some (codes "ijekavsk")
+    else if are_alike (codes "polyton") modifier then Some (codes "polyton")
     else if are_alike (codes "tarask") modifier then Some (codes "tarask")
     else if are_alike (codes "valencia") modifier then Some (codes "valencia")
     else None
@@ -46,7 +47,7 @@ is_known modifier = is_empty modifier || (is_some (modifier_script modifier) || 
 -- the modifiers that are written, in the order in which they are tried; the empty text means that there is no modifier
 abbrev pub modifiers : List (List ℕ)
 modifiers =
-    [] ∷ codes "latin" ∷ codes "cyrillic" ∷ codes "devanagari" ∷ codes "ijekavian" ∷ codes "ijekavianlatin" ∷ codes "tarask" ∷ codes "valencia" ∷ []
+    [] ∷ codes "latin" ∷ codes "cyrillic" ∷ codes "devanagari" ∷ codes "ijekavian" ∷ codes "ijekavianlatin" ∷ codes "polyton" ∷ codes "tarask" ∷ codes "valencia" ∷ []
 
 -- whether a modifier names this script and these variants, ignoring case; the empty text means no script or no variants
 abbrev pub names : List ℕ → List ℕ → List ℕ → Bool

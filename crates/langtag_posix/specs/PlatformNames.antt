@@ -1,6 +1,6 @@
 -- The language and the territory of a locale name, as Android's resource folders and old versions of .NET write them, or as
 -- Java and ICU do if a field is empty.
-use Rattle.std.specs.Prelude.{ℕ, ◌==◌, ◌&&◌, ◌||◌, Bool, not, List, [], ◌∷◌, ◌++◌, Option, None, Some, codes, length, map, nat_le, option_map, unwrap_or, if◌then◌else◌}
+use Rattle.std.specs.Prelude.{ℕ, ◌==◌, ◌&&◌, ◌||◌, Bool, not, List, [], ◌∷◌, ◌++◌, Option, None, Some, codes, is_some, length, map, nat_le, option_map, unwrap_or, if◌then◌else◌}
 use Rattle.langtag_scan.specs.Prelude.{after_first, before_first}
 use Rattle.langtag_scan.specs.Grammar.{are_alike, is_primary, is_region, is_script, is_variant, is_hyphen}
 use Rattle.langtag_range.specs.Definitions.{hyphened}
@@ -17,9 +17,10 @@ marked mark (b ∷ text) = mark ∷ (b ∷ text)
 abbrev pub is_plus : ℕ → Bool
 is_plus b = b == 43
 
--- whether a name begins with `b+`, in either case; the name `b` is not a tag either way
+-- whether a name begins with `b+`, in either case, and has no hyphen, before which the name of a folder would end; the
+-- name `b` is not a tag either way
 abbrev pub is_plus_name : List ℕ → Bool
-is_plus_name place = are_alike (codes "b") (before_first is_plus place)
+is_plus_name place = are_alike (codes "b") (before_first is_plus place) && is_empty (after_first is_hyphen place)
 
 -- the text with each byte `mark` read as a hyphen
 abbrev pub hyphened_at : ℕ → List ℕ → List ℕ
@@ -52,7 +53,11 @@ region_now language region = if are_alike (codes "sr") language && are_alike (co
 abbrev pub script_first : List ℕ → List ℕ → List ℕ → Option (List ℕ)
 script_first language region script = if is_region region && is_script_code script then Some (script ++ 45 ∷ region_now language region) else None
 
--- ---- Java and ICU: _US, en__POSIX and zh_Hant__PINYIN, in which an empty field keeps its mark
+-- ---- Java and ICU: no_NO_NY; and _US, en__POSIX and zh_Hant__PINYIN, in which an empty field keeps its mark
+
+-- Norwegian Nynorsk, which Java names by this variant
+abbrev pub nynorsk : List ℕ → List ℕ → Option (List ℕ)
+nynorsk language behind = if are_alike (codes "no") language && are_alike (codes "NO-NY") behind then Some (codes "nn-NO") else None
 
 -- the variants behind an empty field
 abbrev pub behind_gap : List ℕ → Option (List ℕ)
@@ -96,9 +101,22 @@ platform_text language behind = if is_short_language language then option_map (�
 abbrev pub platform_read : List ℕ → List ℕ
 platform_read text =
     unwrap_or
-    (or_else (platform_text (before_first is_hyphen text) (after_first is_hyphen text)) (filled (before_first is_hyphen text) (after_first is_hyphen text)))
+    (or_else (nynorsk (before_first is_hyphen text) (after_first is_hyphen text))
+    (or_else (platform_text (before_first is_hyphen text) (after_first is_hyphen text)) (filled (before_first is_hyphen text) (after_first is_hyphen text))))
     text
 
 -- the text that the language and the territory of a name are read as
 unfoldable pub read_place : List ℕ → List ℕ
 read_place place = if is_plus_name place then hyphened_at 43 (after_first is_plus place) else platform_read (hyphened place)
+
+-- ---- what is no name of a language
+
+-- whether a region keeps Android's mark, because other qualifiers of a folder come after it: en-rGB-ldrtl
+abbrev pub has_marked_region : List ℕ → Bool
+has_marked_region text =
+    is_short_language (before_first is_hyphen text) && is_some (android_region (before_first is_hyphen text) (before_first is_hyphen (after_first is_hyphen text)))
+
+-- whether a text has a language of at most three letters, or none, and no region with Android's mark. The registry has no
+-- longer languages, but names such as `POSIX`, `english` and `night` have their form
+abbrev pub is_of_language : List ℕ → Bool
+is_of_language text = nat_le (length (before_first is_hyphen text)) 3 && not (has_marked_region text)

@@ -10,7 +10,7 @@ use Rattle.langtag_posix.specs.KeywordNames.{are_keywords, keywords_text}
 use Rattle.langtag_posix.specs.Modifiers.{is_empty, modifier_script, modifier_variant}
 use Rattle.langtag_posix.specs.declared.posix_error.PosixError.{PosixError}
 use Rattle.langtag_posix.specs.declared.posix_error.PosixError.TheVariants.{NoTag, Memory}
-use Rattle.langtag_posix.specs.PlatformNames.{marked, read_place}
+use Rattle.langtag_posix.specs.PlatformNames.{is_of_language, marked, read_place}
 
 -- ---- the parts of a name
 
@@ -118,11 +118,11 @@ with_said_variant (Some variant) r = with_variants r (variant ∷ [])
 abbrev pub with_said : List ℕ → Record → Record
 with_said name r = with_said_variant (modifier_variant (modifier_of name)) (with_said_script (said_script name) (posix_replaced r))
 
--- a name has a tag: its language and territory, which are not `POSIX`, and its extensions are read as a tag and are not too
--- long. `C` and the empty text are not tags
+-- a name has a tag: its language and territory, with a language of at most three letters, and its extensions are read as
+-- a tag and are not too long. `C` and the empty text are not tags
 pub record NamesTag (name : List ℕ) : Type 0 where
   pub tag : IsTag (text_of_name name)
-  pub other : are_alike (place_read name) (codes "POSIX") ≡ false
+  pub language : is_of_language (place_read name) ≡ true
   pub follows : may_follow (place_read name) (extensions_behind (front_of name)) (are_keywords (modifier_of name)) ≡ true
   pub short : length (place_of name) ≤ 255
   pub few : length (text_of_name name) ≤ 260

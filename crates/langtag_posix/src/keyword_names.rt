@@ -1,4 +1,7 @@
 //! The keywords of a locale name, as ICU and Apple's systems write them after `@`: `calendar=buddhist;currency=THB`.
+//! Only keywords of the extension `u` are read. Time zones by their long names, attributes, other extensions and
+//! private use are left to `unknown_modifier`, because few names have them. ICU reads `@calendar=roc` as
+//! `und-u-ca-roc`, and here it is refused.
 ghost use Rattle.std.specs.Prelude.{◌≡◌, map};
 ghost use Rattle.langtag_text.specs.Output.{Appends};
 ghost use Rattle.langtag_keyword.specs.Edit.{is_type};

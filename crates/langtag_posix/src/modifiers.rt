@@ -1,4 +1,5 @@
-//! What the modifiers of locale names mean.
+//! What the modifiers of locale names mean. A modifier of four letters is the code of a script only if CLDR's likely
+//! subtags have it, because `euro` is no script.
 ghost use Rattle.std.specs.Prelude.{◌≡◌, ◌||◌, IsTrue, MatchOption, None, Some, codes, false, if◌then◌else◌, option_map};
 ghost use Rattle.langtag_scan.specs.Grammar.{list_any, are_alike, is_script};
 ghost use Rattle.langtag.specs.Definitions.{script_text};
@@ -111,6 +112,9 @@ pub(crate) fn modifier_variant(modifier: &[u8]) -> Option<&'static str>
     {
         return Some("ijekavsk");
     }
+    if case_insensitive_eq(b"polyton", modifier) {
+        return Some("polyton");
+    }
     if case_insensitive_eq(b"tarask", modifier) {
         return Some("tarask");
     }
@@ -137,13 +141,14 @@ fn says_nothing(modifier: &[u8]) -> bool
 }
 
 /// The modifiers that are written, in the order in which they are tried. The empty string means that there is none.
-const MODIFIERS: [&str; 8] = [
+const MODIFIERS: [&str; 9] = [
     "",
     "latin",
     "cyrillic",
     "devanagari",
     "ijekavian",
     "ijekavianlatin",
+    "polyton",
     "tarask",
     "valencia",
 ];

@@ -1,8 +1,11 @@
-//! The language and the territory of a locale name, as Android and .NET write them, or with an empty field.
-ghost use Rattle.std.specs.Prelude.{◌≡◌, ◌+◌, ◌≤◌, ◌∷◌, ◌++◌, IfSome, length, option_map};
+//! The language and the territory of a locale name, as Android and .NET write them, or with an empty field. The same
+//! call reads all of them, because a program seldom knows where a name comes from. Qualifiers of Android's folders behind
+//! a region are refused, and not dropped: `ldrtl` has the form of a variant, and `land` that of a script. Languages of
+//! more than three letters are refused, because the registry has none, and names such as `german` have their form.
+ghost use Rattle.std.specs.Prelude.{◌≡◌, ◌+◌, ◌≤◌, ◌∷◌, ◌++◌, IfSome, is_some, length, option_map};
 ghost use Rattle.langtag_scan.specs.Prelude.{before_first};
 ghost use Rattle.langtag_scan.specs.Grammar.{is_hyphen, is_variant};
-ghost use Rattle.langtag_posix.specs.PlatformNames.{hyphened_at, android_region, behind_gap, chinese_script, filled, is_short_language, language_or_und, marked, platform_behind, platform_read, platform_text, read_place, region_now, without_gap};
+ghost use Rattle.langtag_posix.specs.PlatformNames.{hyphened_at, android_region, behind_gap, chinese_script, filled, has_marked_region, is_of_language, is_short_language, language_or_und, marked, nynorsk, platform_behind, platform_read, platform_text, read_place, region_now, without_gap};
 
 use crate::modifiers::is_script_code;
 use langtag_range::split_at_byte;
@@ -28,7 +31,8 @@ pub(crate) fn read_place<'a>(
     ensures few { length result.now ≤ 260 }
 {
     let (front, tag) = split_at_byte(place, b'+');
-    if case_insensitive_eq(b"b", front) {
+    let (_, qualifiers) = split_at_byte(place, b'-');
+    if case_insensitive_eq(b"b", front) && qualifiers.is_empty() {
         return hyphenated(tag, b'+', room);
     }
     platform_read(hyphenated(place, b'_', room), short)
@@ -63,6 +67,9 @@ fn platform_read<'a>(text: &'a [u8], short: &'a mut [u8; MOST_READ]) -> &'a [u8]
     ensures few { length result.now ≤ 260 }
 {
     let (language, behind) = split_at_byte(text, b'-');
+    if let Some(tag) = nynorsk(language, behind) {
+        return tag;
+    }
     if let Some((first, second)) = platform_text(language, behind) {
         return written(language, first, second, short);
     }
@@ -170,6 +177,18 @@ fn region_now<'a>(language: &[u8], region: &'a [u8]) -> &'a [u8]
     region
 }
 
+/// Returns the tag that Java names `no_NO_NY`.
+fn nynorsk(language: &[u8], behind: &[u8]) -> Option<&'static [u8]>
+    ensures tag { option_map (λ tag. tag.now) result ≡ nynorsk language.now behind.now }
+    ensures few { IfSome result (λ tag. length tag.now ≤ 5) }
+{
+    if case_insensitive_eq(b"no", language) && case_insensitive_eq(b"NO-NY", behind) {
+        Some(b"nn-NO")
+    } else {
+        None
+    }
+}
+
 /// Returns the string behind a language in a name with an empty field, in one or two parts: `POSIX` for `-POSIX`, and `Hant`
 /// and `PINYIN` for `Hant--PINYIN`. If the language is empty, any string behind it is returned.
 fn filled_behind<'a>(language: &[u8], behind: &'a [u8]) -> Option<(&'a [u8], &'a [u8])>
@@ -232,4 +251,28 @@ fn language_or_und(language: &[u8]) -> &[u8]
     } else {
         language
     }
+}
+
+/// Returns whether a string has a language of at most three letters, or none, and no region with Android's mark.
+pub(crate) fn is_of_language(text: &[u8]) -> bool
+    ensures { result ≡ is_of_language text.now }
+{
+    let (language, _) = split_at_byte(text, b'-');
+    language.len() <= 3 && !has_marked_region(text)
+}
+
+/// Returns whether a region keeps Android's mark, because other qualifiers of a folder come after it.
+fn has_marked_region(text: &[u8]) -> bool
+    ensures { result ≡ has_marked_region text.now }
+{
+    let (language, behind) = split_at_byte(text, b'-');
+    let (region, _) = split_at_byte(behind, b'-');
+    is_short_language(language) && is_marked(language, region)
+}
+
+#[tactic(auto, using(crate::proofs::PosixNameLaws::some_region))]
+fn is_marked(language: &[u8], region: &[u8]) -> bool
+    ensures { result ≡ is_some (android_region language.now region.now) }
+{
+    android_region(language, region).is_some()
 }

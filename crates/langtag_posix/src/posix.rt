@@ -1,4 +1,6 @@
-//! The tag for a POSIX locale name.
+//! The tag for a POSIX locale name. A field of a name that is no variant is refused, while ICU puts it into private use
+//! or drops it. Extensions and keywords are never lost in silence: if they cannot become extensions of the tag, the
+//! name is refused, or `unknown_modifier` returns the whole modifier, because callers get a single slice of the name.
 ghost use Rattle.std.specs.Prelude.{◌≡◌, ◌+◌, ◌≤◌, ℕ, IsTrue, List, None, Some, IfOk, IfErr, IfSome, MatchOption, length, option_map};
 ghost use Rattle.langtag_scan.specs.Grammar.{is_variant};
 ghost use Rattle.langtag.specs.Definitions.{SetsPart, SetsVariants, IsVariants, script_text, lang_tag_text, lang_tag_buf_text, Writes, IsForm};
@@ -24,7 +26,7 @@ const MOST_WITH_SCRIPT: usize = MOST_WITH_KEYWORD + 5;
 /// The codeset is dropped. These modifiers name a script or a variant, ignoring case:
 ///
 /// - `latin`, `cyrillic`, `devanagari`, `iqtelif`, and the code of a script, such as `Cyrl` and `shaw`;
-/// - `valencia`, `tarask`, `ijekavian`, and `ijekavianlatin`, which names both a script and a variant.
+/// - `valencia`, `tarask`, `polyton`, `ijekavian`, and `ijekavianlatin`, which names both a script and a variant.
 ///
 /// A modifier may also consist of keywords, `key=type` with semicolons between them, as ICU and Apple's systems write
 /// them: `en-US-u-ca-buddhist` for `en_US@calendar=buddhist`. Their keys and types have ICU's names, such as `collation`
@@ -38,6 +40,7 @@ const MOST_WITH_SCRIPT: usize = MOST_WITH_KEYWORD + 5;
 /// - a script and extensions after `_#`, as Java and Android print them: `zh-Hant-TW` for `zh_TW_#Hant`, and
 ///   `de-DE-u-co-phonebk` for `de_DE_#u-co-phonebk`;
 /// - an empty language or region, as in Java and ICU: `und-US` for `_US`, and `en-u-va-posix` for `en__POSIX`;
+/// - Java's `no_NO_NY`, which becomes `nn-NO`;
 /// - a region after `r`, or subtags after `b+`, as in Android's resource folders: `zh-TW` for `zh-rTW`, and `sr-Latn` for
 ///   `b+sr+Latn`;
 /// - a script after the region, as in .NET Framework: `az-Latn-AZ` for `az-AZ-Latn`, and `sr-Latn-RS` for `sr-SP-Latn`,
@@ -52,9 +55,11 @@ const MOST_WITH_SCRIPT: usize = MOST_WITH_KEYWORD + 5;
 /// # Errors
 ///
 /// Returns `NoTag` with the name if its language and territory are not a tag, as in `C`, `en_` and the empty string.
-/// `NoTag` is also returned for `POSIX`, ignoring case, if extensions or keywords come after an extension or private
-/// use, and if other text than a script and extensions comes after `#`. A language and territory of more than 255 bytes
-/// have no tag, and no tag is made if they have more than 260 bytes with extensions and keywords.
+/// `NoTag` is also returned for a language of more than three letters, such as `POSIX`, `german` and `night`, and if other
+/// qualifiers of Android's folders come after a region: `en-rGB-land`. It is also returned if extensions or keywords come
+/// after an extension or private use, and if other text than a script and extensions comes after `#`. A language and
+/// territory of more than 255 bytes have no tag, and no tag is made if they have more than 260 bytes with extensions and
+/// keywords.
 /// Returns `Memory` if allocation fails.
 ///
 /// ```

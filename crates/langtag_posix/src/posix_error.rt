@@ -10,7 +10,7 @@ use thiserror::Error;
 /// ```
 /// use langtag_posix::{PosixError, from_posix};
 ///
-/// matches!(from_posix(alloc, "POSIX"), Err(PosixError::NoTag("POSIX"))); // true
+/// matches!(from_posix(alloc, "POSIX"), Err(PosixError::NoTag(name)) if name == "POSIX"); // true
 /// ```
 #[derive(Debug, Drop, Error)]
 pub enum PosixError<'a> {

@@ -10,7 +10,7 @@ ghost use Rattle.langtag_posix.specs.PlatformNames.{marked};
 ghost use Rattle.langtag_posix.specs.Posix.{NamesTag, begins_extension, extensions_behind, has_extension, is_java_place, is_single, may_follow, modifier_of, place_of, text_of_name, without_java_field};
 
 use crate::keyword_names::{are_keywords, push_keywords};
-use crate::platform_names::{MOST, MOST_READ, read_place};
+use crate::platform_names::{MOST, MOST_READ, is_of_language, read_place};
 use langtag::LangTag;
 use langtag_range::{locale_place, split_at_byte, split_at_either};
 use langtag_scan::{case_insensitive_eq, is_script};
@@ -41,7 +41,7 @@ pub(crate) fn tag_of_name<'a>(name: &[u8], room: &'a mut [u8; MOST_NAMED]) -> Op
         return None;
     }
     let tag = tag_from(&room[..len])?;
-    if case_insensitive_eq(place, b"POSIX") {
+    if !is_of_language(place) {
         return None;
     }
     Some(tag)

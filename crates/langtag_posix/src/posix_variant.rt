@@ -1,4 +1,5 @@
-//! The variant `POSIX` of a locale name, which becomes the keyword `va-posix`.
+//! The variant `POSIX` of a locale name, which becomes the keyword `va-posix`. It does so only if it is the only
+//! variant, as in ICU and Intl.
 ghost use Rattle.std.specs.Prelude.{◌≡◌, ◌≤◌, MatchOption, length};
 ghost use Rattle.langtag_scan.specs.Grammar.{EachRecord};
 ghost use Rattle.langtag.specs.Definitions.{IsForm, lang_tag_text, normal_lang_tag_text};

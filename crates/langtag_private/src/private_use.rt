@@ -91,8 +91,7 @@ impl<'a> PrivateUse<'a> {
     }
 
     /// Returns whether another string equals this string, ignoring the case of ASCII letters:
-    /// `PrivateUse::new("x-twain")?.eq_str("X-TWAIN")` is `true`. It is proved that comparisons and hashes also ignore
-    /// case, and that a clone is the same value.
+    /// `PrivateUse::new("x-twain")?.eq_str("X-TWAIN")` is `true`. Comparisons and hashes also ignore case.
     #[tactic(auto, using(langtag_scan::proofs::CaseOrder::bytes_ends_first, crate::proofs::Rules::alike_private_use))]
     pub fn eq_str(&self, other: &str) -> bool
         ensures test { result ≡ are_alike (private_use_text self.now) other.now }
@@ -230,7 +229,7 @@ impl PrivateUseBuf {
     }
 
     /// Borrows the private use part: `PrivateUse::new("X-TWAIN")?.try_to_owned(alloc)?.as_private_use().as_str()` is
-    /// `"X-TWAIN"`. It is proved that comparisons and hashes of owned private use parts ignore case.
+    /// `"X-TWAIN"`.
     #[tactic(auto, using(langtag_scan::proofs::CaseOrder::bytes_ends_first))]
     pub fn as_private_use(&self) -> PrivateUse<'_>
         ensures same_text { private_use_text result ≡ private_use_buf_text self.now }

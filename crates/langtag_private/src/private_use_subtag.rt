@@ -90,8 +90,7 @@ impl<'a> PrivateUseSubtag<'a> {
     }
 
     /// Returns whether another string equals this string, ignoring the case of ASCII letters:
-    /// `PrivateUseSubtag::new("twain")?.eq_str("TWAIN")` is `true`. It is proved that comparisons and hashes also
-    /// ignore case, and that a clone is the same value.
+    /// `PrivateUseSubtag::new("twain")?.eq_str("TWAIN")` is `true`. Comparisons and hashes also ignore case.
     #[tactic(auto, using(langtag_scan::proofs::CaseOrder::bytes_ends_first, langtag_scan::proofs::CaseLaw::alike_private_subtag))]
     pub fn eq_str(&self, other: &str) -> bool
         ensures test { result ≡ are_alike (private_use_subtag_text self.now) other.now }
@@ -177,7 +176,7 @@ impl PrivateUseSubtagBuf {
     }
 
     /// Borrows the subtag: `PrivateUseSubtag::new("TWAIN")?.try_to_owned(alloc)?.as_private_use_subtag().as_str()` is
-    /// `"TWAIN"`. It is proved that comparisons and hashes of owned private use subtags ignore case.
+    /// `"TWAIN"`.
     #[tactic(auto, using(langtag_scan::proofs::CaseOrder::bytes_ends_first))]
     pub fn as_private_use_subtag(&self) -> PrivateUseSubtag<'_>
         ensures same_text { private_use_subtag_text result ≡ private_use_subtag_buf_text self.now }

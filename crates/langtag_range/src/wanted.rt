@@ -42,8 +42,8 @@ pub struct WantedRanges<'a> {
 ///
 /// In a range, `_` is read as `-`, and everything from the first `.`, `@` or `_#` on is dropped, as in `zh_TW_#Hant`.
 /// If the rest is not a range, the element is skipped. Parameters other than `q` are ignored. A weight that is not a
-/// number, or is above 1, counts as 1. A weight may have a decimal comma: `fr;q=0,8` has the weight 800. In contrast,
-/// `AcceptLanguage` follows RFC 9110 strictly.
+/// number, or is above 1, counts as 1. A weight may have a decimal comma: `fr;q=0,8` has the weight 800, because
+/// no range begins with a digit. In contrast, `AcceptLanguage` follows RFC 9110 strictly.
 ///
 /// ```
 /// use langtag_match::wanted_ranges;

@@ -1,4 +1,5 @@
+pub mod FaultLaws
+pub mod MisplacedLaws
 -- what the crates above cite
 pub use Rattle.langtag_canonical.proofs.CanonicalParts
 pub use Rattle.langtag_canonical.proofs.OneForm
-pub use Rattle.langtag_validity.proofs.FaultLaws

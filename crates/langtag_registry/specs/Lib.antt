@@ -1,3 +1,7 @@
+pub mod Compared
+pub mod Fault
+pub mod Matching
+pub mod Prefix
 -- the pages that are cited by the contracts of what this crate exports. So callers need to name only this crate
 pub use Rattle.langtag_canonical.specs.Canonical
 pub use Rattle.langtag_canonical.specs.CanonicalLaws
@@ -7,6 +11,3 @@ pub use Rattle.langtag_fields.specs.Registered
 pub use Rattle.langtag_fields.specs.Subtags
 pub use Rattle.langtag_fields.specs.Valid
 pub use Rattle.langtag_fields.specs.declared.tables
-pub use Rattle.langtag_validity.specs.Compared
-pub use Rattle.langtag_validity.specs.Fault
-pub use Rattle.langtag_validity.specs.Prefix

@@ -21,6 +21,11 @@
 //! ```
 #![tactic(auto)]
 
+mod invalid_subtag;
+mod misplaced;
+mod validity;
+
+pub use invalid_subtag::InvalidSubtag;
 pub use langtag_canonical::{canonical, extlang_form, is_canonical, write_canonical};
 pub use langtag_fields::{
     FILE_DATE, extlang_prefix, is_deprecated_extlang, is_deprecated_language, is_deprecated_region,
@@ -28,6 +33,5 @@ pub use langtag_fields::{
     is_registered_region, is_registered_script, is_registered_variant, macrolanguage,
     preferred_language, preferred_region, preferred_tag, preferred_variant, suppress_script,
 };
-pub use langtag_validity::{
-    InvalidSubtag, fault_at, misplaced_extlang, misplaced_variant, validate,
-};
+pub use misplaced::{misplaced_extlang, misplaced_variant};
+pub use validity::{fault_at, validate};

@@ -86,8 +86,8 @@ pub fn case_insensitive_hash<H: Hasher>(bytes: &[u8], hasher: &mut H)
 /// Returns the number whose digits in base 256 are the lowercase bytes (RFC 5646 section 2.1.1) of a string of at most
 /// eight bytes. `folded_number(b"FR")` is 26,226, which is 256 times `b'f'` plus `b'r'`.
 ///
-/// It is proved that two strings of letters and digits, such as subtags, have the same number if and only if the
-/// strings are equal, ignoring case.
+/// Two strings of letters and digits, such as subtags, have the same number if and only if the strings are equal,
+/// ignoring case.
 pub fn folded_number(bytes: &[u8]) -> u64
     requires { length bytes.now ≤ 8 }
     ensures number { result ≡ folded_number bytes.now }

@@ -29,13 +29,22 @@ pub(crate) fn is_alphanumeric(byte: u8) -> bool
 pub fn are_letters(bytes: &[u8]) -> bool
     ensures { result ≡ class.are_letters bytes.now }
 {
-    bytes.iter().all(|byte| is_letter(*byte))
+    // A loop and not `all`, because rustc can run a loop when it compiles a constant.
+    let mut index = 0;
+    while index < bytes.len() && is_letter(bytes[index]) {
+        index += 1;
+    }
+    index == bytes.len()
 }
 
 fn are_digits(bytes: &[u8]) -> bool
     ensures { result ≡ class.are_digits bytes.now }
 {
-    bytes.iter().all(|byte| is_digit(*byte))
+    let mut index = 0;
+    while index < bytes.len() && is_digit(bytes[index]) {
+        index += 1;
+    }
+    index == bytes.len()
 }
 
 fn are_alphanumeric(bytes: &[u8]) -> bool

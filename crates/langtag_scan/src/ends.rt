@@ -1,5 +1,5 @@
 //! Where the parts of a normal tag end.
-ghost use Rattle.std.specs.Prelude.{◌≡◌, replicate, set, ◌<◌};
+ghost use Rattle.std.specs.Prelude.{◌≡◌, replicate, set, ◌<◌, max};
 ghost use Rattle.langtag_scan.specs.Grammar.{ends_at};
 
 /// The end of each part of a normal tag (RFC 5646 section 2.1). Each is an offset in bytes from the start of the
@@ -7,8 +7,6 @@ ghost use Rattle.langtag_scan.specs.Grammar.{ends_at};
 ///
 /// The language begins at 0. Every other part begins just after the hyphen that follows the previous part. In
 /// `en-Latn-x-a` the ends are 2, 7, 7, 7, 7 and 11, in the order of the fields.
-///
-/// It is proved that two `Ends` are equal if and only if each field is, and that a clone is the same value.
 ///
 /// ```
 /// use langtag_scan::{Metered, recognise};
@@ -64,16 +62,24 @@ impl Marks {
         ensures { result ≡ ends_at self.now.places len }
     {
         let language = self.places[0];
-        let script = self.places[1].max(language);
-        let region = self.places[2].max(script);
-        let variants = self.places[3].max(region);
+        let script = later(self.places[1], language);
+        let region = later(self.places[2], script);
+        let variants = later(self.places[3], region);
         Ends {
             language,
             script,
             region,
             variants,
-            extensions: self.places[4].max(variants),
+            extensions: later(self.places[4], variants),
             whole: len,
         }
     }
+}
+
+/// Returns the end of a part, which is that of the previous part if the part is absent.
+#[inline(always)]
+fn later(place: usize, previous: usize) -> usize
+    ensures { result ≡ max place previous }
+{
+    if place > previous { place } else { previous }
 }

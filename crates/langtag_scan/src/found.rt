@@ -68,7 +68,6 @@ impl Found {
     pub fn irregular(&self) -> Option<usize>
         ensures index { result ≡ irregular_index (finding self.now) }
 
-        // law: the texts of the grandfathered tags, in the order of the table
         ensures texts { map (λ text. text.now) GRANDFATHERED_TEXTS ≡ map (λ tag. tag.text) grandfathered_tags }
     {
         match self.finding {
@@ -77,8 +76,8 @@ impl Found {
         }
     }
 
-    /// Returns the ends of the parts of a normal tag (section 2.1): in `fr-FR`, the language and the absent script
-    /// end at 2, and all other ends are 5. Returns `None` for `x-a`. It is proved that a clone is the same value.
+    /// Returns the ends of the parts of a normal tag (section 2.1): in `fr-FR`, the language and the absent script end
+    /// at 2, and all other ends are 5. Returns `None` for `x-a`.
     ///
     /// ```
     /// use langtag_scan::{recognise, Metered};

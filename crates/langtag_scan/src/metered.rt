@@ -3,8 +3,8 @@ ghost use Rattle.std.specs.Prelude.{◌≡◌, ◌≤◌, ◌++◌, length};
 
 use crate::source::ByteSource;
 
-/// Bytes with a count of the reads, which shows how much of a string [`recognise`](crate::recognise) reads. They can be
-/// read only through [`ByteSource`].
+/// A byte source that counts its reads. Tests use it to see how far [`recognise`](crate::recognise) reads. Its bytes
+/// can be read only through [`ByteSource`].
 ///
 /// ```
 /// use langtag_scan::{ByteSource, Metered, recognise};

@@ -1,4 +1,9 @@
-//! The recognisers, which read a source of bytes in one pass.
+//! The recognisers, which read a source of bytes in one pass. From a source that was not read before, each byte below
+//! the stop n of its text is read once. The clause `reads` says that there are n reads, all below n. Suppose a byte
+//! were read twice. Then some other byte, which is not the last, would never be read. Replace it by `!`. Every read
+//! returns the same as before, so again there are n reads, but the stop of the new text is right after its `!`, which
+//! is before n. This is an argument and not a proof, because it is about what a function that is generic over its
+//! source can know.
 ghost use Rattle.std.specs.Prelude.{◌≡◌, ◌↔◌, ◌⊎◌, ℕ, ◌≤◌, ◌+◌, ◌^◌, max, List, length, IsTrue, MatchOption, MatchResult, is_some};
 ghost use Rattle.langtag_scan.specs.Grammar.{Record, IsWellFormed, spell, IsNormal, IsPrivate, IsIrregularAt, IsIrregular, IsTag, IsStop, IsViable, IsViableLength, IsIrregularPrefix, fill, finding, IsFoundOf, is_normal};
 
@@ -12,8 +17,7 @@ use crate::state::{Ending, State};
 /// are not a tag.
 ///
 /// It reads each byte once, in order, and stops after the first byte that makes a tag impossible: `recognise(&mut
-/// Metered::new("i-notexist"))` is `None` after four reads. It does not allocate. It is proved that it accepts
-/// exactly the tags.
+/// Metered::new("i-notexist"))` is `None` after four reads. It does not allocate. It accepts exactly the tags.
 ///
 /// ```
 /// use langtag_scan::{Metered, recognise};
@@ -95,7 +99,7 @@ pub(crate) fn read<S: ByteSource>(source: &mut S) -> Result<Found, usize>
 }
 
 /// Decides whether the bytes of a source are a normal tag (rule `langtag` of RFC 5646 section 2.1), as [`recognise`]
-/// does. It is proved that a normal tag splits into its parts in only one way.
+/// does. A normal tag splits into its parts in only one way.
 ///
 /// ```
 /// use langtag_scan::{Metered, recognise_normal};

@@ -13,8 +13,8 @@
 //! other than 0.
 #![tactic(auto)]
 
+use langtag_answers::conclude;
 pub use langtag_answers::{ShowError, run};
-use langtag_lines::conclude;
 use std::io;
 use std::process::ExitCode;
 

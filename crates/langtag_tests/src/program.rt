@@ -3,8 +3,7 @@
 use crate::feed::{Feed, Text};
 use crate::sheet::{Fault, Sheet};
 use crate::support::{expect_true, repeated};
-use langtag_answers::{ShowError, run};
-use langtag_lines::conclude;
+use langtag_answers::{ShowError, conclude, run};
 use std::alloc::{AllocError, Global};
 use std::cell::Cell;
 use std::io::ErrorKind;

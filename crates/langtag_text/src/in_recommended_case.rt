@@ -27,8 +27,7 @@ pub struct InRecommendedCase<'a> {
 impl<'a> InRecommendedCase<'a> {
     ghost use Rattle.langtag_text.specs.Text.{in_recommended_case_text};
 
-    /// Returns a value that displays an ASCII text in its recommended case. It is proved that a clone succeeds and is
-    /// the same value.
+    /// Returns a value that displays an ASCII text in its recommended case.
     pub fn from_checked(text: &'a str) -> Self
         requires { IsAscii text.now }
         ensures shown { in_recommended_case_text result ≡ recommended_text text.now }

@@ -52,7 +52,7 @@ pub fn extensions_form(alloc: Global, tag: LangTag<'_>) -> Result<LangTagBuf, Al
     Ok(tag_of(form_bytes(alloc, tag)?))
 }
 
-/// Returns the bytes of the form. They are written once if they fit into a guess of their number, and otherwise again.
+/// Returns the bytes of the form. The buffer has a guessed length. If it is too short, the bytes are written again.
 fn form_bytes(alloc: Global, tag: LangTag<'_>) -> Result<Vec<u8>, AllocError>
     ensures { IfOk result (λ bytes. IsExtensionsForm (lang_tag_text tag.entry) bytes.items) }
 {
@@ -87,7 +87,6 @@ fn counted_form_bytes(alloc: Global, tag: LangTag<'_>) -> Result<Vec<u8>, AllocE
 /// buffer.get(..length); // Some(&b"de-u-kn"[..])
 /// ```
 pub fn write_extensions_form(tag: LangTag<'_>, buffer: &mut [u8]) -> usize
-    // law: the form that `extensions_form` returns, if the buffer has room for it, and its length
     ensures form { WritesWhole (IsExtensionsForm (lang_tag_text tag.entry)) buffer.old buffer.new result }
 {
     match tag.as_normal() {

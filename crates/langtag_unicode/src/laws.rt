@@ -1,5 +1,6 @@
-//! Laws of keywords and fields (RFC 6067, RFC 6497). The toolchain checks only contracts, so each law is the clause of a
-//! function that does nothing.
+//! Laws of keywords and fields (RFC 6067, RFC 6497). The toolchain checks only contracts, so each law is the clause of
+//! a function that does nothing. Removing a key keeps the canonical form of `u`, but not that of the tag: if `u` is
+//! removed, a second `u` becomes the first, and only the first has a canonical form.
 ghost use Rattle.std.specs.Prelude.{◌≡◌, ℕ, List, [], None, Some, false, IsTrue};
 ghost use Rattle.langtag_scan.specs.Grammar.{AllByRecursion, are_alike, is_extension_subtag};
 ghost use Rattle.langtag_keyword.specs.Edit as spec;

@@ -1,5 +1,5 @@
 use Rattle.langtag_keyword.proofs.Common.{◌≡◌, true, length, take, sum_by}
-use Rattle.langtag_header.specs.AcceptLanguage.{are_good}
+use Rattle.langtag_match.specs.AcceptLanguage.{are_good}
 use Rattle.langtag_range.specs.Element.{items}
 use Rattle.langtag_c.proofs.TagsAt.{width}
 use Rattle.langtag_c.proofs.header_look_up.first_bad.Given as goal

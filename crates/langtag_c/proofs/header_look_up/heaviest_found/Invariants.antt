@@ -1,7 +1,7 @@
 use Rattle.std.proofs.Common.{◌≡◌, None}
 use Rattle.langtag_c.specs.Spans.{IsWithin, span_text}
 use Rattle.langtag_c.specs.Negotiation.{filled_items}
-use Rattle.langtag_header.specs.AcceptLanguage.{elements}
+use Rattle.langtag_match.specs.AcceptLanguage.{elements}
 use Rattle.langtag_range.specs.Element.{items}
 use Rattle.langtag_c.specs.Heaviest.{heaviest}
 use Rattle.langtag_c.specs.TagsAt.{tags_at}

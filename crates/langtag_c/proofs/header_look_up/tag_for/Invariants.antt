@@ -1,6 +1,6 @@
 use Rattle.std.proofs.Common.{◌≡◌}
 use Rattle.langtag_range.specs.Fallback.{fallbacks}
-use Rattle.langtag_header.specs.Text.{language_range_text, fallbacks_left}
+use Rattle.langtag_match.specs.Text.{language_range_text, fallbacks_left}
 use Rattle.langtag_c.specs.LookUp.{first_index_alike}
 use Rattle.langtag_c.specs.TagsAt.{tags_at}
 use Rattle.langtag_c.proofs.header_look_up.tag_for.Given as goal

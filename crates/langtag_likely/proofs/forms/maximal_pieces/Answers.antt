@@ -1,6 +1,5 @@
 use Rattle.langtag_scan.proofs.Prelude.{◌≤◌, ◌+◌, length, flat_map, refl, sym, ap, subst, ◌∙◌, arith, option_map_or}
 use Rattle.langtag_scan.specs.Grammar.{spell, IsNormal}
-use Rattle.langtag_cldr.specs.LikelyFields.{add_likely_subtags}
 use Rattle.langtag_likely.specs.Maximal.{maximal_record, put_fields}
 use Rattle.langtag.proofs.FormLaws.{kept_form, record_form}
 use Rattle.langtag_likely.proofs.forms.maximal_pieces.Goals as goal
@@ -13,7 +12,7 @@ returns-in-Some c =
     record {
       form = record_form maximal_record _ _ r spells
           (c.changed.ensures.whole r (spells.0, same)
-          ∙ ap (λ o. spell (option_map_or (put_fields r) o r)) (c.add_likely_subtags.ensures ∙ ap add_likely_subtags (c.fields_of.ensures r (spells.0, same))));
+          ∙ ap (λ o. spell (option_map_or (put_fields r) o r)) (c.most_fields.ensures r (spells.0, same)));
       short = subst (λ t. length (flat_map (λ piece. piece.now) c.changed.result) ≤ length t + 17) c.in-Some.ensures.same_text (c.changed.ensures.short r (spells.0, same));
     }
 

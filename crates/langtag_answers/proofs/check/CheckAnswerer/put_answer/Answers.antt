@@ -1,7 +1,7 @@
 use Rattle.langtag_scan.proofs.Prelude.{◌≡◌, false, true, refl, sym, subst, on_ok_weaker}
 use Rattle.langtag_scan.specs.Grammar.{IsTag}
 use Rattle.langtag.specs.Text.{lang_tag_text}
-use Rattle.langtag_lines.proofs.Written.{Answers-one}
+use Rattle.langtag_answers.proofs.Written.{Answers-one}
 use Rattle.langtag_registry.specs.Fault.{told}
 use Rattle.langtag_registry.specs.Valid.{IsValid}
 use Rattle.langtag_answers.specs.CheckAnswer.{refused}

@@ -1,7 +1,7 @@
 use Rattle.langtag_scan.proofs.Prelude.{◌≡◌, ◌∙◌, ◌++◌, [], codes, false, flat_map, true, refl, subst, on_ok_weaker}
 use Rattle.langtag_answers.specs.ShowAnswer.{IsShowAnswer, refused}
 use Rattle.langtag_answers.proofs.KindAnswers.{answer_private, answer_irregular}
-use Rattle.langtag_lines.proofs.Written.{Answers-one}
+use Rattle.langtag_answers.proofs.Written.{Answers-one}
 use Rattle.langtag_answers.proofs.show.ShowAnswerer.put_answer.Goals as goal
 
 pub returns-in_default-clause-ok : goal.returns-in_default-clause-ok

@@ -1,0 +1,32 @@
+-- What follows the language in a tag that is not replaced as a whole. Only contracts of private functions cite this page.
+use Rattle.std.specs.Prelude.{◌≡◌, ℕ, ◌==◌, ◌||◌, ◌&&◌, nat_le, Bool, true, false, not, List, [], ◌∷◌, length, slice_index_or}
+use Rattle.langtag_scan.specs.Grammar.{before_first, is_extended, is_letter}
+use Rattle.langtag_range.specs.Definitions.{basic_text, is_separator}
+
+-- whether a tag is replaced that begins with these two bytes: `ar`, `en`, `no`, `sg` or `zh`
+abbrev pub begins_replaced : ℕ → ℕ → Bool
+begins_replaced first second =
+    ((first == 97) && (second == 114))
+    || (((first == 101) && (second == 110))
+    || (((first == 110) && (second == 111)) || (((first == 115) && (second == 103)) || ((first == 122) && (second == 104)))))
+
+-- whether the first subtag of a text counts, which means that it is neither empty nor "*"
+abbrev pub begins_counted : List ℕ → Bool
+begins_counted [] = true
+begins_counted (b ∷ text) = not (is_separator b || (b == 42))
+
+-- whether a text follows no language of two letters in a tag that is replaced, such as `zh-hakka`, `zh-min-nan` or
+-- `en-GB-oed`: it has at most two characters, or begins with no letter, or has neither three characters nor five, and no
+-- hyphen after two or three
+abbrev pub follows_none : List ℕ → Bool
+follows_none text =
+    nat_le (length text) 2
+    || (not (is_letter (slice_index_or text 0 0))
+    || (not ((length text == 3) || (length text == 5)) && not ((slice_index_or text 2 0 == 45) || (slice_index_or text 3 0 == 45))))
+
+-- a text after a language of two letters that keeps this language: it begins with no extended language, and follows no
+-- language in a tag that is replaced
+pub record KeepsLanguage (text : List ℕ) : Type 0 where
+  pub counted : begins_counted text ≡ true
+  pub extended : is_extended (before_first is_separator text) ≡ false
+  pub unlike : follows_none (basic_text text) ≡ true

@@ -1,0 +1,119 @@
+//! Tags that the registry replaces as a whole (RFC 5646 section 3.1.7), such as `i-klingon` and `zh-hakka`. Most strings
+//! show by their first bytes that they are none of these. What each choice runs many times is inlined.
+ghost use Rattle.std.specs.Prelude.{◌≡◌, ◌≤◌, ◌⊎◌, ◌∷◌, [], ℕ, List, None, true, false, drop, find, length, option_map};
+ghost use Rattle.langtag_scan.specs.Grammar.{after_first, are_alike, before_first, fold_byte, is_letter};
+ghost use Rattle.langtag_fields.specs.Fields.{preferred_tag};
+ghost use Rattle.langtag_range.specs.Definitions.{basic_text, is_separator};
+ghost use Rattle.langtag_cldr.specs.Definitions.{KeepsLanguage, begins_counted, begins_replaced};
+
+use crate::read_text::are_alike;
+use langtag_fields::preferred_tags;
+use langtag_range::is_separator;
+use langtag_scan::{case_insensitive_eq, into_smallcase};
+
+/// Returns the tag that replaces a string as a whole, given the first subtag of the string and the rest: `hak` for
+/// `zh_hakka`.
+#[inline(always)]
+pub(crate) fn replacement(text: &[u8], first: &[u8], rest: &[u8]) -> Option<&'static [u8]>
+    requires first { first.now ≡ before_first is_separator text.now }
+    requires rest { rest.now ≡ after_first is_separator text.now }
+    ensures { option_map (λ tag. tag.now) result ≡ preferred_tag (basic_text text.now) }
+{
+    if may_be_replaced(first, rest) {
+        preferred(text)
+    } else {
+        None
+    }
+}
+
+/// Returns the Preferred-Value of the whole tag that equals a range.
+#[tactic(auto, unfolding(langtag_fields::specs::Fields::preferred_tag))]
+#[inline(never)]
+fn preferred(range: &[u8]) -> Option<&'static [u8]>
+    ensures { option_map (λ tag. tag.now) result ≡ preferred_tag (basic_text range.now) }
+{
+    let (_, value) = first_alike(preferred_tags(), range)?;
+    Some(value.as_bytes())
+}
+
+/// Returns the first pair whose first string equals a range.
+fn first_alike(
+    pairs: &'static [(&'static str, &'static str)],
+    range: &[u8],
+) -> Option<(&'static str, &'static str)>
+    ensures { result ≡ find (λ pair. are_alike (basic_text range.now) pair.0.now) pairs.now }
+{
+    pairs
+        .iter()
+        .copied()
+        .find(|(text, _)| are_alike(range, text.as_bytes()))
+}
+
+/// Returns `false` only if the first subtag of a string, and the rest, show that the string is not replaced as a whole.
+#[tactic(auto, using(crate::proofs::WholeTags::not_by_two, crate::proofs::WholeTags::not_by_follow, crate::proofs::WholeTags::not_by_three, crate::proofs::WholeTags::not_by_more))]
+#[inline(always)]
+fn may_be_replaced(first: &[u8], rest: &[u8]) -> bool
+    ensures { result ≡ false → (text : List ℕ) → first.now ≡ before_first is_separator text → rest.now ≡ after_first is_separator text → preferred_tag (basic_text text) ≡ None }
+{
+    match first {
+        [] | [_] => true,
+        [first, second] => may_change_language(rest) && begins_replaced(*first, *second),
+        [_, _, _] => case_insensitive_eq(first, b"sgn") || case_insensitive_eq(first, b"art"),
+        _ => false,
+    }
+}
+
+/// Returns whether a tag with these two letters at its start is replaced as a whole.
+fn begins_replaced(first: u8, second: u8) -> bool
+    ensures { result ≡ begins_replaced (fold_byte first) (fold_byte second) }
+{
+    matches!(
+        (into_smallcase(first), into_smallcase(second)),
+        (b'a', b'r') | (b'e', b'n') | (b'n', b'o') | (b's', b'g') | (b'z', b'h')
+    )
+}
+
+/// Returns `false` only if a string after a language of two letters keeps this language: it begins with no extended
+/// language, and no tag that is replaced as a whole goes on like this.
+#[tactic(auto, using(crate::proofs::WholeTags::keeps_none, crate::proofs::WholeTags::keeps_few, crate::proofs::WholeTags::keeps_other, crate::proofs::WholeTags::keeps_long))]
+pub fn may_change_language(text: &[u8]) -> bool
+    ensures { result ≡ false → KeepsLanguage text.now }
+{
+    match text {
+        [first, ..] if !begins_counted(*first) => true,
+        [first, _, _] => is_letter(*first),
+        [first, second, third, fourth, rest @ ..] => {
+            is_letter(*first)
+                && (is_separator(*second)
+                    || is_separator(*third)
+                    || is_separator(*fourth)
+                    || ends_soon(rest))
+        }
+        _ => false,
+    }
+}
+
+/// Returns `false` only if a string is empty, or has a second byte that is neither a separator nor `*`.
+fn ends_soon(text: &[u8]) -> bool
+    ensures { result ≡ false → (length text.now ≡ 0) ⊎ ((2 ≤ length text.now) × (begins_counted (drop 1 text.now) ≡ true)) }
+{
+    match text {
+        [] => false,
+        [_] => true,
+        [_, second, ..] => !begins_counted(*second),
+    }
+}
+
+/// Returns whether a byte is the first byte of a subtag that counts.
+fn begins_counted(byte: u8) -> bool
+    ensures { result ≡ begins_counted (byte ∷ []) }
+{
+    !is_separator(byte) && byte != b'*'
+}
+
+#[tactic(auto, unfolding(langtag_scan::specs::Class::is_letter))]
+fn is_letter(byte: u8) -> bool
+    ensures { result ≡ is_letter byte }
+{
+    byte.is_ascii_alphabetic()
+}

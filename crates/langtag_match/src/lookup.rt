@@ -1,0 +1,64 @@
+//! The lookup of one tag for a list of ranges (RFC 4647 section 3.4).
+ghost use Rattle.std.specs.Prelude.{◌≡◌, map};
+ghost use Rattle.langtag_range.specs.Definitions.{fallbacks};
+ghost use Rattle.langtag_match.specs.LookUp as spec;
+ghost use Rattle.langtag_match.specs.Text.{language_range_text};
+
+use crate::language_range::LanguageRange;
+use langtag::LangTag;
+use langtag_range::is_range;
+
+/// Returns the tag that the first successful range finds, or the default if no range finds a tag (RFC 4647 section
+/// 3.4). A range finds the tag that equals the range. If no tag equals it, its [`fallbacks`](LanguageRange::fallbacks)
+/// are tried, the longest first.
+///
+/// For the ranges `nl` and `zh-Hant-CN` it tries `nl`, `zh-Hant-CN`, `zh-Hant` and `zh` in this order. If none of them
+/// equals a tag, it returns the default.
+///
+/// An extended range is looked up without its `*` (section 3.2): `de-*-DE` is looked up as `de-DE`. A range that
+/// begins with `*` finds no tag, and the next range is tried.
+///
+/// ```
+/// use langtag::LangTag;
+/// use langtag_match::{look_up, LanguageRange};
+///
+/// let ranges = [LanguageRange::new("nl")?, LanguageRange::new("zh-Hant-CN")?];
+/// let tags = [LangTag::new("zh")?, LangTag::new("zh-Hant")?];
+/// look_up(&ranges, &tags, LangTag::new("en")?).as_str(); // "zh-Hant"
+/// ```
+pub fn look_up<'a>(
+    ranges: &[LanguageRange<'_>],
+    tags: &[LangTag<'a>],
+    default: LangTag<'a>,
+) -> LangTag<'a>
+    ensures { result ≡ spec.choice tags.now default.entry (map language_range_text ranges.now) }
+{
+    for range in ranges {
+        if let Some(tag) = tag_for(*range, tags) {
+            return tag;
+        }
+    }
+    default
+}
+
+/// Returns the tag that lookup finds for a range.
+pub(crate) fn tag_for<'a>(range: LanguageRange<'_>, tags: &[LangTag<'a>]) -> Option<LangTag<'a>>
+    ensures { result ≡ spec.first_alike tags.now (fallbacks (language_range_text range.entry)) }
+{
+    for fallback in range.fallbacks() {
+        if let Some(tag) = tag_alike(fallback, tags) {
+            return Some(tag);
+        }
+    }
+    None
+}
+
+/// Returns the first tag that equals a range, ignoring case and each `-*`.
+fn tag_alike<'a>(range: LanguageRange<'_>, tags: &[LangTag<'a>]) -> Option<LangTag<'a>>
+    ensures { result ≡ spec.tag_alike tags.now (language_range_text range.entry) }
+{
+    let range = range.as_str().as_bytes();
+    tags.iter()
+        .copied()
+        .find(|tag| is_range(tag.as_bytes(), range))
+}

@@ -1,4 +1,0 @@
-pub mod Compared
-pub mod Fault
-pub mod Matching
-pub mod Prefix
