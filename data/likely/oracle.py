@@ -70,6 +70,8 @@ class Tag:
         self.language = found["language"] + found["extended"]
         self.script, self.region, self.variants, self.rest = found["script"], found["region"], found["variants"], found["rest"]
         self.fields = fields_of(found)
+        # nobody knows what subtags are likely after an extended language that is not registered
+        self.is_read = is_registered(found["language"], found["extended"])
 
     def with_fields(self, fields):
         language = (fields[0] or self.language) if self.language.lower() == "und" else self.language
@@ -129,7 +131,7 @@ def remove_likely(fields):
 
 def form(text, find):
     tag = Tag(text)
-    fields = find(tag.fields) if tag else None
+    fields = find(tag.fields) if tag and tag.is_read else None
     return tag.with_fields(fields) if fields else text
 
 
@@ -139,9 +141,24 @@ def forms(text):
 
 @functools.lru_cache(None)
 def matching_form(text):
-    """Returns the matching form of a tag, or of a range that begins like a tag, or None."""
-    front = FRONT.fullmatch(text)
-    return form_of(fields_of(front)) if front and text.lower() != "und" else None
+    """Returns the matching form of a tag, or of a range that begins like a tag, or None. A tag that the registry replaces as a whole
+    has the form of its replacement."""
+    front = FRONT.fullmatch(registry().whole(text) or text)
+    return form_of(front_fields(front)) if front and text.lower() != "und" else None
+
+
+def front_fields(front):
+    """Returns the fields of a tag. It is read without an extended language that is not registered for the language before it. `r`
+    with a region at this place is the region, as Android writes it, unless another region follows."""
+    if front["extended"] and is_registered(front["language"], front["extended"]):
+        return fields_of(front)
+    marked = re.match("-r([a-z]{2}|[0-9]{3})(?=-|$)", front[0][len(front["language"]):], re.I | re.A)
+    return fields_of(dict(front.groupdict(), extended="", region=front["region"] or marked and marked[1]))
+
+
+def is_registered(language, extended):
+    """Returns whether no extended language follows a language, or one for which this language is the Prefix (RFC 5646 section 2.2.2)."""
+    return not extended or registry().prefixes.get(("extlang", extended.lower().split("-")[-1])) == [language.lower()]
 
 
 def form_of(fields):
@@ -264,13 +281,26 @@ def variants(text):
     return [subtag for subtag in until if re.fullmatch("[a-z0-9]{5,8}|[0-9][a-z0-9]{3}", subtag, re.A)]
 
 
+def as_read(text):
+    """Returns a tag or a range with its language replaced, if CLDR replaces it by a language alone: `eng-US` becomes `en-US`, and `sh`
+    stays."""
+    language, hyphen, others = text.partition("-")
+    replacement, *more = ALIASES.get(language.lower(), [language])
+    return (language if any(more) else replacement) + hyphen + others
+
+
 def nearest(wish, near, tags):
     """Returns the best of several indices of tags at the same distance: of those that lack the fewest variants of the range, the tag
-    that look-up finds, or else the most likely tag."""
+    that look-up finds if all are read as above, or else the most likely tag. Of tags that are read alike, it is the tag that look-up
+    finds as it is written."""
     lacking = [sum(variant not in variants(tags[index]) for variant in variants(wish)) for index in near]
     near = [index for index, lack in zip(near, lacking) if lack == min(lacking)]
-    found = look_up(wish, [tags[index] for index in near])
-    return min(near, key=lambda index: unlikely(tags[index])) if found is None else near[found]
+    read = [as_read(tags[index]).lower() for index in near]
+    found = look_up(as_read(wish), read)
+    if found is None:
+        return min(near, key=lambda index: unlikely(tags[index]))
+    near = [index for index, text in zip(near, read) if text == read[found]]
+    return near[look_up(wish, [tags[index] for index in near]) or 0]
 
 
 def best_match(header, tags):
@@ -313,7 +343,7 @@ PARADIGMS = {tuple(most) for row in rows("paradigms.txt") for most in [add_likel
 
 
 MODIFIER_SCRIPTS = {"latin": "Latn", "iqtelif": "Latn", "ijekavianlatin": "Latn", "cyrillic": "Cyrl", "devanagari": "Deva"}
-MODIFIER_VARIANTS = {"ijekavian": "ijekavsk", "ijekavianlatin": "ijekavsk", "tarask": "tarask", "valencia": "valencia"}
+MODIFIER_VARIANTS = {"ijekavian": "ijekavsk", "ijekavianlatin": "ijekavsk", "polyton": "polyton", "tarask": "tarask", "valencia": "valencia"}
 SAYS_NOTHING = "euro preeuro abegede phonebook pinyin radical stroke cjknarrow quot boldquot".split()
 
 
@@ -328,9 +358,11 @@ CHINESE_NAMES = {"zh-chs": "Hans", "zh-cht": "Hant"}
 
 def read_place(place):
     """Returns the language and the territory of a name with hyphens, read as Android and .NET write them, too."""
-    if place[:2].lower() == "b+":
+    if place[:2].lower() == "b+" and not place.partition("-")[2]:
         return place[2:].replace("+", "-")
     place = place.replace("_", "-")
+    if place.lower() == "no-no-ny":
+        return "nn-NO"
     if place.lower() in CHINESE_NAMES:
         return place[:3] + CHINESE_NAMES[place.lower()]
     if android := re.fullmatch("(?!sgn)([a-z]{2,3})-r([a-z]{2}|[0-9]{3})", place, re.I | re.A):
@@ -387,7 +419,10 @@ def posix(name):
     modifier, behind = name.partition("@")[2], re.split("[.@]", name)[0].partition("#")[2]
     place, *extensions = named_parts(name)
     extended = "-".join(filter(None, (place, *extensions)))
-    if len(place_of(name)) > 255 or len(extended) > 260 or not is_tag(place) or place.lower() == "posix" or not is_tag(extended):
+    if len(place_of(name)) > 255 or len(extended) > 260 or not is_tag(place) or not is_tag(extended):
+        return "-"
+    # a language has two or three letters; behind Android's region, there are other qualifiers of a folder
+    if re.match("[^-]{4}|(?!sgn)[a-z]{2,3}-r([a-z]{2}|[0-9]{3})(-|$)", place, re.I | re.A):
         return "-"
     if any(extensions) and any(len(subtag) == 1 for subtag in place.split("-")) or extensions[0] and extensions[0].find("-") != 1 or all(extensions):
         return "-"
@@ -406,7 +441,7 @@ def posix(name):
 
 # The modifiers of names that are written, with the script and the variant that each says.
 WRITTEN_MODIFIERS = {("latn", ""): "latin", ("cyrl", ""): "cyrillic", ("deva", ""): "devanagari", ("", "valencia"): "valencia", ("", "tarask"): "tarask",
-                     ("", "ijekavsk"): "ijekavian", ("latn", "ijekavsk"): "ijekavianlatin", ("", ""): ""}
+                     ("", "ijekavsk"): "ijekavian", ("latn", "ijekavsk"): "ijekavianlatin", ("", "polyton"): "polyton", ("", ""): ""}
 
 
 def posix_name(text):
@@ -481,7 +516,7 @@ def parent(language, script, region):
     usual, here = likely_script(language, ""), script or likely_script(language, region)
     if region and "" != usual.lower() != here.lower() != "" and not script:
         return stated(language, here, region) or (language, here, "")
-    if region or script and usual.lower() in ("", script.lower()):
+    if region or script and not usual:
         return language, script if region else "", ""
     return "", "", ""
 
@@ -492,9 +527,12 @@ def parents(text):
     chain = [text] if is_tag(text) else ["-"]
     if match is None or text.lower() in IRREGULAR:
         return chain[0]
-    fields = match["language"] + match["extended"], match["script"] or "", match["region"] or ""
+    language, script, region = fields = match["language"] + match["extended"], match["script"] or "", match["region"] or ""
+    usual = script if short(language, script, "")[1] == "" else ""  # the script that the tag names, if the language is usually written in it
 
     def add(fields, rest):
+        if usual and not any(fields[1:]) and fields[0].lower() == language.lower():
+            fields = fields[0], usual, ""
         chain.extend(tag for form in (fields, short(*fields)) if (tag := "-".join(filter(None, form)) + rest) not in chain)
 
     add(fields, match["variants"] + match["rest"])

@@ -9,7 +9,7 @@ import functools
 import random
 import sys
 
-from oracle import ALIASES, GROUPS, LANGUAGE_RULES, LIKELY, REGION_ALIASES, RIGHT_TO_LEFT, SCRIPT_RULES, Tag, add_likely, element, lower, rows
+from oracle import ALIASES, GROUPS, LANGUAGE_RULES, LIKELY, REGION_ALIASES, RIGHT_TO_LEFT, SCRIPT_RULES, Tag, add_likely, element, lower, registry, rows
 
 import answers  # oracle.py adds its folder
 from answers import escaped
@@ -20,7 +20,7 @@ from answers import escaped
 
 @functools.lru_cache(None)
 def names_of_fields():
-    languages = sorted({row[0] or "und" for row in LIKELY} | set(ALIASES) | {"iw", "sh", "qqq", "qaaaa", "x-a", "zh-yue", "zh-min-nan", "sgn-ase"})
+    languages = sorted({row[0] or "und" for row in LIKELY} | set(ALIASES) | {"iw", "sh", "qqq", "qaaaa", "x-a", "zh-yue", "zh-min-nan", "sgn-ase", "ar-arb", "zh-rTW", "es-rUS", "de-fra"})
     scripts = sorted({row[1] for row in LIKELY} | {row[1] for row in LIKELY.values()} | {"Zzzz", "Qaaa"})
     regions = sorted({row[2] for row in LIKELY} | {row[2] for row in LIKELY.values()} | set(REGION_ALIASES) | {"ZZ", "QQ", "999"})
     return languages, scripts, regions
@@ -45,8 +45,14 @@ NEAR_REGIONS = (sorted(GROUPS) + sorted(REGION_ALIASES)[-30:] + ["004", "062", "
                 + sorted(GROUPS["001"]))
 
 
+# The tags that the registry replaces as a whole, and the replacements.
+WHOLE = [text for kind in ("grandfathered", "redundant") for name in registry().names[kind] if registry().whole(name) for text in (name, registry().whole(name))]
+
+
 def near_tag(rng):
     """Returns a tag, often a tag that a rule names."""
+    if rng.random() < 0.05:
+        return rng.choice(WHOLE)
     if rng.random() < 0.3:
         return random_tag(rng)
     text = rng.choice(NEAR)
@@ -119,12 +125,13 @@ def escaped_header(text):
 ODD_PLACES = ["C", "POSIX", "posix", "", "i-klingon", "x-a", "en-GB-oed", "de-1996", "ca-valencia-1996-x-a", "zh-yue-HK",
               "en_US_POSIX", "de-1996-posix-x-a", "sr-posix-1996", "en-Posix-u-nu-latn", "zh-yue_HK_POSIX", "de-DE-POSIX-x-posix", "x-posix",
               "deu" + "-a1234567" * 28, "abcd" + "-a1234567" * 28]
-MODIFIERS = ["latin", "cyrillic", "devanagari", "valencia", "euro", "Latin", "VALENCIA", "latin@euro", "latin.UTF-8", "", "phonebook", "lati", "latinx"]
+MODIFIERS = ["latin", "cyrillic", "devanagari", "valencia", "polyton", "euro", "Latin", "VALENCIA", "latin@euro", "latin.UTF-8", "", "phonebook", "lati", "latinx"]
 
 
 PLATFORM_NAMES = ["zh-CHS", "zh-CHT", "sr-SP-Latn", "sr-SP-Cyrl", "sr-SP-Arab", "bs-SP-Latn", "sr-SP", "en-CHS", "sgn-rSL", "sgn-rsl", "b+zh+CHT", "b+zh+rTW",
                   "b+", "b", "b+x+a", "b+sr-Latn", "b+sr_Latn", "bb+sr", "sr+Latn", "x-rTW", "x-DE-Latn", "i-rTW", "values-zh-rTW", "zh-r", "zh-rT", "zh-rTWN",
-                  "zh-r4", "es-r4199", "zh-rTW-x-a", "zh-yue-rHK", "de-DE-Abcd", "de-DE-Latn-x-a", "b+POSIX", "b+en+US+POSIX", "b+de+1996"]
+                  "zh-r4", "es-r4199", "zh-rTW-x-a", "zh-yue-rHK", "de-DE-Abcd", "de-DE-Latn-x-a", "b+POSIX", "b+en+US+POSIX", "b+de+1996",
+                  "no-NO-NY", "no-NO-NY-x-a", "en-rGB-land", "de-rDE-ldrtl", "b+en+GB-ldrtl", "night", "de-night", "abcde-rTW"]
 
 
 def platform_name(rng):
@@ -158,7 +165,7 @@ def random_row(rng):
     if how == 3:
         return "distance | " + random_pair(rng).replace(" ", " | ")
     if how == 6:
-        return "posix-name | " + near_tag(rng) + rng.choice(["", "", "-valencia", "-tarask", "-IJEKAVSK", "-1996"]) + rng.choice(["", "", "-u-va-posix", "-x-a", "-u-co-eor"])
+        return "posix-name | " + near_tag(rng) + rng.choice(["", "", "-valencia", "-tarask", "-polyton", "-IJEKAVSK", "-1996"]) + rng.choice(["", "", "-u-va-posix", "-x-a", "-u-co-eor"])
     return random_choice(rng) if how == 4 else "posix | " + escaped(random_name(rng))
 
 
@@ -175,6 +182,8 @@ def each():
                 yield from (f"posix-name | {tag}{script}{region}{more}" for more in ("", "-valencia", "-ijekavsk", "-tarask", "-u-va-POSIX"))
     for name, to in ALIASES.items():
         yield f"distance | {name} | {'-'.join(filter(None, to))}\ndistance | en-{to[0]} | en-{name}\nbest | {name} | {to[0]} en {name}"
+        region = (add_likely((to[0], "", "")) or ("", "", "US"))[2]
+        yield f"best | {to[0]} | {to[0]}-{region} {name}\nbest | {name} | {name}-{region} {to[0]}\nbest | {to[0]} | {name} {to[0]}"
         yield f"suggestion | {name}\nsuggestion | {name.upper()}-{name}"
     for region in [row[0] for row in rows("region-alias.txt")]:
         yield f"suggestion | en-{region}\nsuggestion | de-Latn-{region}-1996"

@@ -1,6 +1,6 @@
 #!/usr/bin/env python3
 """Tests generate.py and from_cldr.py. Changed data are refused, newer data are accepted, and --check finds what is missing in a
-file, in a list or in the output of the generator itself."""
+file, in a list or in the output of the generator itself. Also tests the chains of parents of oracle.py."""
 import contextlib
 import io
 import pathlib
@@ -12,6 +12,7 @@ import from_cldr
 import generate
 import lists
 import matching
+import oracle
 import common  # generate.py adds the folder of these two
 import testing
 
@@ -172,6 +173,23 @@ FROM_COMMON = {
     "language-alias.txt": ["iw he - -", "sh sr Latn -"], "region-alias.txt": ["172 RU", "SU RU AM"], "right-to-left.txt": ["Hebr"],
     "parents.txt": ["en-GB en-001", "sr-Latn -", "zh-Hant -"],
 }
+
+
+class Chains(unittest.TestCase):
+    def inherited(self, tag):
+        """Returns the chain in which CLDR inherits (UTS #35, part 1, 'Parent Locales'): a script goes only if it is likely."""
+        language, script, region = oracle.locale(tag)
+        shorter = "" if script and not region and oracle.short(language, script, "")[1] else tag.rpartition("-")[0]
+        return [tag, *self.inherited(self.parents.get(tag, shorter))] if tag else []
+
+    def test_chains_of_cldr(self):
+        """Each tag from which CLDR inherits is in the chain of parents, in CLDR's order."""
+        self.parents = dict(oracle.rows("parents.txt"))
+        for *_, language, script, region in filter(lambda row: row[3], oracle.rows("likely.txt")):
+            is_usual = not oracle.short(language, script, "")[1] and not oracle.short(language, script, region)[1]
+            for tag in [f"{language}-{script}-{region}", f"{language}-{script}"] + is_usual * [f"{language}-{region}", language]:
+                ours = iter(oracle.parents(tag).split())
+                self.assertTrue(all(member in ours for member in self.inherited(tag)), tag)
 
 
 class FromCldr(unittest.TestCase):

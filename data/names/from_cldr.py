@@ -40,7 +40,7 @@ def names_of(root: XML.Element, kind: str) -> dict[str, str]:
 
 
 class Autonyms:
-    """The names of languages in themselves, from all files of main/."""
+    """Each language's own name, from all files of main/."""
 
     def __init__(self, common: pathlib.Path):
         self.parents: dict[str, str] = {}

@@ -1,5 +1,5 @@
-"""The premises about the registry on which the crate langtag_registry relies: in its definitions, in the form of its tables, and in
-proofs by computation.
+"""The premises about the registry on which the definitions of its crates rely, and the form of their tables. Premises of proofs are not here:
+the prover refuses a registry that breaks them, on a page that is proved by computation.
 
 Each function yields a line for each record that breaks what its docstring says.
 """
@@ -18,22 +18,10 @@ SHAPES = {kind: re.compile(shape, re.I | re.A) for kind, shape in {
 }.items()}
 # The grandfathered tags of the grammar (section 2.1). No more can be added (section 2.2.8).
 GRANDFATHERED = {*IRREGULAR, *"art-lojban cel-gaulish no-bok no-nyn zh-guoyu zh-hakka zh-min zh-min-nan zh-xiang".split()}
-# The length, in bytes, of the longest whole tag that is replaced. The code does not look up longer texts.
-LONGEST_REPLACED = 16
 
 
 def is_of(kind: str, text: str) -> bool:
     return bool(SHAPES[kind].fullmatch(text))
-
-
-def parts_of(value: str) -> list[tuple[str, str]]:
-    """Returns the Type and the text of each subtag of `language`, `language-Script` or `language-REGION-variant`, and [] for any
-    other text."""
-    subtags = value.split("-")
-    for kinds in (["language"], ["language", "script"], ["language", "region", "variant"]):
-        if len(kinds) == len(subtags) and all(map(is_of, kinds, subtags)):
-            return list(zip(kinds, subtags))
-    return []
 
 
 def each_subtag_is_of_its_class(registry: Registry) -> Iterator[str]:
@@ -44,13 +32,10 @@ def each_subtag_is_of_its_class(registry: Registry) -> Iterator[str]:
 
 
 def extlangs_are_themselves(registry: Registry) -> Iterator[str]:
-    """Section 2.2.2: the Preferred-Value of an extended language is the same subtag, in lowercase, which is also registered as a
-    language."""
+    """Section 2.2.2: the Preferred-Value of an extended language is the same subtag, in lowercase."""
     for record in registry.all("extlang"):
         if record.value("Preferred-Value") != record.text or record.text != record.text.lower():
             yield f"{record}: its Preferred-Value is not itself in small letters, but {record.value('Preferred-Value')}"
-        if not registry.get("language", record.text):
-            yield f"{record}: no such language is registered"
 
 
 def extlangs_have_one_prefix(registry: Registry) -> Iterator[str]:
@@ -60,59 +45,6 @@ def extlangs_have_one_prefix(registry: Registry) -> Iterator[str]:
             yield f"{record}: not one Prefix that is a language, but {record.values('Prefix')}"
 
 
-def preferred_subtags_are_registered(registry: Registry) -> Iterator[str]:
-    """The Preferred-Value of a language, region or variant is a registered subtag of the same Type."""
-    for record in registry.all("language", "region", "variant", having="Preferred-Value"):
-        if not registry.get(record.kind, record.value("Preferred-Value")):
-            yield f"{record}: its Preferred-Value {record.value('Preferred-Value')} is not registered as a {record.kind}"
-
-
-def preferred_subtags_stay(registry: Registry) -> Iterator[str]:
-    """The Preferred-Value of a language, region or variant has no Preferred-Value itself, so replacing once is enough."""
-    for record in registry.all("language", "region", "variant", having="Preferred-Value"):
-        value = record.value("Preferred-Value")
-        if again := registry.preferred(record.kind, value):
-            yield f"{record}: its Preferred-Value {value} has one itself, {again}"
-
-
-def whole_tags_become_simple_ones(registry: Registry) -> Iterator[str]:
-    """The Preferred-Value of a whole tag is a language, perhaps with a script, or with a region and a variant. All of these are
-    registered."""
-    for record in registry.all(*TAG_TYPES, having="Preferred-Value"):
-        value = record.value("Preferred-Value")
-        if not parts_of(value):
-            yield f"{record}: its Preferred-Value {value} is not a language, one with a script, or one with a region and a variant"
-        for kind, text in parts_of(value):
-            if not registry.get(kind, text):
-                yield f"{record}: the {kind} {text} of its Preferred-Value {value} is not registered"
-
-
-def preferred_tags_stay(registry: Registry) -> Iterator[str]:
-    """The Preferred-Value of a whole tag has no Preferred-Value itself, neither as a whole nor for one of its subtags."""
-    for record in registry.all(*TAG_TYPES, having="Preferred-Value"):
-        value = record.value("Preferred-Value")
-        for kind, text in [(kind, value) for kind in TAG_TYPES] + parts_of(value):
-            if again := registry.preferred(kind, text):
-                yield f"{record}: of its Preferred-Value {value}, {text} has one itself, {again}"
-
-
-def replaced_tags_are_short(registry: Registry) -> Iterator[str]:
-    """A whole tag that is replaced is not longer than the code allows."""
-    for record in registry.all(*TAG_TYPES, having="Preferred-Value"):
-        if len(record.text) > LONGEST_REPLACED:
-            yield f"{record}: longer than {LONGEST_REPLACED} bytes, with a Preferred-Value"
-
-
-def replaced_tags_end_apart(registry: Registry) -> Iterator[str]:
-    """No two whole tags that are replaced have the same last eight bytes, by which they are looked up."""
-    seen: dict[str, str] = {}
-    for record in registry.all(*TAG_TYPES, having="Preferred-Value"):
-        end = record.text[-8:].lower()
-        if end in seen:
-            yield f"{record}: ends as {seen[end]} does"
-        seen[end] = record.text
-
-
 def whole_tags_are_of_subtags(registry: Registry) -> Iterator[str]:
     """A whole tag consists of subtags of letters and digits."""
     for record in registry.all(*TAG_TYPES):
@@ -120,30 +52,10 @@ def whole_tags_are_of_subtags(registry: Registry) -> Iterator[str]:
             yield f"{record}: not subtags of one to eight letters and digits"
 
 
-def whole_tags_have_one_variant(registry: Registry) -> Iterator[str]:
-    """A whole tag that is grandfathered or replaced has at most one subtag of the class of variants."""
-    for record in registry.all("grandfathered") + registry.all("redundant", having="Preferred-Value"):
-        if sum(is_of("variant", subtag) for subtag in record.text.split("-")) > 1:
-            yield f"{record}: two subtags of the class of variants"
-
-
 def grandfathered_tags_are_those_of_the_grammar(registry: Registry) -> Iterator[str]:
-    """The registry has the grandfathered tags of the grammar. Of the tags with an extended language, only `zh-min` is not
-    replaced."""
+    """The registry has the grandfathered tags of the grammar."""
     for text in sorted(GRANDFATHERED ^ set(registry.kinds["grandfathered"])):
         yield f"grandfathered {text}: in {'the grammar' if text in GRANDFATHERED else 'the registry'} alone"
-    for record in registry.all("grandfathered"):
-        second = record.text.partition("-")[2].partition("-")[0]
-        if is_of("extlang", second) and not record.values("Preferred-Value") and record.text.lower() != "zh-min":
-            yield f"{record}: with an extended language, and without a Preferred-Value"
-
-
-def fields_of_languages_are_of_their_class(registry: Registry) -> Iterator[str]:
-    """A Suppress-Script has the form of a script, and a Macrolanguage that of a language."""
-    for field, kind in (("Suppress-Script", "script"), ("Macrolanguage", "language")):
-        for record in registry.all("language", having=field):
-            if not is_of(kind, record.value(field)):
-                yield f"{record}: its {field} {record.value(field)} is not of the class of a {kind}"
 
 
 def prefixes_of_variants_are_ranges(registry: Registry) -> Iterator[str]:
@@ -163,10 +75,8 @@ def scripts_stay(registry: Registry) -> Iterator[str]:
 
 
 PREMISES = [
-    each_subtag_is_of_its_class, extlangs_are_themselves, extlangs_have_one_prefix, preferred_subtags_are_registered, preferred_subtags_stay,
-    whole_tags_become_simple_ones, preferred_tags_stay, replaced_tags_are_short, replaced_tags_end_apart, whole_tags_are_of_subtags,
-    whole_tags_have_one_variant, grandfathered_tags_are_those_of_the_grammar, fields_of_languages_are_of_their_class,
-    prefixes_of_variants_are_ranges, scripts_stay,
+    each_subtag_is_of_its_class, extlangs_are_themselves, extlangs_have_one_prefix, whole_tags_are_of_subtags,
+    grandfathered_tags_are_those_of_the_grammar, prefixes_of_variants_are_ranges, scripts_stay,
 ]
 
 

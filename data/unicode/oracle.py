@@ -2,6 +2,10 @@
 """Answers rows about the extensions u and t, and about Unicode locale identifiers, by a plain reading of UTS #35, part 1, Annex C. The
 aliases of CLDR are applied until none fits, as the standard says. It shares the data with the crates and with generate.py, but no code.
 
+Intl.Locale (Node 20.20, ICU 78.2) gives other forms for some rare tags: en-x and en-a, which are no tags, for en-x-true and en-a-true; en-u-ca
+for en-u-ca-yes, although CLDR replaces yes only for kb, kc, kh, kk and kn; nsi-Latn for sgn-Latn-NO, which the registry makes nsl-Latn; and
+both fields of en-t-m0-xyz-m0-abc, of which the first counts here. It makes ak and bho of tw and bh, but getCanonicalLocales keeps these.
+
 usage: oracle.py each                     prints rows for everything in the data: each alias, each heir of a region, each language
        oracle.py random COUNT SEED        prints that many rows about random tags
        oracle.py rows < ROWS              prints each row with its answer
