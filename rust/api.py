@@ -1,15 +1,19 @@
 #!/usr/bin/env python3
-"""Lists the public API of the Rust crate, one line an item: functions and methods with their types, fields, variants, constants, and
-the traits of each type. A change of the surface is a change of the list.
+"""Lists the public API of the Rust crate: functions and methods with their types, fields, variants, constants, and the traits of each type.
+A change of the surface is a change of the list. Types with the same traits and fields are a family, whose common members are written once.
+X is the name of the type without Invalid, Buf or Iter, and `as X` names the methods that an owned type has as the borrowed type has them.
+Functions that return a value and no Result have #[must_use], and other functions have not, unless the line says otherwise.
 
     python3 rust/api.py            writes rust/api.txt again; read the changes before you commit it
     python3 rust/api.py --check    says how the crate differs from the list
 
 It reads the JSON of rustdoc, whose form changes with rustc. So it says that it was not run if the form is another.
 """
+import difflib
 import json
 import os
 import pathlib
+import re
 import subprocess
 import sys
 
@@ -104,15 +108,47 @@ def argument(one):
     return f"{name}: {shown}"
 
 
+def with_mark(line, value, item):
+    """Returns the line of a function, which says only if it lacks #[must_use] though it returns a value, or has it though it does not."""
+    is_marked, result = "must_use" in json.dumps(item["attrs"]), value["sig"]["output"]
+    if is_marked == (result is not None and not type_of(result).startswith("Result<")):
+        return line
+    return f"{line} #[must_use]" if is_marked else f"{line} without #[must_use]"
+
+
+def block(head, lines):
+    return [head, *(f"  {line}" for line in lines)] if lines else []
+
+
+class Type:
+    """A type: what it is, its traits, and its members, as lines in which X stands for its own name without Invalid, Buf and Iter."""
+
+    def __init__(self, path, kind):
+        stem = re.sub("^Invalid|Buf$|Iter$", "", path.rpartition("::")[2])
+        self.lends = "fn as" + re.sub("([A-Z])", r"_\1", stem).lower() + "("
+        self.own = re.compile(rf"(?<![A-Za-z])(Invalid)?{stem}(Buf|Iter)?(?![A-Za-z])")
+        self.path, self.kind, self.traits, self.members = path, kind, set(), set()
+
+    def with_x(self, line):
+        return self.own.sub(r"\1X\2", line).replace(self.lends, "fn as_x(")
+
+    def add(self, line):
+        self.members.add(self.with_x(line))
+
+    def family(self):
+        return self.kind, tuple(sorted(map(self.with_x, self.traits))), tuple(sorted(line for line in self.members if line.startswith(".")))
+
+
 class Api:
     def __init__(self, data):
-        self.index, self.lines = data["index"], set()
+        self.index, self.modules, self.types = data["index"], {}, {}
         self.module("langtag", self.index[str(data["root"])])
 
     def item(self, identity):
         return self.index.get(str(identity))
 
     def module(self, path, module):
+        lines = self.modules[path] = []
         for identity in module["inner"]["module"]["items"]:
             item = self.item(identity)
             (kind, value), = item["inner"].items()
@@ -120,60 +156,62 @@ class Api:
             if name == "erased":
                 continue  # it is public only for the examples of its own documentation
             if kind == "use" and value["is_glob"]:
-                self.lines.add(f"{path}: pub use {value['source']}::*")
+                lines.append(f"pub use {value['source']}::*")
                 continue
             if kind == "use":
                 name, item = value["name"], self.item(value["id"])
                 if item is None:
                     raise ValueError(f"no item for {path}::{name}")
                 (kind, value), = item["inner"].items()
-            self.add(f"{path}::{name}", kind, value, item)
+            self.add(path, name, kind, value, item)
 
-    def add(self, path, kind, value, item):
-        marks = "".join(f" #[{mark}]" for mark in ("non_exhaustive", "must_use") if mark in json.dumps(item["attrs"]))
+    def add(self, path, name, kind, value, item):
+        lines = self.modules[path]
         if kind == "module":
-            self.lines.add(f"{path}: mod")
-            self.module(path, item)
+            self.module(f"{path}::{name}", item)
         elif kind == "function":
-            self.lines.add(f"{path}: {function_of(item['name'], value)}{marks}")
+            lines.append(with_mark(function_of(name, value), value, item))
         elif kind in ("constant", "static"):
-            self.lines.add(f"{path}: const {type_of(value['type'])}")
+            lines.append(f"const {name}: {type_of(value['type'])}")
         elif kind == "type_alias":
-            self.lines.add(f"{path}: type = {type_of(value['type'])}")
+            lines.append(f"type {name} = {type_of(value['type'])}")
         elif kind == "trait":
-            self.trait(path, value)
+            lines.append(self.trait(name, value))
         elif kind == "macro":
-            self.lines.add(f"{path}!: macro")
+            lines.append(f"macro {name}!")
         else:
-            self.lines.add(f"{path}: {kind}{generics_of(value['generics'])}{marks}")
-            self.members(path, kind, value)
+            marks = "".join(f" #[{mark}]" for mark in ("non_exhaustive", "must_use") if mark in json.dumps(item["attrs"]))
+            of = Type(f"{path}::{name}".removeprefix("langtag::"), f"{kind}{generics_of(value['generics'])}{marks}")
+            self.types[of.path] = of
+            self.members(of, kind, value)
 
-    def trait(self, path, value):
+    def trait(self, name, value):
         bounds = " + ".join(map(bound_of, value["bounds"]))
-        self.lines.add(f"{path}: trait{generics_of(value['generics'])}{': ' + bounds if bounds else ''}")
+        members = []
         for member in map(self.item, value["items"]):
             (kind, inner), = member["inner"].items()
-            self.lines.add(f"{path}::{member['name']}: {function_of(member['name'], inner) if kind == 'function' else kind}")
+            members.append(function_of(member["name"], inner) if kind == "function" else f"{kind} {member['name']}")
+        return f"trait {name}{generics_of(value['generics'])}{': ' + bounds if bounds else ''} {{ {'; '.join(members)} }}"
 
-    def members(self, path, kind, value):
+    def members(self, of, kind, value):
         fields = value["kind"]["plain"]["fields"] if kind == "struct" and "plain" in value["kind"] else []
         if kind == "struct" and "tuple" in value["kind"]:
             fields = [one for one in value["kind"]["tuple"] if one is not None]
         for field in filter(None, map(self.item, fields)):
-            self.lines.add(f"{path}.{field['name']}: {type_of(field['inner']['struct_field'])}")
-        for variant in map(self.item, value.get("variants", ())):
-            self.lines.add(f"{path}::{variant['name']}: variant{self.fields_of(variant['inner']['variant']['kind'])}")
+            of.add(f".{field['name']}: {type_of(field['inner']['struct_field'])}")
+        if variants := [it["name"] + self.fields_of(it["inner"]["variant"]["kind"]) for it in map(self.item, value.get("variants", ()))]:
+            of.add(f"variants {', '.join(variants)}")
         traits = set()
         for impl in filter(None, map(self.item, value["impls"])):
             inner = impl["inner"]["impl"]
             if inner["trait"] is None:
-                self.methods(path, inner)
+                self.methods(of, inner)
             elif not inner["blanket_impl"] and not inner["is_negative"]:
                 traits.add(path_of(inner["trait"]).replace("<'a>", "").replace("<'_>", ""))
         traits -= AUTO
         auto = {path_of(self.item(one)["inner"]["impl"]["trait"]) for one in value["impls"] if self.item(one) and self.item(one)["inner"]["impl"]["is_synthetic"] and not self.item(one)["inner"]["impl"]["is_negative"]}
         missing = [name for name in MEANT if name not in auto]
-        self.lines.add(f"{path}: impl {' '.join(sorted(traits))}{' but not ' + ' '.join(missing) if missing else ''}")
+        of.traits = traits | {f"not {name}" for name in missing}
 
     def fields_of(self, kind):
         if kind == "plain":
@@ -182,14 +220,33 @@ class Api:
             return f"({', '.join(type_of(self.item(one)['inner']['struct_field']) for one in kind['tuple'])})"
         return " { " + ", ".join(f"{it['name']}: {type_of(it['inner']['struct_field'])}" for it in map(self.item, kind["struct"]["fields"])) + " }"
 
-    def methods(self, path, impl):
+    def methods(self, of, impl):
         for member in filter(None, map(self.item, impl["items"])):
             (kind, inner), = member["inner"].items()
-            marks = " #[must_use]" if "must_use" in json.dumps(member["attrs"]) else ""
             if kind == "function":
-                self.lines.add(f"{path}::{function_of(member['name'], inner)}{marks}")
+                of.add(with_mark(function_of(member["name"], inner), inner, member))
             elif kind == "assoc_const":
-                self.lines.add(f"{path}::{member['name']}: const {type_of(inner['type'])}")
+                of.add(f"const {member['name']}: {type_of(inner['type'])}")
+
+    def own_members(self, of):
+        """Returns the members of a type. Methods that an owned type has as the borrowed type has them are one line."""
+        borrowed = self.types.get(of.path.removesuffix("Buf"), of)
+        lent = {line.replace("(self", "(&self").replace("&'a ", "&").replace("'a", "'_") for line in borrowed.members} & of.members if borrowed is not of else set()
+        names = sorted(re.findall(r"fn (\w+)", line)[0] for line in lent)
+        return of.members - lent | ({f"as X: {' '.join(names)}"} if names else set())
+
+    def told(self):
+        """Yields the lines of the list: the modules, and the types in families, which have the same traits."""
+        for path, lines in sorted(self.modules.items()):
+            yield from block(path, sorted(lines))
+        families = {}
+        for of in self.types.values():
+            families.setdefault(of.family(), []).append((of.path, self.own_members(of)))
+        for (kind, traits, _), types in sorted(families.items(), key=lambda it: min(it[1])[0]):
+            common = set.intersection(*(members for _, members in types))
+            yield from block(" ".join(sorted(path for path, _ in types)), [f"{kind}: {' '.join(traits)}", *sorted(common)])
+            for path, members in sorted(types):
+                yield from block(path, sorted(members - common))
 
 
 def main(arguments):
@@ -197,14 +254,14 @@ def main(arguments):
     if data["format_version"] != FORMAT:
         print(f"api: not run: rustdoc writes the form {data['format_version']}, and this program reads {FORMAT}")
         return False
-    lines = sorted(Api(data).lines)
+    lines = list(Api(data).told())
     if arguments != ["--check"]:
         LISTED.write_text("\n".join(lines) + "\n")
         return False
     listed = LISTED.read_text().splitlines()
-    for line in sorted(set(lines) ^ set(listed)):
-        print(f"api: {'not listed' if line in lines else 'no more there'}: {line}")
-    print(f"api: {len(lines)} items")
+    for line in difflib.unified_diff(listed, lines, "listed", "in the crate", lineterm=""):
+        print(f"api: {line}")
+    print(f"api: {len(lines)} lines")
     return lines != listed
 
 

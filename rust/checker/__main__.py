@@ -20,6 +20,7 @@ from marks import without_derives, without_imports, without_marks
 from words import without_layout, words_of
 
 LAWS = "laws"
+OF_SOURCE = {"path", "error", "let chain", "shown elsewhere"}  # kinds that the source alone decides, so their number says nothing
 RUST = HERE.parent
 SOURCES = RUST.parent / "crates"
 
@@ -89,12 +90,17 @@ class Checker:
         return self
 
     def all_faults(self, listed):
-        """Returns the faults of the files that were checked, with those of their counts. `listed` is the text of counts.txt."""
-        checked = [line for line in listed.splitlines() if line.partition(": ")[0] in self.counts]
-        return self.faults + list(stale_counts(self.told(), "\n".join(checked)))
+        """Returns the faults of the files, with those of the counts. `listed` is the text of counts.txt."""
+        return self.faults + list(stale_counts(self.told(), listed))
 
     def told(self):
-        return "".join(f"{file}: {line_of(counts)}\n" for file, counts in sorted(self.counts.items()))
+        """Returns the lines of counts.txt: how often the files of each module have each kind."""
+        modules = collections.defaultdict(collections.Counter)
+        for file, counts in self.counts.items():
+            for form, count in counts.items():
+                kind, is_import, _ = self.names.get(form, form).partition(" use ")
+                modules[pathlib.Path(file).parent][kind + is_import.rstrip()] += 0 if kind in OF_SOURCE else count
+        return "".join(f"{module}: {line_of(counts)}\n" for module, counts in sorted(modules.items()))
 
 
 def faults_of_laws(path, ghosts):
@@ -129,14 +135,13 @@ def main(arguments):
     checker, listed = Checker().run(), HERE / "counts.txt"
     if arguments == ["--count"]:
         listed.write_text(checker.told(), encoding="utf-8")
-    text = listed.read_text(encoding="utf-8")
-    faults = checker.all_faults(text) + [f"counts.txt: no file: {line}" for line in text.splitlines() if line.partition(": ")[0] not in checker.counts]
+    faults = checker.all_faults(listed.read_text(encoding="utf-8"))
     used = {name for counts in checker.counts.values() for name in counts if counts[name]}
-    faults += [f"kinds.txt: no file has a {name}" for name in checker.names if name not in used]
+    faults += [f"kinds.txt: no file has a {form}" for form in checker.names if form not in used]
     for fault in faults:
         print(f"rust/checker: {fault}")
     total = sum(sum(counts.values()) for counts in checker.counts.values())
-    print(f"rust/checker: {len(checker.counts)} files, {total} differences of {len(used)} kinds (at most {LIMIT}), {len(faults)} faults")
+    print(f"rust/checker: {len(checker.counts)} files, {total} differences of {len(used)} forms (at most {LIMIT}), {len(faults)} faults")
     print(f"rust/checker: taken out as ghost: {line_of(checker.ghosts)}")
     return bool(faults)
 

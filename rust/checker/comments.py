@@ -18,6 +18,7 @@ PATH = re.compile(r"(?:\b(?:crate|langtag\w*)::)(?:[a-z_]+::)*(?=[\w{])")
 CLAIM = re.compile(r":\s`([A-Z]\w*::[^`]+)`\sis\s`([^`]+)`\.")
 # A value in a comment behind an expression becomes an assertion.
 VALUE = re.compile(r"""^(?!\s*let )[^"]*(?:"[^"]*"[^"]*)*;\s+// (?:b?["']|\d|true\b|false\b|None\b|(?:Some|Ok|Err)?\(|[A-Z]\w*::\w)""")
+SAME = re.compile(r"\bassert(?:_eq)?!\((.+)(?:, | == )\1\)")
 ASSERTION = re.compile(r"\bassert(?:_eq|_ne)?!|\bmatches!\(rt;")
 
 
@@ -33,6 +34,8 @@ class Doc:
             if self.is_code:
                 self.fences.append([text.strip()[3:], 0])
         elif self.is_code:
+            if SAME.search(text):
+                raise Difference(f"line {self.line}: an assertion compares a value with itself: {text.strip()}")
             self.fences[-1][1] += any(form.search(text) for form in ((ASSERTION, VALUE) if self.fences[-1][0] else self.counted))
         else:
             self.text.append(text.strip())
@@ -49,14 +52,8 @@ class Doc:
             self.text, self.fences = [text], [["", count]]
 
 
-def as_said(found):
-    """Returns what is said to be proved. The Rust crate itself is not proved, so its comments only say it."""
-    return found[1][0].upper() + re.sub(r"(,(?: and)?) that\b", r"\1", found[1][1:])
-
-
 def words_in(text):
-    text = re.sub(r"It is (?:also )?proved that (?!its bytes)(.*?\.)(?=\s|$)", as_said, " ".join(text.split()))
-    text = re.sub(r"\btry_(from_parts|lenient)\b", r"\1", text)
+    text = re.sub(r"\btry_(from_parts|lenient)\b", r"\1", " ".join(text.split()))
     text = re.sub(rf"\[({SECTION}|`[\w:]+`)\]", r"\1", PATH.sub("", text))
     return re.sub(r"\balloc, |, alloc\b(?=\))|(?<=\()alloc(?=\))", "", text).split()
 

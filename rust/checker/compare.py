@@ -34,7 +34,7 @@ def step(kind, old, at, new, to, kinds, counts):
     for name, words in taken[1].items():
         if name in given[1]:
             compare(words, given[1][name], kinds, counts)
-    counts[kind.name] += 1
+    counts[kind.form] += 1
     return taken[0], given[0]
 
 

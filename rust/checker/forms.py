@@ -13,10 +13,8 @@ CRATES = {
     "langtag_private": "private",
     "langtag": "tag",
     "langtag_range": "range",
-    "langtag_header": "header",
     "langtag_match": "matching",
     "langtag_fields": "fields",
-    "langtag_validity": "validity",
     "langtag_canonical": "canonical",
     "langtag_registry": "registry",
     "langtag_cldr": "cldr",
@@ -36,8 +34,6 @@ ELSEWHERE = {"langtag_c": "../c/src"}
 BY_HAND = ["bin", "bin/langtag", "erased", "names"]
 # The modules that also export what other crates export.
 SHOWING = {"langtag_unicode": ["langtag_locale"], "langtag_likely": ["langtag_posix", "langtag_parent"]}
-# The error whose message ends with a suggestion, which is written by hand.
-SUGGESTING = "InvalidSubtag"
 # The errors whose message ends with the refused text, which src/message.rs writes: all whose parameter is a text. That of
 # InvalidLangTag also says why.
 REFUSED = {"InvalidLangTag": "write_tag"}
@@ -101,8 +97,6 @@ def with_impls(item):
         body = f"f.write_str({messages[0][2]})"
     else:
         body = "match self {" + ",".join(arm(name, *message) for message in messages) + "}"
-    if name == SUGGESTING:
-        body += "?; self.write_suggestion(f)"
     lifetime = parameter.startswith("'")
     type_ = f"{name}<'_>" if lifetime else f"{name}<{parameter}>" if parameter else name
     generics, bound = ("", "") if lifetime or not parameter else (f"<{parameter}>", f"<{parameter}: fmt::Debug>")

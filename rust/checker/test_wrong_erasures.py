@@ -24,40 +24,49 @@ WRONG = {
     "a `?` is lost": ("erased/tag/text_of_parts.rs", "whole.try_push_str(language)?;", "let _ = whole.try_push_str(language);"),
     "allocation ends the program": ("erased/place/region.rs", "try_string(self.as_str())?", "String::from(self.as_str())"),
     "a growth is not asked for": ("erased/tag/text_of_parts.rs", "whole.try_push_str(", "whole.push_str("),
-    "from_checked is public": ("erased/place/script.rs", "pub(crate) fn from_checked", "pub fn from_checked"),
+    "from_checked is public": ("erased/place/script.rs", "pub(crate) const fn from_checked", "pub const fn from_checked"),
     "a message is another": ("erased/place/variant.rs", '"invalid variant"', '"invalid variants"'),
-    "a message has another variant": ("erased/validity/invalid_subtag.rs", "InvalidSubtag::Script(value)", "InvalidSubtag::Region(value)"),
+    "a message has another variant": ("erased/registry/invalid_subtag.rs", "InvalidSubtag::Script(value)", "InvalidSubtag::Region(value)"),
     "a type is compared by derives": ("erased/tag/lang_tag.rs", "by_text!(LangTag<'_>);", ""),
     "a derive is lost": ("erased/place/script.rs", "PartialOrd, Ord, Hash)]\npub struct Script<", "PartialOrd, Ord)]\npub struct Script<"),
     "a derive is added": ("erased/place/script.rs", "PartialOrd, Ord, Hash)]\npub struct Script<", "PartialOrd, Ord, Hash, Default)]\npub struct Script<"),
     "an import is public": ("erased/place/script.rs", "use crate::erased::scan::{is_script,", "pub use crate::erased::scan::{is_script,"),
     "an import is added": ("erased/place/script.rs", "use core::fmt;\n", "use core::fmt;\nuse core::mem;\n"),
-    "an attribute is lost": ("erased/scan/class.rs", "#[must_use]\npub fn is_script", "pub fn is_script"),
+    "an attribute is lost": ("erased/scan/class.rs", "#[must_use]\npub const fn is_script", "pub const fn is_script"),
     "a name is imported from elsewhere": ("erased/place/script.rs", "use crate::erased::scan::{is_script,", "use crate::erased::scan::{is_region as is_script,"),
     "a chain of conditions has an else": ("erased/extension/singleton.rs", "return Ok(singleton);\n            }\n", "return Ok(singleton);\n            } else { return Ok(Singleton { byte: 0 }); }\n"),
-    "a feature turns an item off": ("erased/scan/class.rs", "#[inline]\n#[must_use]\npub fn is_script", '#[cfg(feature = "alloc")]\n#[inline]\n#[must_use]\npub fn is_script'),
+    "a feature turns an item off": ("erased/scan/class.rs", "#[inline]\n#[must_use]\npub const fn is_script", '#[cfg(feature = "alloc")]\n#[inline]\n#[must_use]\npub const fn is_script'),
     "a feature is turned": ("erased/place/script.rs", '#[cfg(feature = "alloc")]\nimpl ScriptBuf', '#[cfg(not(feature = "alloc"))]\nimpl ScriptBuf'),
     "a feature stands before a statement": ("erased/place/script.rs", "        if !is_script", '        #[cfg(feature = "alloc")]\n        if !is_script'),
+    "a feature stands before an item in a body": ("erased/place/script.rs", "        if !is_script", '        #[cfg(feature = "alloc")]\n        const ROOM: usize = 1;\n        if !is_script'),
+    "an argument of a call in another form is another": ("erased/place/script.rs", "try_string(self.as_str())?", "try_string(self.as_str().trim())?"),
+    "a function is no longer const": ("erased/place/script.rs", "pub(crate) const fn from_checked", "pub(crate) fn from_checked"),
+    "a type may get no more members": ("erased/unicode/unicode_extension.rs", "#[non_exhaustive]\n", ""),
+    "a type has to be used": ("erased/place/script.rs", "pub struct Script<", "#[must_use]\npub struct Script<"),
+    "a copy of an error is added": ("erased/place/script.rs", "#[derive(Debug, Clone, Copy, PartialEq, Eq, Hash)]\npub struct InvalidScript", "#[derive(Debug, Clone, Copy, PartialEq, Eq, Hash, Ord)]\npub struct InvalidScript"),
+    "an import is lost": ("erased/place/script.rs", "use core::fmt;\n", ""),
     "an item is added": ("erased/tag/kind.rs", "impl Kind {", "impl Drop for Held {\n    fn drop(&mut self) {}\n}\n\nimpl Kind {"),
     "a file has another source": ("erased/place/script.rs", "langtag_place/src/script.rt", "langtag_place/src/region.rt"),
     "a call for C answers otherwise": ("../c/src/calls/compare.rs", "Ordering::Less => -1", "Ordering::Less => 1"),
     "bytes that are no tag are empty": ("erased/tag/lang_tag.rs", "return Err(InvalidLangTag(bytes));\n        };\n        Ok", "return Ok(LangTag::EMPTY);\n        };\n        Ok"),
     "an example is lost": ("erased/place/script.rs", 'assert!(Script::new("Latn").is_ok());\n', "\n"),
     "an assertion stays a comment": ("erased/place/script.rs", 'assert!(Script::new("Latn").is_ok());', 'Script::new("Latn").is_ok(); // true'),
+    "an assertion compares a value with itself": ("erased/place/script.rs", 'assert!(Script::new("Latn").is_ok());', 'assert_eq!(Script::new("Latn"), Script::new("Latn"));'),
     "an example is not run": ("erased/place/script.rs", "/// ```\n", "/// ```ignore\n"),
     "an example is no example": ("erased/tag/kind.rs", "/// ```\n", "/// ~~~\n"),
     "a comment says otherwise": ("erased/place/script.rs", "/// Returns", "/// Never returns"),
     "a comment is lost": ("erased/tag/kind.rs", "    /// Returns", "    // Returns"),
-    "a comment is added": ("erased/scan/class.rs", "#[inline]\n#[must_use]\npub fn is_script", "// Any four bytes.\n#[inline]\n#[must_use]\npub fn is_script"),
+    "a comment is added": ("erased/scan/class.rs", "#[inline]\n#[must_use]\npub const fn is_script", "// Any four bytes.\n#[inline]\n#[must_use]\npub const fn is_script"),
     "a link leads elsewhere": ("erased/scan/recogniser.rs", "rfc5646#section-2.1", "rfc5646#section-2.2"),
-    "a comment in a comment hides code": ("erased/scan/class.rs", "#[inline]\n#[must_use]\npub fn is_script", "/* /* */\n#[inline]\n#[must_use]\npub fn is_script"),
+    "a comment in a comment hides code": ("erased/scan/class.rs", "#[inline]\n#[must_use]\npub const fn is_script", "/* /* */\n#[inline]\n#[must_use]\npub const fn is_script"),
     "a folder is added": ("extra/mod.rs", None, "pub fn script(text: &str) -> crate::Script<'_> {\n    crate::Script::from_checked(text)\n}\n"),
     "a folder is added to the C library": ("../c/src/extra/mod.rs", None, "pub fn extra() {}\n"),
     "a file is added": ("erased/place/extra.rs", None, "pub fn extra() {}\n"),
 }
 
 # These are refused whatever counts.txt says.
-OF_NO_KIND = ("a derive is added", "an import is added", "an import is public", "an assertion stays a comment")
+OF_NO_KIND = ("a derive is added", "an import is added", "an import is public", "an assertion stays a comment",
+              "a feature stands before an item in a body", "a type has to be used")
 
 
 def checker_module():
@@ -67,7 +76,8 @@ def checker_module():
     return module
 
 
-def is_refused(checker, folder, wrong, file, old, new):
+def is_refused(checker, counts, folder, wrong, file, old, new):
+    """Returns whether a fault is refused. `counts` are those of all files without it."""
     path = folder / file
     if old is None:
         return is_addition_refused(checker, folder, path, new)
@@ -77,6 +87,7 @@ def is_refused(checker, folder, wrong, file, old, new):
     path.write_text(text.replace(old, new, 1), encoding="utf-8")
     run = checker.Checker(modules=folder).run(only=path)
     path.write_text(text, encoding="utf-8")
+    run.counts = {**counts, **run.counts}
     faults = run.all_faults((HERE / "counts.txt").read_text(encoding="utf-8"))
     return bool(run.faults if wrong in OF_NO_KIND else faults)
 
@@ -106,8 +117,9 @@ def main():
         folder = pathlib.Path(name) / "src"
         for part in ("src", "c/src"):
             shutil.copytree(checker.RUST / part, pathlib.Path(name) / part)
+        counts = checker.Checker(modules=folder).run().counts
         for wrong, (file, old, new) in WRONG.items():
-            if not is_refused(checker, folder, wrong, file, old, new):
+            if not is_refused(checker, counts, folder, wrong, file, old, new):
                 passed.append(wrong)
                 print(f"wrong erasures: NOT REFUSED: {wrong} ({file})")
         if not is_law_refused(checker, pathlib.Path(name)):

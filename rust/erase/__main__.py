@@ -25,7 +25,7 @@ from tokens import Code
 RUST = pathlib.Path(__file__).resolve().parent.parent
 CRATES = RUST.parent / "crates"
 LIST = "c/src/erased.rs"  # the modules that the C library shares with the Rust crate
-USED_BY_HAND = ["state", "recognised"]  # modules that src/constants.rs also uses
+USED_BY_HAND = ["ends", "state", "recognised"]  # modules that src/constants.rs also uses
 LAWS = "laws"  # the module of a crate that has only contracts: its functions do nothing, and nothing calls them
 
 

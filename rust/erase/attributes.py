@@ -3,7 +3,7 @@
 
 # Types that may get more fields or variants.
 GROWING = {
-    "AcceptLanguageError", "BestMatch", "EditError", "ElementPart", "InvalidSubtag", "KeyValue", "KeywordError", "PosixError",
+    "AcceptLanguageError", "BestMatch", "EditError", "ElementPart", "KeyValue", "KeywordError", "PosixError",
     "Refusal", "RefusalKind", "SetKeywordError",
 }
 
@@ -38,8 +38,19 @@ DERIVED = {
     "WeightedRange": "Hash",
 }
 
-# Functions that rustc can also call when it compiles, by file: LangTag::from_static rests on them.
-CONST = {"lang_tag": {"with_found", "as_str"}, "state": {"start", "after", "after_class", "part_before", "ending"}}
+# Those of the errors that contain only the refused text.
+REFUSING = "Clone, Copy, PartialEq, Eq, Hash"
+
+# Functions that rustc can also call when it compiles, by file: `from_static` of tags and parts rests on them.
+CONST = {
+    "class": {"is_letter", "is_digit", "are_letters", "are_digits", "is_primary", "is_script", "is_region"},
+    "ends": {"new", "set", "ends", "later"},
+    "lang_tag": {"with_found", "as_str"},
+    "primary_language": {"from_checked"},
+    "region": {"from_checked"},
+    "script": {"from_checked"},
+    "state": {"start", "after", "after_class", "part_before", "ending"},
+}
 
 # The types whose methods take `self`, since they are `Copy`: so `.map(Script::as_str)` is possible.
 VALUES = set("""
@@ -85,7 +96,7 @@ def add_attributes(code, source):
     place = 0
     while place < len(code):
         if code[place] == "pub" and code[keyword := after_visibility(code, place)] in ("struct", "enum"):
-            place = add_to_type(code, place, code[keyword + 1])
+            place = add_to_type(code, place, code[keyword + 1], code[keyword])
         elif code[place] == "fn" and code[place + 1] in CONST.get(source.stem, ()):
             place = code.replace(place, place + 1, "const fn")
         place += 1
@@ -111,9 +122,10 @@ def after_visibility(code, place):
     return code.after(place + 1) if code[place + 1] == "(" else place + 1
 
 
-def add_to_type(code, place, name):
+def add_to_type(code, place, name, keyword):
     """Adds attributes before a type, and returns its new place."""
-    new = f"#[derive({DERIVED[name]})]\n" if name in DERIVED else ""
+    derived = REFUSING if keyword == "struct" and name.startswith("Invalid") else DERIVED.get(name)
+    new = f"#[derive({derived})]\n" if derived else ""
     new += "#[non_exhaustive]\n" if name in GROWING else ""
     return code.replace(place, place, new) if new else place
 

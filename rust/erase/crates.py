@@ -18,10 +18,8 @@ MODULES = [
     Module("langtag_private", "src/erased/private", "crate::erased::private"),
     Module("langtag", "src/erased/tag", "crate::erased::tag"),
     Module("langtag_range", "src/erased/range", "crate::erased::range"),
-    Module("langtag_header", "src/erased/header", "crate::erased::header"),
     Module("langtag_match", "src/erased/matching", "crate::erased::matching"),
     Module("langtag_fields", "src/erased/fields", "crate::erased::fields"),
-    Module("langtag_validity", "src/erased/validity", "crate::erased::validity"),
     Module("langtag_canonical", "src/erased/canonical", "crate::erased::canonical"),
     Module("langtag_registry", "src/erased/registry", "crate::erased::registry"),
     Module("langtag_cldr", "src/erased/cldr", "crate::erased::cldr"),
@@ -44,13 +42,13 @@ PUBLIC = {"scan", "matching", "registry", "likely", "choice", "unicode"}
 # EXPORTED_BY, the other Rattle crate has them.
 SHOWN_IN = {"langtag_locale": "langtag_unicode", "langtag_posix": "langtag_likely", "langtag_parent": "langtag_likely"}
 EXPORTED_BY = {
-    "langtag_keyword": "langtag_unicode", "langtag_text": "langtag_scan", "langtag_header": "langtag_match", "langtag_fields": "langtag_registry",
-    "langtag_validity": "langtag_registry", "langtag_canonical": "langtag_registry", "langtag_cldr": "langtag_likely",
+    "langtag_keyword": "langtag_unicode", "langtag_text": "langtag_scan", "langtag_fields": "langtag_registry",
+    "langtag_canonical": "langtag_registry", "langtag_cldr": "langtag_likely",
 }
 
 # The crates whose modules need the feature `data`, and those of the C library. In a module of another crate every function is inlined.
 WITH_DATA = {
-    "langtag_fields", "langtag_validity", "langtag_canonical", "langtag_registry", "langtag_cldr", "langtag_likely", "langtag_posix", "langtag_parent", "langtag_choice",
+    "langtag_fields", "langtag_canonical", "langtag_registry", "langtag_cldr", "langtag_likely", "langtag_posix", "langtag_parent", "langtag_choice",
     "langtag_keyword", "langtag_unicode", "langtag_locale",
 }
 OF_C = {"langtag_c"}
@@ -64,6 +62,7 @@ REPLACED = set("""
     write_from_posix to_posix write_to_posix extensions_form write_extensions_form locale_form write_locale_form write_with_keyword
     write_without_keyword Site suitable_for_header
     suitable_for_ranges suitable_among write_suitable set_keyword remove_keyword SetKeywordError iter_extension parent nth_parent Parents
+    InvalidSubtag validate
 """.split())
 HIDDEN = set("""
     put_part is_among_first Part Replacement Keys element_at is_empty_element listed_range locale_place split_wanted weight_of

@@ -14,21 +14,11 @@ ASSERTED = re.compile(rf"(?P<code>(?!let ).*\S);\s+// (?P<value>{VALUE})(?:[:,.;
 def erase_docs(code, module):
     for place, token in enumerate(code.tokens):
         if "///" in token.before or "//!" in token.before:
-            before = with_names(with_additions(without_proofs(token.before)), module)
+            before = with_names(with_additions(token.before), module)
             if "try_to_owned" not in [it.text for it in code.tokens[place : place + 12]]:
                 before = with_usual_calls(before)
             before = with_examples(with_claims(before, module))
             token.before = narrowed(with_links(before) if token.text in ("pub", "#") and "//!" not in before else before)
-
-
-SPACE = r"(?: |\n\s*//[/!] )"
-PROVED = re.compile(f"It{SPACE}is(?:{SPACE}also)?{SPACE}proved{SPACE}that{SPACE}(?!its{SPACE}bytes)(.*?\\.(?=\\s))", re.DOTALL)
-THAT = re.compile(f"(,(?:{SPACE}and)?){SPACE}that\\b")
-
-
-def without_proofs(text):
-    """Changes each sentence that says what is proved of the source to one that says it. The Rust crate itself is not proved."""
-    return PROVED.sub(lambda it: it[1][0].upper() + THAT.sub(r"\1", it[1][1:]), text)
 
 
 # The end of a doc comment's paragraph, and what only users of the Rust crate need to know.
@@ -176,10 +166,15 @@ def with_examples(before):
     return "\n".join(out)
 
 
+SAME = re.compile(r"assert(?:_eq)?!\((.+)(?:, | == )\1\)")
+
+
 def doc_test(lines, mark):
     """Returns the lines of an example in a `main` that returns a Result. A value in a comment after an expression becomes an
     assertion."""
     lines = [re.sub(r"assert(_eq|_ne|)!\(rt; ", r"assert\1!(", line) for line in lines]
+    if same := [line for line in lines if SAME.search(line) or re.search(r"(\S.*);\s+// \1$", line)]:
+        raise SystemExit(f"erase: both sides are the same:{same[0]}")
     lines = [part for line in lines for part in broken(asserted(line))]
     if any(can_fail(line) for line in lines):
         return [mark + "# fn main() -> Result<(), Box<dyn std::error::Error>> {", *lines, mark + "# Ok(())", mark + "# }"]

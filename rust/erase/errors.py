@@ -4,15 +4,27 @@ import re
 
 from tokens import words_of
 
-# The types whose `Debug` is in src/shim.rs. That of a string is written by a macro of that file.
-SHOWN = {"Caseless", "Singleton"}
-
-# The errors whose message ends with a suggestion, which src/suggestion.rs writes.
-SUGGESTING = {"InvalidSubtag"}
+# The types whose `Debug` is in src/shim.rs or src/shown.rs. That of a string is written by a macro of src/shim.rs.
+SHOWN = {"BestMatch", "Caseless", "Singleton", "WantedRange"}
 
 # The errors for a refused text, whose message ends with that text (src/message.rs), and the one that also says where it is wrong.
 REFUSING, LOCATING = "Invalid", "InvalidLangTag"
 WITHOUT_TEXT = {"InvalidSingleton"}  # it may contain a byte or a character
+
+# The errors that own the refused text in Rust, where a call returns a value that does not borrow the text, or `?` needs it.
+HEADER = "header: &'a str,"  # a field, and elsewhere a parameter
+OWNING = [
+    ("pub enum PosixError<'a>", "pub enum PosixError"),
+    ("NoTag(&'a str)", "NoTag(String)"),
+    ("impl<'a> From<AllocError> for PosixError<'a>", "impl From<AllocError> for PosixError"),
+    ("PosixError<'_>", "PosixError"),
+    ("PosixError::NoTag(name)", "PosixError::NoTag(try_string(name)?)"),
+    ("AcceptLanguageError<'a>", "AcceptLanguageError"),
+    ("AcceptLanguageError<'_>", "AcceptLanguageError"),
+    ("AcceptLanguageError<'h>", "AcceptLanguageError"),
+    (HEADER, "header: String,"),
+    ("BadElement { header, index: bad", "BadElement { header: try_string(header)?, index: bad"),
+]
 
 # The arms of variants whose message contains a part of a refused text.
 NAMED = {
@@ -53,6 +65,9 @@ class Item:
 
 
 def erase_derives(code):
+    for old, new in OWNING:
+        if old != HEADER or code.find("pub enum AcceptLanguageError") >= 0:
+            code.rewrite(old, new)
     place = 0
     while (place := code.find("#[derive", place)) >= 0:
         traits = [token.text for token in code.tokens[place + 4 : code.after(place + 1) - 2] if token.text != ","]
@@ -75,8 +90,6 @@ def write_error_impls(code, place):
     item = Item(code, place)
     body = message_of_struct(code, place, item) if item.kind == "struct" else messages_of_enum(code, item)
     item = Item(code, place)
-    if item.name in SUGGESTING:
-        body = f"{body}?; self.write_suggestion(f)"
     bounds = (f"<{item.parameter}>", f"<{item.parameter}: fmt::Debug>") if item.parameter else ("", "")
     if item.parameter and item.name.startswith(REFUSING) and item.name not in WITHOUT_TEXT:
         body += f"?; crate::message::{'write_tag' if item.name == LOCATING else 'write_text'}(f, self.0.as_ref())"

@@ -61,7 +61,10 @@ fn choose<'s>(site: &'s Site<LangTagBuf>, request: &Request<'_>) -> &'s LangTagB
     // `==` ignores case, so `?lang=ZH-hans` finds `zh-Hans`.
     let wanted = request.query.strip_prefix("lang=");
     let named = wanted.and_then(|wanted| site.tags().iter().find(|tag| *tag == wanted));
-    let best = || site.best_for_header(request.accept_language?);
+    let header = request
+        .accept_language
+        .map(|header| header.get(..1000).unwrap_or(header));
+    let best = || site.best_for_header(header?);
     named.or_else(best).unwrap_or(&site.tags()[0])
 }
 

@@ -101,13 +101,23 @@ macro_rules! asked {
         }
 
         #[cfg(feature = "alloc")]
-        impl<'k> Borrow<dyn CaselessText + 'k> for $owned {
+        asked!(of $owned: this => this);
+        #[cfg(feature = "alloc")]
+        asked!(of alloc::boxed::Box<$owned>: this => &**this);
+        #[cfg(feature = "alloc")]
+        asked!(of alloc::rc::Rc<$owned>: this => &**this);
+        #[cfg(all(feature = "alloc", target_has_atomic = "ptr"))]
+        asked!(of alloc::sync::Arc<$owned>: this => &**this);
+    )+};
+    (of $key:ty: $this:ident => $text:expr) => {
+        impl<'k> Borrow<dyn CaselessText + 'k> for $key {
             #[inline]
             fn borrow(&self) -> &(dyn CaselessText + 'k) {
-                self
+                let $this = self;
+                $text
             }
         }
-    )+};
+    };
 }
 
 for_text_types!(asked);

@@ -35,7 +35,19 @@ pub use crate::site::Site;
 /// Returns the index of the best tag for an `Accept-Language` header ([RFC 9110 section 12.5.4]),
 /// or `None` if no tag is suitable.
 ///
-/// A malformed element is read as far as possible: `de_CH` as `de-CH`.
+/// The range with the greatest weight that has a tag at a [`distance`] below 16 is served by its
+/// nearest tag. If there is no such range, the limit is 50, and after that, lookup is tried (RFC
+/// 4647 section 3.4). A tag whose longest matching range has the weight 0 is never chosen. A range
+/// `*` chooses nothing, so the program's default is used.
+///
+/// Among tags at the same distance, the best has the most variants of the range. If several have as
+/// many, it is the tag for which lookup removes the fewest subtags, then a tag with the most likely
+/// region of its language, then one of CLDR's paradigm locales, such as `es-419`, then the first. So
+/// list the tags in the order that you prefer.
+///
+/// A malformed element is read as far as possible: `de_CH` as `de-CH`. Time is at most proportional
+/// to the length of the header times the length of the tags. Limit the header to 8 KiB, as most
+/// servers do.
 ///
 /// ```
 /// use langtag::choice::best_for_header;
@@ -222,6 +234,7 @@ pub fn suitable_among<'a>(
 /// let tracks = ["en", "fr", "de", "de-AT"];
 /// assert_eq!(write_suitable(&b"de-CH,fr;q=0.7"[..], &tracks, &mut found), [2, 3]);
 /// ```
+#[must_use]
 pub fn write_suitable<'a, 'f>(
     ranges: impl RangeList<'a>,
     tags: &(impl TagList + ?Sized),
@@ -233,8 +246,13 @@ pub fn write_suitable<'a, 'f>(
 
 /// Returns the distance from the tag that a user wants to the tag that a site has.
 ///
-/// It is 0 if language, script and region are equal, and [`FORMLESS_DISTANCE`] if the tags differ
-/// and one of them has no known language.
+/// It is 0 if language, script and region are equal, with their likely subtags: from `zh-TW` to
+/// `zh-Hant`. Up to 15, it is the same language, perhaps in another region or script, or one that
+/// is nearly the same. Below 50, most users of the desired language read the supported one. It is
+/// at most 134, or [`FORMLESS_DISTANCE`] if the tags differ and one of them is only `und`, is a
+/// private-use tag, or is `i-default`, `i-enochian` or `i-mingo`. Variants, extensions and private
+/// use are ignored. A tag that the registry replaces as a whole is compared as its replacement:
+/// `i-klingon` as `tlh`, `zh-hakka` as `hak`.
 ///
 /// The distance is not symmetric: users of `gsw` read `de`, but not the reverse.
 ///
@@ -252,29 +270,8 @@ pub fn distance<'a, 'b>(desired: impl Into<LangTag<'a>>, supported: impl Into<La
     choice::distance(desired.into(), supported.into())
 }
 
-impl fmt::Debug for choice::PreparedTag<'_> {
-    fn fmt(&self, f: &mut fmt::Formatter<'_>) -> fmt::Result {
-        f.debug_tuple("PreparedTag").field(&self.tag()).finish()
-    }
-}
-
 impl fmt::Debug for PreparedForm {
     fn fmt(&self, f: &mut fmt::Formatter<'_>) -> fmt::Result {
         f.debug_struct("PreparedForm").finish_non_exhaustive()
-    }
-}
-
-impl fmt::Debug for choice::Site<'_, '_> {
-    fn fmt(&self, f: &mut fmt::Formatter<'_>) -> fmt::Result {
-        f.debug_tuple("Site").field(&self.tags()).finish()
-    }
-}
-
-#[cfg(feature = "alloc")]
-impl fmt::Debug for choice::OwnedSite<'_> {
-    fn fmt(&self, f: &mut fmt::Formatter<'_>) -> fmt::Result {
-        f.debug_tuple("OwnedSite")
-            .field(&self.as_site().tags())
-            .finish()
     }
 }

@@ -1,7 +1,9 @@
 //! Tags that rustc checks when it compiles a program.
+use crate::erased::scan::ends::Marks;
 use crate::erased::scan::state::{Ending, State};
+use crate::erased::scan::{is_primary, is_region, is_script};
 use crate::erased::tag::recognised::Recognised;
-use crate::{Ends, LangTag, GRANDFATHERED};
+use crate::{LangTag, PrimaryLanguage, Region, Script, GRANDFATHERED};
 
 /// Returns a [`LangTag`] that rustc has checked: a string that is not a tag is an error of rustc.
 ///
@@ -56,18 +58,16 @@ impl LangTag<'static> {
 }
 
 /// Returns what the recogniser finds in bytes. rustc can call no method of a trait when it compiles,
-/// so this reads a slice, with the states of the recogniser.
+/// so this loop reads a slice. Each step is a call of the proved recogniser.
 const fn recognised(bytes: &[u8]) -> Option<Recognised> {
-    let mut state = State::start();
-    // Where each part has ended, in the order of `Ends`, and last what ends no part.
-    let mut places = [0; 6];
+    let (mut state, mut marks) = (State::start(), Marks::new());
     let mut index = 0;
     while index < bytes.len() {
         let Some(next) = state.after(bytes[index]) else {
             return None;
         };
         state = next;
-        places[state.part_before()] = index;
+        marks.set(state.part_before(), index);
         index += 1;
     }
     match state.ending() {
@@ -75,33 +75,41 @@ const fn recognised(bytes: &[u8]) -> Option<Recognised> {
         Ending::PrivateUse => Some(Recognised::PrivateUse),
         Ending::Irregular(index) => Some(Recognised::Irregular(GRANDFATHERED[index])),
         Ending::Normal(last) => {
-            places[last] = bytes.len();
-            Some(Recognised::Normal(ends(places, bytes.len())))
+            marks.set(last, bytes.len());
+            Some(Recognised::Normal(marks.ends(bytes.len())))
         }
     }
 }
 
-/// Returns the ends of the parts. An absent part ends where the previous part ends.
-const fn ends(places: [usize; 6], whole: usize) -> Ends {
-    let language = places[0];
-    let script = later(places[1], language);
-    let region = later(places[2], script);
-    let variants = later(places[3], region);
-    let extensions = later(places[4], variants);
-    Ends {
-        language,
-        script,
-        region,
-        variants,
-        extensions,
-        whole,
-    }
+/// Writes `from_static` of a part, which `$is_part` recognises.
+macro_rules! constant {
+    ($($part:ident by $is_part:ident, $what:literal, $example:literal;)+) => {$(
+        impl $part<'static> {
+            #[doc = concat!("Returns ", $what, " for a `const` or a `static`.")]
+            ///
+            /// ```
+            #[doc = concat!("use langtag::", stringify!($part), ";")]
+            ///
+            #[doc = concat!("const PART: ", stringify!($part), " = ", stringify!($part), "::from_static(\"", $example, "\");")]
+            #[doc = concat!("assert_eq!(PART, ", stringify!($part), "::new(\"", $example, "\").unwrap());")]
+            /// ```
+            ///
+            /// # Panics
+            ///
+            #[doc = concat!("Panics if the string is not ", $what, ". In a `const` or a `static`, that is an error of rustc.")]
+            #[must_use]
+            pub const fn from_static(text: &'static str) -> $part<'static> {
+                if !$is_part(text.as_bytes()) {
+                    panic!(concat!("not ", $what));
+                }
+                $part::from_checked(text)
+            }
+        }
+    )+};
 }
 
-const fn later(place: usize, before: usize) -> usize {
-    if place > before {
-        place
-    } else {
-        before
-    }
+constant! {
+    PrimaryLanguage by is_primary, "a primary language", "de";
+    Script by is_script, "a script", "Hant";
+    Region by is_region, "a region", "419";
 }

@@ -1,8 +1,5 @@
 //! Conversions between tags, ranges, singletons and strings, and what follows from the renamed calls
 //! of the proved modules.
-#[cfg(feature = "alloc")]
-use alloc::boxed::Box;
-
 use crate::erased::tag::*;
 use crate::matching::LanguageRange;
 #[cfg(feature = "alloc")]
@@ -25,98 +22,73 @@ impl Default for LangTagBuf {
     }
 }
 
-impl<'a> From<&LangTag<'a>> for LangTag<'a> {
-    #[inline]
-    fn from(tag: &LangTag<'a>) -> Self {
-        *tag
-    }
+/// Implements `From`. `$value` is what is converted.
+macro_rules! from {
+    ($(#[$more:meta])* [$($lifetime:lifetime)?] $from:ty => $to:ty: $value:ident => $made:expr) => {
+        $(#[$more])*
+        impl$(<$lifetime>)? From<$from> for $to {
+            #[inline]
+            fn from($value: $from) -> Self {
+                $made
+            }
+        }
+    };
 }
 
-/// A closure of `filter` or `find` has a reference to what the iterator returns.
-///
-/// ```
-/// use langtag::{matching::LanguageRange, LangTag};
-///
-/// let (range, tags) = (LanguageRange::new("de")?, [LangTag::new("de-CH")?, LangTag::new("fr")?]);
-/// assert_eq!(tags.iter().filter(|tag| range.matches_basic(tag)).count(), 1);
-/// # Ok::<(), Box<dyn std::error::Error>>(())
-/// ```
-impl<'a> From<&&LangTag<'a>> for LangTag<'a> {
-    #[inline]
-    fn from(tag: &&LangTag<'a>) -> Self {
-        **tag
-    }
+/// Implements `TryFrom`.
+macro_rules! try_from {
+    ([$($lifetime:lifetime)?] $from:ty => $to:ty, $error:ty: $value:ident => $made:expr) => {
+        impl$(<$lifetime>)? TryFrom<$from> for $to {
+            type Error = $error;
+
+            #[inline]
+            fn try_from($value: $from) -> Result<Self, Self::Error> {
+                $made
+            }
+        }
+    };
 }
 
-/// As from a reference to a reference to a [`LangTag`].
+from!(['a] &LangTag<'a> => LangTag<'a>: tag => *tag);
+from! {
+    /// A closure of `filter` or `find` has a reference to what the iterator returns.
+    ///
+    /// ```
+    /// use langtag::{matching::LanguageRange, LangTag};
+    ///
+    /// let (range, tags) = (LanguageRange::new("de")?, [LangTag::new("de-CH")?, LangTag::new("fr")?]);
+    /// assert_eq!(tags.iter().filter(|tag| range.matches_basic(tag)).count(), 1);
+    /// # Ok::<(), Box<dyn std::error::Error>>(())
+    /// ```
+    ['a] &&LangTag<'a> => LangTag<'a>: tag => **tag
+}
 #[cfg(feature = "alloc")]
-impl<'a> From<&&'a LangTagBuf> for LangTag<'a> {
-    #[inline]
-    fn from(tag: &&'a LangTagBuf) -> Self {
-        tag.as_lang_tag()
-    }
+from! {
+    /// As from a reference to a reference to a [`LangTag`].
+    ['a] &&'a LangTagBuf => LangTag<'a>: tag => tag.as_lang_tag()
 }
-
-/// Every tag is a language range.
-///
-/// ```
-/// use langtag::{matching::LanguageRange, LangTag};
-///
-/// assert!(LanguageRange::from(LangTag::new("x-mine")?).is_basic());
-/// # Ok::<(), Box<dyn std::error::Error>>(())
-/// ```
-impl<'a> From<LangTag<'a>> for LanguageRange<'a> {
-    #[inline]
-    fn from(tag: LangTag<'a>) -> Self {
-        LanguageRange::from_checked(tag.as_str())
-    }
+from! {
+    /// Every tag is a language range.
+    ///
+    /// ```
+    /// use langtag::{matching::LanguageRange, LangTag};
+    ///
+    /// assert!(LanguageRange::from(LangTag::new("x-mine")?).is_basic());
+    /// # Ok::<(), Box<dyn std::error::Error>>(())
+    /// ```
+    ['a] LangTag<'a> => LanguageRange<'a>: tag => LanguageRange::from_checked(tag.as_str())
 }
-
-impl<'a> From<&LangTag<'a>> for LanguageRange<'a> {
-    #[inline]
-    fn from(tag: &LangTag<'a>) -> Self {
-        LanguageRange::from(*tag)
-    }
-}
-
+from!(['a] &LangTag<'a> => LanguageRange<'a>: tag => LanguageRange::from(*tag));
 #[cfg(feature = "alloc")]
-impl<'a> From<&'a LangTagBuf> for LanguageRange<'a> {
-    #[inline]
-    fn from(tag: &'a LangTagBuf) -> Self {
-        LanguageRange::from(tag.as_lang_tag())
-    }
-}
-
+from!(['a] &'a LangTagBuf => LanguageRange<'a>: tag => LanguageRange::from(tag.as_lang_tag()));
 #[cfg(feature = "alloc")]
-impl From<LangTagBuf> for LanguageRangeBuf {
-    #[inline]
-    fn from(tag: LangTagBuf) -> Self {
-        LanguageRange::from(&tag).to_owned()
-    }
-}
-
-#[cfg(feature = "alloc")]
-impl From<LangTag<'_>> for Box<str> {
-    #[inline]
-    fn from(tag: LangTag<'_>) -> Self {
-        tag.as_str().into()
-    }
-}
-
-#[cfg(feature = "alloc")]
-impl From<LangTagBuf> for Box<str> {
-    #[inline]
-    fn from(tag: LangTagBuf) -> Self {
-        tag.into_string().into()
-    }
-}
-
-impl From<Singleton> for u8 {
-    #[inline]
-    fn from(singleton: Singleton) -> u8 {
-        singleton.unwrap()
-    }
-}
+from!([] LangTagBuf => LanguageRangeBuf: tag => LanguageRange::from(&tag).to_owned());
+from!([] GrandfatheredLangTag => LangTag<'static>: tag => tag.as_lang_tag());
+try_from!(['a] LangTag<'a> => NormalLangTag<'a>, InvalidNormalLangTag<&'a str>: tag => {
+    tag.as_normal().ok_or(InvalidNormalLangTag(tag.as_str()))
+});
+from!([] Singleton => u8: singleton => singleton.unwrap());
+from!([] Singleton => char: singleton => char::from(singleton.unwrap()));
 
 impl<'a> Extensions<'a> {
     /// Returns the extension with a singleton, which may be a [`Singleton`], a `char` or a `u8`, or

@@ -1,45 +1,10 @@
-//! The errors for refused strings: they can be compared, converted to own their text, and
-//! explained.
-use core::fmt;
-
+//! The errors for refused strings: they can be converted to own their text, and explained.
 use crate::erased::tag::*;
 use crate::matching::InvalidLanguageRange;
 use crate::message::Reason;
 
-/// Implements the traits of the errors that contain only the refused text.
-macro_rules! compared {
-    ($($error:ident),+) => {$(
-        impl<T: Clone> Clone for $error<T> {
-            #[inline]
-            fn clone(&self) -> Self {
-                $error(self.0.clone())
-            }
-        }
-
-        impl<T: Copy> Copy for $error<T> {}
-
-        impl<T: PartialEq> PartialEq for $error<T> {
-            #[inline]
-            fn eq(&self, other: &Self) -> bool {
-                self.0 == other.0
-            }
-        }
-
-        impl<T: Eq> Eq for $error<T> {}
-
-        impl<T: core::hash::Hash> core::hash::Hash for $error<T> {
-            #[inline]
-            fn hash<H: core::hash::Hasher>(&self, state: &mut H) {
-                self.0.hash(state);
-            }
-        }
-    )+};
-}
-
 macro_rules! errors {
     ($($name:ident, $owned:ident, $error:ident, $lend:ident, $what:literal;)+) => {$(
-        compared!($error);
-
         #[cfg(feature = "alloc")]
         impl $error<&str> {
             /// Returns the same error with a copy of the string, so that it does not borrow the
@@ -58,16 +23,10 @@ macro_rules! errors {
         }
 
         #[cfg(feature = "alloc")]
-        impl From<$error<&str>> for $error<alloc::string::String> {
-            #[inline]
-            fn from(error: $error<&str>) -> Self {
-                error.into_owned()
-            }
-        }
+        from!([] $error<&str> => $error<alloc::string::String>: error => error.into_owned());
     )+};
 }
 
-compared!(InvalidSingleton, InvalidGrandfatheredTag);
 for_text_types!(errors);
 
 impl<T: AsRef<str>> InvalidLangTag<T> {
@@ -101,7 +60,7 @@ impl<T: AsRef<str>> InvalidLangTag<T> {
     /// assert_eq!(error.reason().to_string(), "unexpected subtag `DE`");
     /// ```
     #[inline]
-    pub fn reason(&self) -> impl fmt::Display + '_ {
+    pub fn reason(&self) -> Reason<'_> {
         Reason(self.0.as_ref().as_bytes())
     }
 }

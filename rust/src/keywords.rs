@@ -72,11 +72,7 @@ impl fmt::Display for SetKeywordError {
 
 impl core::error::Error for SetKeywordError {}
 
-impl From<AllocError> for SetKeywordError {
-    fn from(error: AllocError) -> Self {
-        SetKeywordError::Memory(error)
-    }
-}
+from!([] AllocError => SetKeywordError: error => SetKeywordError::Memory(error));
 
 /// Sets the value of a key of the extension `u`, as [`LangTagBuf::set_keyword`] does.
 ///
@@ -121,6 +117,10 @@ impl LangTagBuf {
     }
 
     /// Removes a key of the extension `u`: without `ca`, `th-TH-u-ca-buddhist` becomes `th-TH`.
+    ///
+    /// The key and its repetitions are removed from the first `u`, and so is this `u` if nothing else
+    /// is in it. In a tag with several extensions `u`, which is not valid, the second is then the
+    /// first, and may have the key, too.
     ///
     /// # Errors
     ///

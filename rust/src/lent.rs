@@ -6,7 +6,7 @@ use crate::erased::tag::*;
 use crate::likely::Parents;
 use crate::matching::{Fallbacks, LanguageRange, LanguageRangeBuf};
 #[cfg(feature = "data")]
-use crate::registry::{InvalidSubtag, InvalidSubtagBuf};
+use crate::registry::InvalidSubtagBuf;
 #[cfg(feature = "data")]
 use crate::unicode::{AttributesIter, KeywordsIter, Transformation};
 
@@ -133,8 +133,6 @@ impl LangTagBuf {
     /// Returns the first subtag that makes the tag invalid.
     #[inline]
     pub fn validate(&self) -> Result<(), InvalidSubtagBuf> {
-        self.as_lang_tag()
-            .validate()
-            .map_err(InvalidSubtag::into_owned)
+        Ok(self.as_lang_tag().validate()?)
     }
 }

@@ -40,7 +40,7 @@
 )]
 #![cfg_attr(
     feature = "names",
-    doc = "- [`names`]: names of tags in English, and of languages in themselves"
+    doc = "- [`names`]: English names of tags, and each language's own name"
 )]
 //! - [`matching`]: language ranges, filters and lookup (RFC 4647); `Accept-Language` (RFC 9110)
 #![cfg_attr(
@@ -59,8 +59,9 @@
 //!
 //! # Keys and order
 //!
-//! `==`, `cmp` and `Hash` ignore the case of ASCII letters. A tag sorts after every longer tag that
-//! begins with it: `de-AT` comes before `de`. [`CaselessText`] searches a map by a string.
+//! `==`, `cmp` and `Hash` ignore the case of ASCII letters, except those of [`Singleton`]. A tag
+//! sorts after every longer tag that begins with it: `de-AT` comes before `de`. [`CaselessText`]
+//! searches a map by a string.
 //!
 //! Tags deref to `str`, so `len`, `starts_with` and other methods of `str` are there. But the `==`
 //! of a `str` does not ignore case, so `as_deref()` of an optional tag compares with its case:
@@ -78,7 +79,7 @@
 //!
 //! - `alloc` (default): owned forms, setters, and calls that return new tags
 //! - `data` (default): `choice`, `likely`, `registry` and `unicode`, with their data
-//! - `names`: the module `names`, with names of languages in English and in themselves
+//! - `names`: the module `names`, with English names of tags, and each language's own name
 //! - `oxilangtag`: the module `oxilangtag`, with the names of that crate
 //! - `serde` (in a clone, README says how): tags, parts and ranges as strings
 //!
@@ -105,6 +106,8 @@
 #[cfg(feature = "alloc")]
 extern crate alloc;
 
+#[macro_use]
+mod conversions;
 #[cfg(feature = "alloc")]
 mod memory;
 #[macro_use]
@@ -119,7 +122,7 @@ mod forms;
 // Rattle. It is public because the examples of proved functions run as tests, which see only
 // public items.
 #[doc(hidden)]
-#[allow(dead_code, unused_imports, missing_docs)]
+#[allow(dead_code, unused_imports, missing_debug_implementations, missing_docs)]
 // For a few keys, `contains` takes longer than `iter().any()`.
 #[allow(clippy::manual_contains)]
 pub mod erased;
@@ -143,8 +146,9 @@ pub mod unicode;
 // What Rust programs expect of the types.
 mod caseless_text;
 mod constants;
-mod conversions;
 mod invalid;
+#[cfg(feature = "data")]
+mod invalid_subtag;
 #[cfg(all(feature = "alloc", feature = "data"))]
 mod keywords;
 #[cfg(feature = "alloc")]
@@ -152,21 +156,19 @@ mod lent;
 mod lists;
 mod message;
 mod methods;
-#[cfg(feature = "alloc")]
-mod owned_errors;
 #[cfg(feature = "serde")]
 mod serde;
 mod shown;
 #[cfg(all(feature = "alloc", feature = "data"))]
 mod site;
-#[cfg(feature = "data")]
-mod suggestion;
 mod text;
 mod too_short;
 mod walks;
 
 /// The errors of parts of a tag, which are also at the root of the crate.
 pub mod errors {
+    pub use crate::message::Reason;
+
     pub use crate::erased::tag::{
         InvalidExtendedLangTag, InvalidExtension, InvalidExtensionSubtag, InvalidExtensions,
         InvalidGrandfatheredTag, InvalidLanguage, InvalidLanguageExtension, InvalidNormalLangTag,

@@ -1,6 +1,7 @@
 //! Likely subtags (UTS #35, part 1, section 'Likely Subtags') from Unicode's CLDR: the most likely
 //! script and region of a language, which can be added to a tag or removed from it. Also the
-//! writing direction of a tag, its parents, and tags for POSIX locale names.
+//! writing direction of a tag, its parents, and tags for the locale names of POSIX (as in `LANG` and
+//! gettext's catalogues), Java, Android, .NET Framework, ICU and Apple.
 //!
 //! ```
 //! # #[cfg(feature = "alloc")] {
@@ -10,6 +11,7 @@
 //! assert_eq!(maximized(LangTag::new("zh-TW")?), "zh-Hant-TW");
 //! assert_eq!(minimized(LangTag::new("zh-Hant-TW")?), "zh-TW");
 //! assert_eq!(from_posix("pt_BR.UTF-8")?, "pt-BR");
+//! assert_eq!(from_posix("b+sr+Latn")?, "sr-Latn"); // Android's folder `values-b+sr+Latn`
 //! # }
 //! # Ok::<(), Box<dyn std::error::Error>>(())
 //! ```
@@ -24,11 +26,15 @@ use crate::{LangTag, TooShort};
 use alloc::{string::String, vec};
 
 pub use crate::erased::likely::CLDR_VERSION;
+#[cfg(feature = "alloc")]
+#[doc(alias = "android")]
+#[doc(alias = "apple")]
+#[doc(alias = "gettext")]
+#[doc(alias = "java")]
+pub use crate::erased::posix::from_posix;
 pub use crate::erased::posix::unknown_modifier;
 #[cfg(feature = "alloc")]
-pub use crate::erased::posix::{from_posix, PosixError};
-#[cfg(feature = "alloc")]
-pub use crate::owned_errors::PosixErrorBuf;
+pub use crate::erased::posix::PosixError;
 
 form! {
     /// Returns a tag with its likely script and region: `el-Grek-GR` for `und-Grek`.
@@ -77,8 +83,8 @@ form! {
     /// `ca_ES@valencia` for `ca-ES-valencia`, `zh_TW` for `zh-Hant-TW`. Returns `None` if no name
     /// expresses the whole tag.
     ///
-    /// The modifiers are `latin`, `cyrillic`, `devanagari`, `valencia`, `tarask`, `ijekavian` and
-    /// `ijekavianlatin`. A likely script is left out. Another script or variant has no name, nor have
+    /// The modifiers are `latin`, `cyrillic`, `devanagari`, `valencia`, `tarask`, `polyton`, `ijekavian`
+    /// and `ijekavianlatin`. A likely script is left out. Another script or variant has no name, nor have
     /// extensions other than `u-va-posix`, private use, extended languages, languages of more than three
     /// letters, and `und`. To leave extensions out, ask for the name of [`LangTag::base`]. The codeset
     /// is the caller's, as in `pt_BR.UTF-8`.
@@ -143,7 +149,7 @@ pub fn parent<'a>(tag: impl Into<LangTag<'a>>) -> Option<LangTagBuf> {
 /// let mut buffer = [0; 16];
 /// let tag = LangTag::new("pt-Latn-AO")?;
 /// assert_eq!(write_parent(tag, 2, &mut buffer)?, Some("pt-PT"));
-/// assert_eq!(write_parent(tag, 4, &mut buffer)?, None);
+/// assert_eq!(write_parent(tag, 5, &mut buffer)?, None);
 /// # Ok::<(), Box<dyn std::error::Error>>(())
 /// ```
 pub fn write_parent<'a, 'b>(
@@ -158,20 +164,22 @@ pub fn write_parent<'a, 'b>(
 
 /// An iterator over a tag and its parents, in the order in which a catalogue looks for a string.
 ///
-/// All of them are written in the same script, so `zh-TW` is followed by `zh-Hant`, and never by
-/// `zh`. A script that is likely anyway goes first. Extensions and private use go next, then each
-/// variant, the last one first, and then the region. The variants come back with each parent. A
-/// script is removed only if it is the likely script of the language. Case is ignored.
+/// All of them are written in the same script if CLDR lists the language, so `zh-TW` is followed by
+/// `zh-Hant`, and never by `zh`. A script that is likely anyway goes first, and comes back before the
+/// language alone. Extensions and private use go next, then each variant, the last one first, and
+/// then the region. The variants come back with each parent. Case is ignored.
 ///
-/// CLDR does not list deprecated or extended languages, so replace them first with `canonical`.
-/// Private-use tags, irregular tags and `und` have no parent.
+/// If a catalogue's folders name scripts, such as `zh-Hans`, ask for the parents of [`maximized`],
+/// which names the script of `zh-CN`. CLDR does not list replaced codes such as `iw` and `cmn`, nor
+/// extended languages, so ask for the parents of their `locale_form`. Private-use tags, irregular
+/// tags and `und` have no parent.
 ///
 /// ```
 /// use langtag::likely::Parents;
 /// use langtag::LangTag;
 ///
 /// let chain = |text| LangTag::new(text).map(|tag| Parents::new(tag).collect::<Vec<_>>());
-/// assert_eq!(chain("pt-Latn-AO")?, ["pt-Latn-AO", "pt-AO", "pt-PT", "pt"]);
+/// assert_eq!(chain("zh-Hans-CN")?, ["zh-Hans-CN", "zh-CN", "zh-Hans", "zh"]);
 /// assert_eq!(chain("ca-ES-valencia")?, ["ca-ES-valencia", "ca-ES", "ca-valencia", "ca"]);
 /// # Ok::<(), Box<dyn std::error::Error>>(())
 /// ```

@@ -32,8 +32,6 @@ pub use crate::erased::matching::{
 };
 #[cfg(feature = "alloc")]
 pub use crate::erased::matching::{AcceptLanguage, AcceptLanguageError, LanguageRangeBuf};
-#[cfg(feature = "alloc")]
-pub use crate::owned_errors::AcceptLanguageErrorBuf;
 
 impl LanguageRange<'_> {
     /// Returns whether the range matches a tag by basic filtering ([RFC 4647 section 3.3.1]):
@@ -145,11 +143,11 @@ pub fn look_up<'t, T: TagEntry>(
 /// [RFC 4647 section 3.4]: https://www.rfc-editor.org/rfc/rfc4647#section-3.4
 #[cfg(feature = "alloc")]
 #[inline]
-pub fn tag_for_header<'h, 't, T: TagEntry>(
-    header: &'h str,
+pub fn tag_for_header<'t, T: TagEntry>(
+    header: &str,
     tags: &'t [T],
     default: &'t T,
-) -> Result<&'t T, AcceptLanguageError<'h>> {
+) -> Result<&'t T, AcceptLanguageError> {
     Ok(AcceptLanguage::new(header)?.look_up(tags, default))
 }
 

@@ -24,12 +24,7 @@ impl fmt::Display for AllocError {
 
 impl core::error::Error for AllocError {}
 
-impl From<alloc::collections::TryReserveError> for AllocError {
-    #[inline]
-    fn from(_: alloc::collections::TryReserveError) -> AllocError {
-        AllocError
-    }
-}
+from!([] alloc::collections::TryReserveError => AllocError: _error => AllocError);
 
 /// Returns the result, or aborts if allocation failed, as Rust's own calls do.
 #[inline]

@@ -2,7 +2,7 @@
 use core::fmt;
 use core::fmt::Write as _;
 
-use crate::erased::header::ElementPart;
+use crate::erased::matching::ElementPart;
 use crate::erased::tag::{Refusal, RefusalKind};
 
 /// The greatest number of characters of a refused text in a message.
@@ -119,8 +119,10 @@ fn write_escaped(f: &mut fmt::Formatter<'_>, character: char) -> fmt::Result {
     }
 }
 
-/// Why a string is not a tag.
-pub(crate) struct Reason<'a>(pub(crate) &'a [u8]);
+/// Why a string is not a tag, as a value that can be displayed:
+/// [`InvalidLangTag::reason`](crate::InvalidLangTag::reason).
+#[derive(Clone, Copy, Debug)]
+pub struct Reason<'a>(pub(crate) &'a [u8]);
 
 impl fmt::Display for Reason<'_> {
     #[inline]
@@ -128,17 +130,44 @@ impl fmt::Display for Reason<'_> {
         let Some(refusal) = Refusal::of(self.0) else {
             return f.write_str("it is a tag");
         };
-        let subtag = &self.0[refusal.start..refusal.end];
-        match refusal.kind {
-            RefusalKind::Subtag if subtag.is_empty() => f.write_str("empty subtag"),
-            RefusalKind::Subtag => write!(f, "unexpected subtag {}", Quoted(subtag)),
-            RefusalKind::Byte => write!(
-                f,
-                "invalid character {}: expected a letter, a digit or a hyphen",
-                Quoted(first_character(&self.0[refusal.offset..]))
-            ),
-            RefusalKind::End => f.write_str("unexpected end: expected a subtag"),
-        }
+        let wrong = match refusal.kind {
+            RefusalKind::Byte => first_character(&self.0[refusal.offset..]),
+            _ => &self.0[refusal.start..refusal.end],
+        };
+        write_refusal(f, &refusal, &Quoted(wrong))
+    }
+}
+
+/// Displays where a string is wrong, without the string.
+///
+/// ```
+/// let refusal = langtag::Refusal::of(b"de-419-DE").unwrap();
+/// assert_eq!(refusal.to_string(), "unexpected subtag at offset 7");
+/// ```
+impl fmt::Display for Refusal {
+    fn fmt(&self, f: &mut fmt::Formatter<'_>) -> fmt::Result {
+        let offset = match self.kind {
+            RefusalKind::Byte => self.offset,
+            _ => self.start,
+        };
+        write_refusal(f, self, &format_args!("at offset {offset}"))
+    }
+}
+
+/// Writes why a string is refused. `wrong` says which subtag or which character is wrong.
+fn write_refusal(
+    f: &mut fmt::Formatter<'_>,
+    refusal: &Refusal,
+    wrong: &dyn fmt::Display,
+) -> fmt::Result {
+    match refusal.kind {
+        RefusalKind::Subtag if refusal.start == refusal.end => f.write_str("empty subtag"),
+        RefusalKind::Subtag => write!(f, "unexpected subtag {wrong}"),
+        RefusalKind::Byte => write!(
+            f,
+            "invalid character {wrong}: expected a letter, a digit or a hyphen"
+        ),
+        RefusalKind::End => f.write_str("unexpected end: expected a subtag"),
     }
 }
 

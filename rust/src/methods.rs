@@ -62,7 +62,7 @@ impl<'a> LangTag<'a> {
     /// assert_eq!(error.suggestion(), Some("de"));
     /// # Ok::<(), Box<dyn std::error::Error>>(())
     /// ```
-    pub fn validate(self) -> Result<(), InvalidSubtag<'a>> {
+    pub fn validate(self) -> Result<(), InvalidSubtag<&'a str>> {
         registry::validate(self)
     }
 

@@ -1,5 +1,5 @@
-//! Names of tags in English, and of languages in themselves, from Unicode's CLDR. The feature `names`
-//! adds this module and its tables.
+//! English names of tags, and each language's own name (Deutsch, português), from Unicode's CLDR and
+//! IANA's registry. The feature `names` adds this module and its tables.
 //!
 //! ```
 //! use langtag::names::{autonym, describe};
@@ -14,8 +14,10 @@
 //! other languages.
 mod data;
 
+use alloc::format;
 use alloc::string::String;
 use alloc::vec::Vec;
+use core::cmp::Ordering;
 
 use crate::likely::maximized;
 use crate::registry::canonical;
@@ -25,26 +27,34 @@ use crate::{LangTag, LangTagBuf, NormalLangTag, Script};
 /// Returns an English name of a tag, made of CLDR's names for the subtags of its
 /// [`locale_form`], or of its canonical form if it has none.
 ///
-/// A subtag for which CLDR has no name is shown as it is, and so are extensions and private use. The
-/// variants are in alphabetical order.
+/// If CLDR does not name the language, the name is the tag's own language as IANA's registry describes
+/// it. A subtag without a name is shown as it is, and so are extensions and private use.
 ///
 /// ```
 /// use langtag::names::describe;
 /// use langtag::LangTag;
 ///
 /// assert_eq!(describe(LangTag::new("zh-yue-HK")?), "Cantonese (Hong Kong SAR China)");
+/// assert_eq!(describe(LangTag::new("nah-MX")?), "Nahuatl languages (Mexico)");
 /// assert_eq!(describe(LangTag::new("de-CH-u-co-phonebk")?), "German (Switzerland, u-co-phonebk)");
 /// assert_eq!(describe(LangTag::new("x-a")?), "x-a");
 /// # Ok::<(), Box<dyn std::error::Error>>(())
 /// ```
 #[must_use]
 pub fn describe<'a>(tag: impl Into<LangTag<'a>>) -> String {
-    let form = form_of(tag.into());
-    let Some(tag) = form.as_lang_tag().as_normal() else {
+    let tag = tag.into();
+    let form = form_of(tag);
+    let Some(named) = form.as_lang_tag().as_normal() else {
         return form.as_str().into();
     };
-    let mut name = String::from(english_name(tag.language().as_str()));
-    let inside = details(tag).join(", ");
+    // A language has a key in uppercase if it is replaced with one that CLDR does not name.
+    let own = tag.language().map(|own| own.as_str().to_ascii_uppercase());
+    let language = named.language().as_str();
+    let found = own
+        .and_then(|own| english_name(&own))
+        .or_else(|| english_name(language));
+    let mut name = String::from(found.unwrap_or(language));
+    let inside = details(named).join(", ");
     if !inside.is_empty() {
         name.push_str(" (");
         name.extend(inside.chars().map(bracketed));
@@ -63,15 +73,10 @@ fn form_of(tag: LangTag<'_>) -> LangTagBuf {
 /// Returns the names of the subtags after the language. Extensions and private use stay strings.
 fn details(tag: NormalLangTag<'_>) -> Vec<&str> {
     let mut found = Vec::new();
-    found.extend(tag.script().map(|script| english_name(script.as_str())));
-    found.extend(tag.region().map(|region| english_name(region.as_str())));
-    let mut variants: Vec<_> = tag
-        .variants()
-        .iter()
-        .map(|variant| variant.as_str())
-        .collect();
-    variants.sort_unstable();
-    found.extend(variants.into_iter().map(english_name));
+    found.extend(tag.script().map(|script| name_after(script.as_str())));
+    found.extend(tag.region().map(|region| name_after(region.as_str())));
+    let variants = tag.variants();
+    found.extend(variants.iter().map(|variant| name_after(variant.as_str())));
     let mut singletons = Vec::new();
     for extension in tag.extensions().iter() {
         // A repeated singleton makes the tag invalid, and only the first counts.
@@ -84,9 +89,13 @@ fn details(tag: NormalLangTag<'_>) -> Vec<&str> {
     found
 }
 
-/// Returns the English name of a subtag, or the subtag if CLDR has none.
-fn english_name(subtag: &str) -> &str {
-    name_in(&data::ENGLISH_NAMES, subtag).unwrap_or(subtag)
+/// Returns the English name of a subtag after the language, or the subtag if it has none.
+fn name_after(subtag: &str) -> &str {
+    english_name(&format!("-{subtag}")).unwrap_or(subtag)
+}
+
+fn english_name(key: &str) -> Option<&'static str> {
+    name_in(data::ENGLISH_NAMES, key)
 }
 
 /// Returns a character as it is written inside parentheses.
@@ -98,9 +107,24 @@ fn bracketed(character: char) -> char {
     }
 }
 
-fn name_in(rows: &[(&str, &'static str)], key: &str) -> Option<&'static str> {
-    let at = rows.binary_search_by(|row| row.0.cmp(key)).ok()?;
-    Some(rows[at].1)
+/// Returns the name of a key. The rows are lines in the order of their keys.
+fn name_in(mut rows: &'static str, key: &str) -> Option<&'static str> {
+    while !rows.is_empty() {
+        let half = &rows.as_bytes()[..rows.len() / 2];
+        let start = half
+            .iter()
+            .rposition(|&byte| byte == b'\n')
+            .map_or(0, |at| at + 1);
+        let (before, rest) = rows.split_at(start);
+        let (row, after) = rest.split_once('\n')?;
+        let (found, name) = row.split_once(' ')?;
+        match found.cmp(key) {
+            Ordering::Equal => return Some(name),
+            Ordering::Less => rows = after,
+            Ordering::Greater => rows = before,
+        }
+    }
+    None
 }
 
 /// Returns the name of a tag's language in the language itself, from CLDR, or `None` if CLDR has none.
@@ -142,7 +166,7 @@ pub fn autonym<'a>(tag: impl Into<LangTag<'a>>) -> Option<&'static str> {
         .chain(is_usual.then_some(language));
     names
         .into_iter()
-        .find_map(|key| name_in(&data::OWN_NAMES, key))
+        .find_map(|key| name_in(data::OWN_NAMES, key))
 }
 
 fn push(key: &mut String, subtag: Option<&str>) {

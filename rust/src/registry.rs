@@ -25,31 +25,34 @@ pub use crate::erased::registry::{
     is_deprecated_tag, is_deprecated_variant, is_registered_extlang, is_registered_language,
     is_registered_region, is_registered_script, is_registered_variant, macrolanguage,
     misplaced_extlang, misplaced_variant, preferred_language, preferred_region, preferred_tag,
-    preferred_variant, suppress_script, InvalidSubtag, FILE_DATE,
+    preferred_variant, suppress_script, FILE_DATE,
 };
 #[cfg(feature = "alloc")]
-pub use crate::owned_errors::InvalidSubtagBuf;
+pub use crate::invalid_subtag::InvalidSubtagBuf;
+pub use crate::invalid_subtag::{Fault, InvalidSubtag};
 
 /// Checks that a tag is valid ([RFC 5646 section 2.2.9]): its language, script, region and variants
 /// are registered, and no variant or singleton is repeated.
 ///
 /// # Errors
 ///
-/// Returns the first subtag that makes the tag invalid. Its message may suggest another subtag.
+/// Returns the first subtag that makes the tag invalid, and where it is. The message may suggest
+/// another subtag. The error borrows the tag: a function that drops the tag and returns the error
+/// calls `map_err(InvalidSubtag::into_owned)?`.
 ///
 /// ```
-/// use langtag::registry::{validate, InvalidSubtag};
+/// use langtag::registry::{validate, Fault};
 /// use langtag::LangTag;
 ///
 /// assert!(validate(LangTag::new("de-CH-1996")?).is_ok());
 /// let error = validate(LangTag::new("de-UK")?).unwrap_err();
-/// assert!(matches!(error, InvalidSubtag::Region(region) if region == "UK"));
+/// assert_eq!((error.fault(), error.subtag(), error.start()), (Fault::Region, "UK", 3));
 /// # Ok::<(), Box<dyn std::error::Error>>(())
 /// ```
 ///
 /// [RFC 5646 section 2.2.9]: https://www.rfc-editor.org/rfc/rfc5646#section-2.2.9
-pub fn validate<'a>(tag: impl Into<LangTag<'a>>) -> Result<(), InvalidSubtag<'a>> {
-    registry::validate(tag.into())
+pub fn validate<'a>(tag: impl Into<LangTag<'a>>) -> Result<(), InvalidSubtag<&'a str>> {
+    InvalidSubtag::of(tag.into()).map_or(Ok(()), Err)
 }
 
 form! {

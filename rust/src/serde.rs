@@ -77,6 +77,19 @@ macro_rules! strings {
 
 for_text_types!(strings);
 
+impl Serialize for Singleton {
+    fn serialize<S: Serializer>(&self, serializer: S) -> Result<S::Ok, S::Error> {
+        serializer.serialize_char((*self).into())
+    }
+}
+
+impl<'de> Deserialize<'de> for Singleton {
+    fn deserialize<D: Deserializer<'de>>(deserializer: D) -> Result<Self, D::Error> {
+        let character = char::deserialize(deserializer)?;
+        Singleton::try_from(character).map_err(D::Error::custom)
+    }
+}
+
 #[cfg(feature = "oxilangtag")]
 mod oxilangtag {
     use core::ops::Deref;

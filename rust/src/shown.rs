@@ -1,7 +1,9 @@
-//! `Debug` of the types that a recogniser reads and returns, and `Display` of the kinds of tags.
+//! `Debug` of types with bytes, and of what a recogniser reads and returns, and `Display` of the kinds
+//! of tags.
 use core::fmt;
 
 use crate::erased::scan::{ByteSource, Found, Metered};
+use crate::matching::WantedRange;
 use crate::Kind;
 
 impl fmt::Debug for Found {
@@ -26,6 +28,34 @@ impl fmt::Debug for Metered<'_> {
             .field("reads", &self.reads())
             .field("reach", &self.reach())
             .finish()
+    }
+}
+
+/// Bytes in quotes, with escapes.
+struct Bytes<'a>(&'a [u8]);
+
+impl fmt::Debug for Bytes<'_> {
+    fn fmt(&self, f: &mut fmt::Formatter<'_>) -> fmt::Result {
+        write!(f, "b\"{}\"", self.0.escape_ascii())
+    }
+}
+
+impl fmt::Debug for WantedRange<'_> {
+    fn fmt(&self, f: &mut fmt::Formatter<'_>) -> fmt::Result {
+        let mut shown = f.debug_struct("WantedRange");
+        shown.field("bytes", &Bytes(self.bytes));
+        shown.field("weight", &self.weight).finish()
+    }
+}
+
+#[cfg(feature = "data")]
+impl fmt::Debug for crate::choice::BestMatch<'_> {
+    fn fmt(&self, f: &mut fmt::Formatter<'_>) -> fmt::Result {
+        let mut shown = f.debug_struct("BestMatch");
+        shown.field("index", &self.index);
+        shown.field("range", &Bytes(self.range));
+        shown.field("place", &self.place);
+        shown.field("distance", &self.distance).finish()
     }
 }
 

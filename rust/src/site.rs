@@ -11,7 +11,8 @@ use alloc::vec::Vec;
 /// The tags of a site that are known before the requests.
 ///
 /// What a choice needs of each tag is computed once, so each choice takes less time. It returns the
-/// same tag as [`best_for_header`](crate::choice::best_for_header) and similar functions.
+/// same tag as [`best_for_header`](crate::choice::best_for_header) and similar functions, which
+/// explain weights, limits and ties. List the tags in the order that you prefer.
 ///
 /// A `Site` does not change, so threads can share it. If the tags change, make a new `Site`.
 ///
@@ -87,6 +88,18 @@ impl<E: TagEntry> Site<E> {
         &self.tags
     }
 
+    /// Returns the number of tags.
+    #[must_use]
+    pub fn len(&self) -> usize {
+        self.tags.len()
+    }
+
+    /// Returns whether there are no tags.
+    #[must_use]
+    pub fn is_empty(&self) -> bool {
+        self.tags.is_empty()
+    }
+
     /// Returns the best tag for an `Accept-Language` header ([RFC 9110 section 12.5.4]), or `None`
     /// if no tag is suitable.
     ///
@@ -134,6 +147,12 @@ impl<E: TagEntry> Site<E> {
         match_among(header.as_ref(), self)
     }
 
+    /// Returns the best tag for a list of language ranges with the range that it serves.
+    #[must_use]
+    pub fn match_for_ranges<'a>(&self, ranges: &'a [impl AsRef<str>]) -> Option<BestMatch<'a>> {
+        match_among(Ranges(ranges), self)
+    }
+
     /// Returns the best tag for any list of ranges.
     #[must_use]
     pub fn best_among<'a>(&self, ranges: impl RangeList<'a>) -> Option<&E> {
@@ -166,6 +185,18 @@ impl<E: TagEntry> Site<E> {
     pub fn suitable_among<'a>(&self, ranges: impl RangeList<'a>) -> Vec<&E> {
         let found = suitable_among(ranges, self);
         found.into_iter().map(|index| &self.tags[index]).collect()
+    }
+}
+
+impl<E: TagEntry> FromIterator<E> for Site<E> {
+    fn from_iter<I: IntoIterator<Item = E>>(tags: I) -> Site<E> {
+        Site::new(Vec::from_iter(tags))
+    }
+}
+
+impl<E: TagEntry> From<Vec<E>> for Site<E> {
+    fn from(tags: Vec<E>) -> Site<E> {
+        Site::new(tags)
     }
 }
 

@@ -12,9 +12,25 @@ use crate::matching::{InvalidLanguageRange, LanguageRange};
 
 macro_rules! borrowed {
     ($($name:ident, $owned:ident, $error:ident, $lend:ident, $what:literal;)+) => {$(
+        viewed!($name<'_>);
+        from!(['a] $name<'a> => &'a str: part => part.as_str());
+        try_from!(['a] &'a str => $name<'a>, $error<&'a str>: text => $name::new(text));
+        try_from!(['a] &'a [u8] => $name<'a>, $error<&'a [u8]>: bytes => {
+            let text = core::str::from_utf8(bytes).map_err(|_| $error(bytes))?;
+            $name::new(text).map_err(|_| $error(bytes))
+        });
+        compared!([] $name<'_>, str);
+        compared!(['b] $name<'_>, &'b str);
+    )+};
+}
+
+/// Implements the views of a type over a string.
+macro_rules! viewed {
+    ($name:ty) => {
         /// Gives access to the methods of `str`, such as `len` and `starts_with`. A `str` has a case:
-        /// unlike `==` of this type, `==` of a `str` does not ignore it.
-        impl Deref for $name<'_> {
+        /// unlike `==` of this type, `==` of a `str` does not ignore it, nor does `==` of what
+        /// `Option::as_deref` returns.
+        impl Deref for $name {
             type Target = str;
 
             #[inline]
@@ -23,49 +39,20 @@ macro_rules! borrowed {
             }
         }
 
-        impl AsRef<str> for $name<'_> {
+        impl AsRef<str> for $name {
             #[inline]
             fn as_ref(&self) -> &str {
                 self.as_str()
             }
         }
 
-        impl AsRef<[u8]> for $name<'_> {
+        impl AsRef<[u8]> for $name {
             #[inline]
             fn as_ref(&self) -> &[u8] {
                 self.as_str().as_bytes()
             }
         }
-
-        impl<'a> From<$name<'a>> for &'a str {
-            #[inline]
-            fn from(part: $name<'a>) -> &'a str {
-                part.as_str()
-            }
-        }
-
-        impl<'a> TryFrom<&'a str> for $name<'a> {
-            type Error = $error<&'a str>;
-
-            #[inline]
-            fn try_from(text: &'a str) -> Result<Self, Self::Error> {
-                $name::new(text)
-            }
-        }
-
-        impl<'a> TryFrom<&'a [u8]> for $name<'a> {
-            type Error = $error<&'a [u8]>;
-
-            #[inline]
-            fn try_from(bytes: &'a [u8]) -> Result<Self, Self::Error> {
-                let text = core::str::from_utf8(bytes).map_err(|_| $error(bytes))?;
-                $name::new(text).map_err(|_| $error(bytes))
-            }
-        }
-
-        compared!([] $name<'_>, str);
-        compared!(['b] $name<'_>, &'b str);
-    )+};
+    };
 }
 
 /// Implements `==` between a type over a string and a string, in both directions.
@@ -96,55 +83,37 @@ impl AsRef<str> for GrandfatheredLangTag {
     }
 }
 
-impl From<GrandfatheredLangTag> for LangTag<'static> {
-    #[inline]
-    fn from(tag: GrandfatheredLangTag) -> Self {
-        tag.as_lang_tag()
-    }
+/// Implements `==` between a singleton and a byte or a character, in both directions.
+macro_rules! compared_singleton {
+    ($($other:ty),+) => {$(
+        /// ```
+        /// # use langtag::Singleton;
+        /// assert!(Singleton::new(b'u').unwrap() == b'u');
+        /// assert!('u' == Singleton::new(b'u').unwrap());
+        /// ```
+        impl PartialEq<$other> for Singleton {
+            #[inline]
+            fn eq(&self, other: &$other) -> bool {
+                <$other>::from(*self) == *other
+            }
+        }
+
+        impl PartialEq<Singleton> for $other {
+            #[inline]
+            fn eq(&self, other: &Singleton) -> bool {
+                other == self
+            }
+        }
+    )+};
 }
 
-/// ```
-/// # use langtag::Singleton;
-/// assert!(Singleton::new(b'u').unwrap() == b'u');
-/// ```
-impl PartialEq<u8> for Singleton {
-    #[inline]
-    fn eq(&self, other: &u8) -> bool {
-        self.unwrap() == *other
-    }
-}
-
-impl PartialEq<Singleton> for u8 {
-    #[inline]
-    fn eq(&self, other: &Singleton) -> bool {
-        other == self
-    }
-}
-
-impl PartialEq<char> for Singleton {
-    #[inline]
-    fn eq(&self, other: &char) -> bool {
-        char::from(self.unwrap()) == *other
-    }
-}
-
-impl PartialEq<Singleton> for char {
-    #[inline]
-    fn eq(&self, other: &Singleton) -> bool {
-        other == self
-    }
-}
-
-impl From<Singleton> for char {
-    #[inline]
-    fn from(singleton: Singleton) -> char {
-        char::from(singleton.unwrap())
-    }
-}
+compared_singleton!(u8, char);
 
 #[cfg(feature = "alloc")]
 mod owned {
     use alloc::borrow::Cow;
+    use alloc::boxed::Box;
+    use alloc::rc::Rc;
     use alloc::string::String;
     use alloc::vec::Vec;
     use core::cmp::Ordering;
@@ -161,6 +130,7 @@ mod owned {
                 #[doc = concat!("Returns the owned form of the same text. It aborts if allocation fails, as `String` does; [`try_to_owned`](", stringify!($name), "::try_to_owned) returns an error instead.")]
                 ///
                 #[doc = concat!("This is not a method of the trait `ToOwned`, whose `to_owned` returns another `", stringify!($name), "`, as for every type that is `Clone`.")]
+                #[must_use]
                 #[inline]
                 pub fn to_owned(&self) -> $owned {
                     or_abort(self.try_to_owned())
@@ -169,6 +139,7 @@ mod owned {
 
             impl $owned {
                 /// Returns the bytes of the string, without a copy.
+                #[must_use]
                 #[inline]
                 pub fn into_bytes(self) -> Vec<u8> {
                     self.into_string().into_bytes()
@@ -182,31 +153,7 @@ mod owned {
                 }
             }
 
-            /// Gives access to the methods of `str`, such as `len` and `starts_with`. A `str` has a
-            /// case: unlike `==` of this type, `==` of a `str` does not ignore it, nor does `==` of what
-            /// `Option::as_deref` returns.
-            impl Deref for $owned {
-                type Target = str;
-
-                #[inline]
-                fn deref(&self) -> &str {
-                    self.as_str()
-                }
-            }
-
-            impl AsRef<str> for $owned {
-                #[inline]
-                fn as_ref(&self) -> &str {
-                    self.as_str()
-                }
-            }
-
-            impl AsRef<[u8]> for $owned {
-                #[inline]
-                fn as_ref(&self) -> &[u8] {
-                    self.as_str().as_bytes()
-                }
-            }
+            viewed!($owned);
 
             impl FromStr for $owned {
                 type Err = $error<String>;
@@ -220,44 +167,27 @@ mod owned {
                 }
             }
 
-            impl TryFrom<&str> for $owned {
-                type Error = $error<String>;
+            try_from!([] &str => $owned, $error<String>: text => text.parse());
+            try_from!([] String => $owned, $error<String>: text => $owned::new(text));
+            try_from!([] Box<str> => $owned, $error<String>: text => $owned::new(text.into()));
+            try_from!(['a] Cow<'a, str> => $owned, $error<String>: text => $owned::new(text.into()));
+            try_from!([] Vec<u8> => $owned, $error<Vec<u8>>: bytes => {
+                let text = String::from_utf8(bytes).map_err(|error| $error(error.into_bytes()))?;
+                $owned::new(text).map_err(|error| $error(error.0.into_bytes()))
+            });
+            try_from!([] &[u8] => $owned, $error<Vec<u8>>: bytes => bytes.to_vec().try_into());
 
-                #[inline]
-                fn try_from(text: &str) -> Result<Self, Self::Error> {
-                    text.parse()
-                }
-            }
-
-            impl TryFrom<String> for $owned {
-                type Error = $error<String>;
-
-                #[inline]
-                fn try_from(text: String) -> Result<Self, Self::Error> {
-                    $owned::new(text)
-                }
-            }
-
-            impl From<$name<'_>> for $owned {
-                #[inline]
-                fn from(lent: $name<'_>) -> Self {
-                    lent.to_owned()
-                }
-            }
-
-            impl<'a> From<&'a $owned> for $name<'a> {
-                #[inline]
-                fn from(owned: &'a $owned) -> Self {
-                    owned.$lend()
-                }
-            }
-
-            impl From<$owned> for String {
-                #[inline]
-                fn from(owned: $owned) -> String {
-                    owned.into_string()
-                }
-            }
+            from!(['a] $name<'a> => $owned: lent => lent.to_owned());
+            from!(['a] &'a $owned => $name<'a>: owned => owned.$lend());
+            from!(['a] $name<'a> => String: lent => lent.as_str().into());
+            from!(['a] $name<'a> => Box<str>: lent => lent.as_str().into());
+            from!([] &$owned => String: owned => owned.as_str().into());
+            from!([] $owned => String: owned => owned.into_string());
+            from!([] $owned => Box<str>: owned => owned.into_string().into());
+            from!([] $owned => Rc<str>: owned => owned.into_string().into());
+            #[cfg(target_has_atomic = "ptr")]
+            from!([] $owned => alloc::sync::Arc<str>: owned => owned.into_string().into());
+            from!(['a] $owned => Cow<'a, str>: owned => owned.into_string().into());
 
             impl PartialEq<$name<'_>> for $owned {
                 #[inline]

@@ -28,7 +28,8 @@ pub use crate::keywords::{remove_keyword, set_keyword, SetKeywordError};
 /// Returns the value of a key of the extension `u`: `Some("")` for a key without a value, and
 /// `None` if the tag does not have the key ([RFC 6067 section 2.1]).
 ///
-/// The key is compared ignoring case, and the first of repeated keys counts.
+/// The key is compared ignoring case, and the first of repeated keys counts. If a tag has several
+/// extensions `u`, which no valid tag has, only the first is read.
 ///
 /// ```
 /// use langtag::unicode::keyword;
@@ -220,14 +221,5 @@ impl fmt::Display for WriteKeywordError {
 
 impl core::error::Error for WriteKeywordError {}
 
-impl From<KeywordError> for WriteKeywordError {
-    fn from(error: KeywordError) -> Self {
-        WriteKeywordError::Keyword(error)
-    }
-}
-
-impl From<TooShort> for WriteKeywordError {
-    fn from(error: TooShort) -> Self {
-        WriteKeywordError::TooShort(error)
-    }
-}
+from!([] KeywordError => WriteKeywordError: error => WriteKeywordError::Keyword(error));
+from!([] TooShort => WriteKeywordError: error => WriteKeywordError::TooShort(error));

@@ -1,14 +1,13 @@
-//! Calls that allocate, with texts of each length up to 1,000 bytes, and in steps up to 300,000; with each short subtag; and with each
-//! prefix of the tags in rows. Their contracts would allow a call to report that allocation failed for any of these texts, and
-//! Display to fail. Only this test shows that neither happens, and that no call of the owned types takes seconds.
+//! Calls that allocate, with tags of each length up to 1,000 bytes, and in steps up to 300,000; with each short subtag; and with each
+//! prefix of the tags in rows. Their contracts would allow a call to report that allocation failed for any of these tags, and
+//! Display to fail. Only this test and the rows of each length, which `bindings/check` asks, show that neither happens. This test also
+//! shows that no call of the owned types takes seconds.
 #![cfg(all(feature = "alloc", feature = "data"))]
 use std::time::{Duration, Instant};
 
-use langtag::choice::{suitable_for_header, suitable_for_ranges, Site};
 use langtag::likely::{
-    from_posix, try_maximized, try_minimized, try_to_posix, write_maximized, write_minimized,
+    try_maximized, try_minimized, try_to_posix, write_maximized, write_minimized,
 };
-use langtag::matching::{tag_for_header, AcceptLanguage};
 use langtag::registry::{try_canonical, try_extlang_form, write_canonical};
 use langtag::unicode::{
     try_extensions_form, try_locale_form, write_extensions_form, write_locale_form,
@@ -18,13 +17,13 @@ use langtag::{LangTag, NormalLangTag, NormalLangTagBuf};
 const MOST: usize = 300_000;
 const LONGEST: Duration = Duration::from_secs(20);
 
-/// Calls `ask` with texts that have a head, a piece a number of times, and a tail, up to a number of bytes.
-fn each_length(head: &str, piece: &str, tail: &str, most: usize, ask: impl Fn(&str, usize)) {
+/// Calls `ask` with texts that have a head, a piece a number of times, and a tail.
+fn each_length(head: &str, piece: &str, tail: &str, ask: impl Fn(&str)) {
     let (mut times, mut len) = (0, 0);
-    while len <= most {
+    while len <= MOST {
         let text = format!("{head}{}{tail}", piece.repeat(times));
         let begun = Instant::now();
-        ask(&text, times);
+        ask(&text);
         assert!(begun.elapsed() < LONGEST, "{head}{piece}: {len} bytes");
         times += if len < 1000 { 1 } else { times / 2 };
         len = head.len() + times * piece.len() + tail.len();
@@ -120,103 +119,9 @@ fn tags_of_each_length() {
         ("zh-hak-Hant-419-1996-u-co-x-a", "-a", ""),
         ("en-b-cc-a-dd", "-dd", "-x-e"),
     ] {
-        each_length(head, piece, tail, MOST, |text, _| {
+        each_length(head, piece, tail, |text| {
             check(text, &["sl-IT-rozaj-a-bb-x-a"])
         });
-    }
-}
-
-/// Sets a keyword that the tag lacks, and removes it again.
-fn check_keyword(tag: LangTag<'_>, value: &str) {
-    let mut owned = tag.to_owned();
-    owned.set_keyword("ca", value).expect("there is memory");
-    assert!(owned.as_str().len() > tag.as_str().len() + value.len());
-    owned.remove_keyword("ca").expect("there is memory");
-    assert_eq!(owned.as_str(), tag.as_str());
-}
-
-#[test]
-fn keywords_of_each_length() {
-    for head in [
-        "de-u-co-eor-x-a",
-        "de-u-co-eor-x-bb",
-        "en-US-t-it-m0-names-x-a",
-        "hy-SU-x-aaa",
-    ] {
-        each_length(head, "-a", "", MOST, |text, _| {
-            for value in ["", "roc", "islamic-civil"] {
-                check_keyword(LangTag::new(text).unwrap(), value);
-            }
-        });
-    }
-    each_length("abc", "-abcde", "", MOST, |value, _| {
-        check_keyword(LangTag::new("de-x-a").unwrap(), value)
-    });
-}
-
-/// The language and the territory of a name have at most 255 bytes.
-#[test]
-fn names_of_each_length() {
-    for head in ["de_x_a", "de_x_bb"] {
-        each_length(head, "_a", "", 255, |name, _| {
-            let tag = name.replace('_', "-");
-            let latin = tag.replacen("de", "de-Latn", 1);
-            for (more, wanted) in [("", &tag), (".UTF-8", &tag), ("@latin", &latin)] {
-                let name = format!("{name}{more}");
-                assert_eq!(from_posix(&name).expect(&name).as_str(), wanted);
-            }
-        });
-    }
-    each_length("de_DE.", "a", "", MOST, |name, _| {
-        assert_eq!(from_posix(name).expect(name), "de-DE")
-    });
-}
-
-/// Headers, with the number of their ranges: a first number, and a number for each further piece.
-#[test]
-fn headers_of_each_length() {
-    let tag = LangTag::new("de-CH").unwrap();
-    for (head, piece, tail, first, each, is_bad) in [
-        ("", " ", "de", 1, 0, false),
-        ("", "de,", "", 0, 1, false),
-        ("de;q=0.5", ",fr;q=0.25", "", 1, 1, false),
-        ("de", "-a", "", 1, 0, false),
-        ("deu", "-a", ", en;q=0.5", 2, 0, false),
-        ("ab", "-ab", "", 1, 0, false),
-        ("*, de", ",a-12345678", "", 2, 1, false),
-        ("de,", "_", "_,fr", 2, 0, true),
-        ("", "de_a,", "de_a,fr", 1, 0, true),
-        ("de;q=1.5", ",fr", "", 0, 1, true),
-    ] {
-        each_length(head, piece, tail, MOST, |header, times| {
-            let accepted = AcceptLanguage::try_lenient(header).expect("there is memory");
-            let count = accepted.ranges().len();
-            assert_eq!(count, first + times * each, "{head}{piece}");
-            if !is_bad {
-                assert!(AcceptLanguage::new(header).is_ok());
-                assert!(tag_for_header(header, &[tag], &tag).is_ok());
-            }
-        });
-    }
-    let tags = [LangTag::new("en").unwrap(), tag];
-    each_length("", "fr;q=0.5,", "de-ch-1996;q=0.1", MOST, |header, _| {
-        assert_eq!(suitable_for_header(header, &tags), [1]);
-    });
-}
-
-/// The last of more and more tags has to be found.
-#[test]
-fn lists_of_each_length() {
-    let (english, german) = (LangTag::new("en").unwrap(), LangTag::new("de-CH").unwrap());
-    let mut len = 0;
-    while len < 20_000 {
-        let mut tags = vec![english; len];
-        tags.push(german);
-        let site = Site::try_new(tags.as_slice()).expect("there is memory");
-        assert_eq!(site.best_for_header("de-ch-1996"), Some(&german));
-        assert_eq!(suitable_for_header("fr, de-ch-1996;q=0.9", &tags), [len]);
-        assert_eq!(suitable_for_ranges(&["fr", "de-ch-1996"], &tags), [len]);
-        len += if len < 300 { 1 } else { len / 2 };
     }
 }
 

@@ -12,8 +12,6 @@ pub mod cldr;
 pub mod extension;
 #[path = "../../src/erased/fields/mod.rs"]
 pub mod fields;
-#[path = "../../src/erased/header/mod.rs"]
-pub mod header;
 #[path = "../../src/erased/keyword/mod.rs"]
 pub mod keyword;
 #[path = "../../src/erased/language/mod.rs"]
@@ -44,5 +42,3 @@ pub mod tag;
 pub mod text;
 #[path = "../../src/erased/unicode/mod.rs"]
 pub mod unicode;
-#[path = "../../src/erased/validity/mod.rs"]
-pub mod validity;

@@ -6,7 +6,7 @@
 //!
 //! This writes `target/release/liblangtag_verified.a`, and the shared library beside it. All modules except `calls`,
 //! `exports` and `panic` are shared with the Rust crate. `rust/erase` made the modules from the proved sources,
-//! except `exports`, which `bindings/generate.py` writes, and `panic`, `shim` and `suggestion`, which are written by hand.
+//! except `exports`, which `bindings/generate.py` writes, and `panic`, `shim` and `message`, which are written by hand.
 #![no_std]
 #![deny(unsafe_code)]
 #![allow(dead_code, unused_imports, unused_macros, clippy::all)] // The Rust crate uses more items, and has its own lints.
@@ -24,8 +24,6 @@ mod shim;
 mod erased;
 #[path = "../../src/message.rs"]
 mod message;
-#[path = "../../src/suggestion.rs"]
-mod suggestion;
 
 mod calls;
 mod exports;

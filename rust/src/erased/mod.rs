@@ -11,7 +11,6 @@ pub mod cldr;
 pub mod extension;
 #[cfg(feature = "data")]
 pub mod fields;
-pub mod header;
 #[cfg(feature = "data")]
 pub mod keyword;
 pub mod language;
@@ -34,5 +33,3 @@ pub mod tag;
 pub mod text;
 #[cfg(feature = "data")]
 pub mod unicode;
-#[cfg(feature = "data")]
-pub mod validity;

@@ -27,7 +27,7 @@ pub fn posix(name: &str) -> String {
             length(write_from_posix(name, buffer).map(Option::unwrap))
         }),
         Err(PosixError::NoTag(text)) => {
-            assert_eq!((text, write_from_posix(name, &mut [])), (name, Ok(None)));
+            assert_eq!((&*text, write_from_posix(name, &mut [])), (name, Ok(None)));
             "-".into()
         }
         Err(error) => panic!("{error}"),

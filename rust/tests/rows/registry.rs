@@ -1,33 +1,22 @@
 //! Calls of the registry.
-use langtag::erased::registry::fault_at;
 use langtag::registry::*;
 use langtag::*;
 
 use crate::reader::{check_buffer, length, word};
 
-/// Returns the first fault of a tag, and the offset of its subtag.
+/// Returns the first fault of a tag, and the offset of its subtag. The proved call must find the same fault.
 pub fn validity(tag: LangTag<'_>) -> String {
-    let Some((invalid, index)) = fault_at(tag) else {
-        assert_eq!(validate(tag), Ok(()));
+    let found = erased::registry::validate(tag);
+    let Err(invalid) = validate(tag) else {
+        assert_eq!(found, Ok(()));
         return "valid".into();
     };
-    assert_eq!(validate(tag), Err(invalid));
-    let (fault, subtag) = match invalid {
-        InvalidSubtag::Language(subtag) => ("language", subtag.as_str()),
-        InvalidSubtag::Extlang(subtag) => ("extlang", subtag.as_str()),
-        InvalidSubtag::SecondExtlang(subtag) => ("second-extlang", subtag.as_str()),
-        InvalidSubtag::Script(subtag) => ("script", subtag.as_str()),
-        InvalidSubtag::Region(subtag) => ("region", subtag.as_str()),
-        InvalidSubtag::Variant(subtag) => ("variant", subtag.as_str()),
-        InvalidSubtag::RepeatedVariant(subtag) => ("repeated-variant", subtag.as_str()),
-        InvalidSubtag::RepeatedSingleton(_) => (
-            "repeated-singleton",
-            &tag.extensions().iter().nth(index).unwrap().as_str()[..1],
-        ),
-        _ => panic!("{invalid}"),
-    };
-    let offset = subtag.as_ptr() as usize - tag.as_ptr() as usize;
-    format!("{fault} {offset} {subtag}")
+    let (fault, start, subtag) = (invalid.fault(), invalid.start(), invalid.subtag());
+    assert!(invalid
+        .to_string()
+        .starts_with(&found.unwrap_err().to_string()));
+    assert_eq!(&tag[start..invalid.end()], subtag);
+    format!("{fault} {start} {subtag}")
 }
 
 /// Returns the code that was probably meant by the first invalid subtag. The error message must end with it.

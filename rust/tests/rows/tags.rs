@@ -39,11 +39,28 @@ pub fn kind_of(bytes: &[u8]) -> &'static str {
 
 /// Returns the kind of a tag and, on further lines, its parts. It also compares calls that must return the same values.
 pub fn tag(bytes: &[u8]) -> String {
+    let constant = constant(bytes);
     let Ok(tag) = LangTag::from_bytes(bytes) else {
+        assert_eq!(constant, None);
         return kind_of(bytes).into();
     };
     check_twice(tag);
-    let mut lines = vec![String::from(kind_of(bytes))];
+    let (found, constant) = (parts_of(tag), constant.unwrap());
+    assert_eq!(
+        (parts_of(constant), constant.kind()),
+        (found.clone(), tag.kind())
+    );
+    found
+}
+
+/// Returns the tag as rustc reads it for a constant, or `None` if rustc refuses it.
+fn constant(bytes: &[u8]) -> Option<LangTag<'static>> {
+    let text: &str = String::from_utf8(bytes.into()).ok()?.leak();
+    std::panic::catch_unwind(|| LangTag::from_static(text)).ok()
+}
+
+fn parts_of(tag: LangTag<'_>) -> String {
+    let mut lines = vec![String::from(kind_of(tag.as_bytes()))];
     let mut line = |name: &str, words: &str| lines.push(format!("  {name} {words}"));
     if let Some(language) = tag.language() {
         let primary = language.primary();

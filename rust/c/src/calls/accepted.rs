@@ -6,6 +6,7 @@
 use crate::calls::items::{next_item, number_of};
 use crate::calls::span::Span;
 use crate::erased::matching::element_at;
+use crate::erased::range::trimmed_place;
 
 /// Removes the first element from `rest`, which is the value of an Accept-Language header or the
 /// rest of it (RFC 9110 section 12.5.4). Returns an enum `langtag_accepted_answer`. Empty elements
@@ -23,8 +24,9 @@ use crate::erased::matching::element_at;
 ///
 /// `range` (out) is where the range is, and `weight` (out) its weight in thousandths: 1000 if none
 /// is given, and 0 for "not acceptable". For a malformed element, `range` is everything between the
-/// commas, and `weight` is 0. The next call continues after that element. So the loop above skips
-/// malformed elements. A strict program stops at a malformed element, and refuses the header.
+/// commas without the spaces and tabs around it, and `weight` is 0. The next call continues after
+/// that element. So the loop above skips malformed elements. A strict program stops at a malformed
+/// element, and refuses the header.
 ///
 /// The elements are returned in the order of the header. A lookup tries the greatest weight first,
 /// and ranges of equal weight in the order of the header. So collect the ranges, and sort them by
@@ -51,9 +53,18 @@ pub fn langtag_next_accepted(
             1
         }
         Err(part) => {
-            *range = item;
+            *range = trimmed_span(bytes, item);
             *weight = 0;
             number_of(&part)
         }
+    }
+}
+
+/// Returns the span of an item without the white space around it.
+fn trimmed_span(bytes: &[u8], item: Span) -> Span {
+    let (start, end) = trimmed_place(&bytes[item.start..item.start + item.len]);
+    Span {
+        start: item.start + start,
+        len: end - start,
     }
 }

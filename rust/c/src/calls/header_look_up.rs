@@ -6,8 +6,8 @@
 use crate::calls::items::{is_comma, next_item};
 use crate::calls::span::Span;
 use crate::calls::spanned::{bytes_in, tag_in};
-use crate::erased::header::{element_at, ElementPart, LanguageRange};
-use crate::erased::range::is_empty_element;
+use crate::erased::matching::{element_at, ElementPart, LanguageRange};
+use crate::erased::range::{is_empty_element, trimmed_place};
 use crate::erased::scan::case_insensitive_eq;
 
 /// Returns the index of the tag that lookup finds for an Accept-Language header, or the number of
@@ -75,11 +75,15 @@ fn is_tag_alike(bytes: &[u8], span: Span, text: &[u8]) -> bool {
 pub(crate) fn first_bad(header: &[u8]) -> Option<(Span, ElementPart)> {
     let mut start = 0;
     for item in header.split(|byte| is_comma(*byte)) {
-        let len = item.len();
         if let Some(part) = bad_part(item) {
-            return Some((Span { start, len }, part));
+            let (first, end) = trimmed_place(item);
+            let span = Span {
+                start: start + first,
+                len: end - first,
+            };
+            return Some((span, part));
         }
-        start += len + 1;
+        start += item.len() + 1;
     }
     None
 }

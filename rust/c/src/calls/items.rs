@@ -3,7 +3,7 @@
 //! A walk over the items of an Accept-Language header (RFC 9110 section 5.6.1.2).
 
 use crate::calls::span::Span;
-use crate::erased::header::ElementPart;
+use crate::erased::matching::ElementPart;
 use crate::erased::range::{is_empty_element, len_before};
 
 /// Removes the first item that is not empty from a list, together with the comma after it.

@@ -15,7 +15,7 @@ use crate::calls::span::Span;
 ///   `bad` (out) is empty, at the end of the header.
 /// - Otherwise: the answer says what is wrong with the first malformed element. `index` is
 ///   `tags_len`, and `bad` is the
-///   string of that element between its commas.
+///   string of that element, without the spaces and tabs around it.
 pub fn langtag_tag_for_header(
     header: &[u8],
     bytes: &[u8],

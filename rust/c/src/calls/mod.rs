@@ -8,7 +8,10 @@
 //! marked with "(out)" is only written, and names in capitals are those of the header.
 //!
 //! A slice is passed as a pointer and a length. Bytes need not be UTF-8. No function requires more
-//! of its arguments than their types do.
+//! of its arguments than their types do. No pointer may be NULL: a contract cannot speak of NULL,
+//! so a check could not be proved. So a keyword is removed by `langtag_without_keyword`, and not by
+//! NULL as its value. A kind is a `u32`, with an enum in the header, because compilers differ in
+//! the width of an enum.
 
 pub(crate) mod accepted;
 pub(crate) mod base;

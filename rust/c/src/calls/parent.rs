@@ -26,15 +26,18 @@ pub fn langtag_parent(bytes: &[u8], buffer: &mut [u8]) -> usize {
 /// char tag[64];
 /// size_t len;
 /// for (uint32_t at = 0; (len = langtag_nth_parent("pt-Latn-AO", 10, at, tag, sizeof tag)) > 0 && len <= sizeof tag; at++)
-///     printf("%.*s ", (int)len, tag); // pt-Latn-AO pt-AO pt-PT pt
+///     printf("%.*s ", (int)len, tag); // pt-Latn-AO pt-AO pt-PT pt-Latn pt
 /// ```
 ///
-/// All tags of a chain are written in the same script, so zh-Hant has no parent: zh is Simplified.
-/// A script that is likely anyway goes first. Extensions and private use are removed next, then
-/// each variant, the last one first, and then the region. The variants come back with each parent:
-/// ca-ES-valencia, ca-ES, ca-valencia, ca. A script is only removed if it is the likely script of
-/// the language. The tag should be in its canonical form, as CLDR does not list deprecated or
-/// extended languages. Case is ignored.
+/// All tags of a chain are written in the same script if CLDR lists the language, so zh-Hant has no
+/// parent: zh is Simplified. A script that is likely anyway goes first, and comes back before the
+/// language alone: zh-Hans-CN, zh-CN, zh-Hans, zh. Extensions and private use are removed next,
+/// then each variant, the last one first, and then the region. The variants come back with each
+/// parent: ca-ES-valencia, ca-ES, ca-valencia, ca. Case is ignored.
+///
+/// If the folders of a catalogue name scripts, such as zh-Hans, call this function with the result
+/// of `langtag_maximized`, which names the script of zh-CN. CLDR does not list replaced codes such
+/// as iw and cmn, nor extended languages: replace them first by `langtag_locale_form`.
 ///
 /// Returns 0 and writes nothing if the chain has no more tags, or if the string is not a tag.
 pub fn langtag_nth_parent(bytes: &[u8], index: u32, buffer: &mut [u8]) -> usize {

@@ -2,7 +2,7 @@
 use langtag::choice::{best_for_header, distance};
 use langtag::likely::{try_maximized, try_minimized};
 use langtag::matching::LanguageRange;
-use langtag::registry::{try_canonical, validate, InvalidSubtag};
+use langtag::registry::{try_canonical, validate};
 use langtag::{LangTag, LangTagBuf, NormalLangTag, TypedLangTag};
 
 use crate::input::Failure;
@@ -183,33 +183,10 @@ fn check(tag: LangTag<'_>, options: &Options) -> Result<Answer, Failure> {
         let words = format!("valid canonical={form}");
         return Ok(Answer::of(text, &["valid", "", "", &form], &words, options));
     };
-    let (what, subtag) = fault_of(tag, &invalid);
+    let (what, subtag) = (invalid.fault().to_string(), invalid.subtag());
     let words = format!("invalid {what}={subtag} canonical={form}");
-    let answer = Answer::of(text, &["invalid", what, subtag, &form], &words, options);
-    Ok(answer.because(pointer::invalid(tag, &invalid, subtag)))
-}
-
-/// Returns the word for the fault, and the subtag, which is a slice of the tag.
-fn fault_of<'a>(tag: LangTag<'a>, invalid: &InvalidSubtag<'a>) -> (&'static str, &'a str) {
-    match invalid {
-        InvalidSubtag::Language(subtag) => ("language", subtag.as_str()),
-        InvalidSubtag::Extlang(subtag) => ("extlang", subtag.as_str()),
-        InvalidSubtag::SecondExtlang(subtag) => ("second-extlang", subtag.as_str()),
-        InvalidSubtag::Script(subtag) => ("script", subtag.as_str()),
-        InvalidSubtag::Region(subtag) => ("region", subtag.as_str()),
-        InvalidSubtag::Variant(subtag) => ("variant", subtag.as_str()),
-        InvalidSubtag::RepeatedVariant(subtag) => ("repeated-variant", subtag.as_str()),
-        _ => ("repeated-singleton", repeated_singleton(tag)),
-    }
-}
-
-/// Returns the first singleton that repeats an earlier singleton, as a slice of the tag.
-fn repeated_singleton(tag: LangTag<'_>) -> &str {
-    let index = tag
-        .as_normal()
-        .and_then(|tag| tag.repeated_singleton_index());
-    let extension = index.and_then(|index| tag.extensions().iter().nth(index));
-    extension.map_or(tag.as_str(), |extension| &extension.as_str()[..1])
+    let answer = Answer::of(text, &["invalid", &what, subtag, &form], &words, options);
+    Ok(answer.because(pointer::invalid(tag, &invalid)))
 }
 
 /// Returns the answer of `best`: the best tag for the header.

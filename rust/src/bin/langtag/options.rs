@@ -4,7 +4,7 @@ use std::ffi::OsString;
 use langtag::likely::CLDR_VERSION;
 use langtag::registry::FILE_DATE;
 
-/// The words of `--help`, which `python -m langtag` has, too.
+/// The words of `--help`.
 const HELP: &str = include_str!("help.txt");
 
 #[derive(Clone, Copy, Debug, PartialEq, Eq)]

@@ -18,10 +18,9 @@ pub fn refused(text: &[u8]) -> String {
     format!("{error}{}", underlined(text, marked))
 }
 
-/// Says why a tag is not valid. The subtag is a slice of the tag.
-pub fn invalid(tag: LangTag<'_>, invalid: &InvalidSubtag<'_>, subtag: &str) -> String {
-    let start = subtag.as_ptr() as usize - tag.as_str().as_ptr() as usize;
-    let marked = underlined(tag.as_bytes(), start..start + subtag.len());
+/// Says why a tag is not valid.
+pub fn invalid(tag: LangTag<'_>, invalid: &InvalidSubtag<&str>) -> String {
+    let marked = underlined(tag.as_bytes(), invalid.start()..invalid.end());
     format!(
         "`{}` is not valid: {invalid}{marked}",
         shown(tag.as_bytes())

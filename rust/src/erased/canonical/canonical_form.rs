@@ -107,22 +107,14 @@ fn form_as_tag(tag: LangTag<'_>) -> Result<LangTagBuf, AllocError> {
     match form_of(tag) {
         Form::Same => tag.try_to_owned(),
         Form::Whole(preferred) => preferred.try_to_owned(),
-        Form::Parts(normal) => parts_as_tag(tag, normal),
+        Form::Parts(normal) => Ok(tag_of(bytes_of_parts(tag, normal)?)),
     }
 }
 
-/// Returns the canonical form of a tag: its parts in their canonical forms, or the Preferred-Value
-/// of the tag that these parts make up.
+/// Returns the bytes of the canonical form of a tag, as [`write_parts`] writes them. The buffer has
+/// a guessed length. If it is too short, the bytes are written again.
 #[cfg(feature = "alloc")]
-#[inline]
-fn parts_as_tag(tag: LangTag<'_>, normal: NormalLangTag<'_>) -> Result<LangTagBuf, AllocError> {
-    Ok(tag_of(parts_as_bytes(tag, normal)?))
-}
-
-/// Returns the bytes of the canonical form, as [`parts_as_tag`] describes it. They are written once
-/// if they fit into a guess of their number, and otherwise again.
-#[cfg(feature = "alloc")]
-fn parts_as_bytes(tag: LangTag<'_>, normal: NormalLangTag<'_>) -> Result<Vec<u8>, AllocError> {
+fn bytes_of_parts(tag: LangTag<'_>, normal: NormalLangTag<'_>) -> Result<Vec<u8>, AllocError> {
     let mut bytes = try_vec(0, tag.as_bytes().len().saturating_add(SPARE))?;
     let len = write_parts(normal, &mut bytes);
     if len > bytes.len() {

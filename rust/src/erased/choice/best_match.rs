@@ -2,7 +2,7 @@
 
 //! The best tag with the range that it serves.
 
-/// The best tag for a reader, the range that it serves, and its distance from that range.
+/// The best tag for a user, the range that it serves, and its distance from that range.
 ///
 /// ```
 /// # fn main() -> Result<(), Box<dyn std::error::Error>> {
@@ -14,12 +14,12 @@
 /// # Ok(())
 /// # }
 /// ```
-#[derive(Clone, Copy, Debug, PartialEq, Eq, Hash)]
+#[derive(Clone, Copy, PartialEq, Eq, Hash)]
 #[non_exhaustive]
 pub struct BestMatch<'a> {
     /// The index of the tag.
     pub index: usize,
-    /// The range as the reader wrote it. It may contain `_` instead of a hyphen.
+    /// The range as the user wrote it. It may contain `_` instead of a hyphen.
     pub range: &'a [u8],
     /// The number of ranges before `range`, including ranges of weight 0.
     pub place: usize,

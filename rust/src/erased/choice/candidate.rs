@@ -2,6 +2,7 @@
 
 //! A tag that may serve a range.
 
+use crate::erased::choice::as_read::lost_as_read;
 use crate::erased::choice::likely_region::unlikely;
 use crate::erased::choice::nearness::kept;
 use crate::erased::choice::variants::{has_variants, lacking_variants};
@@ -96,13 +97,20 @@ impl Candidate<'_, '_> {
 
     /// Returns whether this candidate is better than another of the same rank. It compares how many
     /// of the variants of the range the tags lack, then how much lookup removes from the range,
-    /// then how likely the region is, and then the index.
+    /// then how likely the region is, and then the index. Lookup first reads the languages as CLDR
+    /// replaces them, and then as they are written.
+    #[inline(never)]
     fn breaks_tie(&self, other: &Candidate<'_, '_>) -> bool {
         let (lacking, others_lacking) = (self.lacking(), other.lacking());
         if lacking != others_lacking {
             return lacking < others_lacking;
         }
         let (lost, others_lost) = (self.lost(), other.lost());
+        let read = lost_as_read(self.range, self.tag, lost);
+        let others_read = lost_as_read(other.range, other.tag, others_lost);
+        if read != others_read {
+            return read < others_read;
+        }
         if lost != others_lost {
             return lost < others_lost;
         }

@@ -3,6 +3,7 @@
 //! What the first letters of a tag show of its language.
 
 use crate::erased::choice::matching_tables as tables;
+use crate::erased::cldr::may_change_language;
 use crate::erased::range::is_separator;
 use crate::erased::scan::into_smallcase;
 
@@ -15,45 +16,14 @@ pub(crate) fn first_two(text: &[u8]) -> Option<(u8, u8)> {
     }
 }
 
-/// Returns `true` only if the language of a string has two letters and no extended language follows
-/// it, or the string does not begin with a language.
+/// Returns `true` only if the first subtag of a string has at most two characters, and what follows
+/// keeps the language: `zh-Hant` stays `zh`, but `zh-yue` and `zh-hakka` are `yue` and `hak`.
 pub(crate) fn is_short(text: &[u8]) -> bool {
     match text {
         [_, _] => true,
-        [_, _, mark, rest @ ..] => is_separator(*mark) && has_no_extended(rest),
+        [_, _, mark, rest @ ..] => is_separator(*mark) && !may_change_language(rest),
         _ => false,
     }
-}
-
-/// Returns whether the first subtag of a string is neither empty nor `*`, and is not an extended
-/// language.
-#[inline]
-fn has_no_extended(text: &[u8]) -> bool {
-    begins_counted(text) && !may_be_extended(text)
-}
-
-/// Returns whether the first subtag of a string is neither empty nor `*`.
-#[inline]
-fn begins_counted(text: &[u8]) -> bool {
-    match text {
-        [first, ..] => !is_separator(*first) && *first != b'*',
-        [] => true,
-    }
-}
-
-/// Returns whether a string may begin with an extended language. A region of three digits is not an
-/// extended language.
-fn may_be_extended(text: &[u8]) -> bool {
-    match text {
-        [first, _, _] => is_letter(*first),
-        [first, _, _, mark, ..] => is_separator(*mark) && is_letter(*first),
-        _ => false,
-    }
-}
-
-#[inline]
-fn is_letter(byte: u8) -> bool {
-    byte.is_ascii_alphabetic()
 }
 
 /// Returns the number of the language with which a tag begins, given by its two letters in

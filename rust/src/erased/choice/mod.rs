@@ -16,6 +16,7 @@
 //! # }
 //! ```
 
+mod as_read;
 mod best;
 mod best_match;
 mod by_ranges;

@@ -46,9 +46,12 @@ fn nearer_than<'t>(limit: u8, wish: &Wish<'_>, tag: KnownTag<'t>) -> Option<Near
 
 /// Returns how near a string is to a range, if it is nearer than a limit.
 fn nearer_text<'t>(limit: u8, wish: &Wish<'_>, tag: &'t [u8]) -> Option<Nearness<'t>> {
-    match (wish.form, replaced_form(tag)) {
-        (Some(desired), Some(supported)) => nearer_fields(limit, desired, supported),
-        _ => equal_text(limit, wish.range, tag),
+    let Some(desired) = wish.form else {
+        return equal_text(limit, wish.range, tag);
+    };
+    match replaced_form(tag) {
+        Some(supported) => nearer_fields(limit, desired, supported),
+        None => equal_text(limit, wish.range, tag),
     }
 }
 
@@ -73,8 +76,8 @@ fn nearer_prepared<'t>(
     }
 }
 
-/// Returns how near a tag is to a range, by their fields. It adds the tag's likely subtags only if
-/// the language is near enough.
+/// Computes how near a tag is to a range, from the fields of both. It adds the tag's likely subtags
+/// only if the language is near enough.
 #[inline]
 fn nearer_fields<'t>(
     limit: u8,
@@ -153,7 +156,7 @@ pub(crate) fn kept(range: &[u8], tag: &[u8]) -> usize {
 /// Returns whether a tag equals a range, or equals the string before one of the range's hyphens and
 /// does not end in a subtag of a single character.
 #[inline]
-fn is_fallback(range: &[u8], tag: &[u8]) -> bool {
+pub(crate) fn is_fallback(range: &[u8], tag: &[u8]) -> bool {
     let (left, rest) = after_common(range, tag);
     rest.is_empty() && may_go(left, tag)
 }

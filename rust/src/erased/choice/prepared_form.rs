@@ -31,7 +31,7 @@ pub struct PreparedForm {
 }
 
 impl PreparedForm {
-    /// Returns what the choice computes of a tag. A clone is the same value.
+    /// Computes what the choice compares, from a tag.
     #[must_use]
     pub fn of(tag: &[u8]) -> PreparedForm {
         match (matching_form(tag), first_two(tag)) {

@@ -24,8 +24,7 @@ pub struct PreparedTag<'t> {
 }
 
 impl<'t> PreparedTag<'t> {
-    /// Returns the tag with what the choice computes of it. A clone of a prepared tag is the same
-    /// value.
+    /// Prepares a tag for many choices.
     #[inline]
     #[must_use]
     pub fn new(tag: LangTag<'t>) -> PreparedTag<'t> {

@@ -2,10 +2,10 @@
 
 //! The lists of language ranges for which a tag can be chosen.
 
-use crate::erased::header::{LanguageRange, WeightedRange};
+use crate::erased::matching::{LanguageRange, WeightedRange};
 use crate::erased::range::{split_wanted, WantedRange};
 
-/// Language ranges with their weights, in the reader's order. It is implemented for an
+/// Language ranges with their weights, in the user's order. It is implemented for an
 /// Accept-Language header in a slice of bytes, and for slices of [`WeightedRange`] and of
 /// [`LanguageRange`]. Walking over the ranges does not allocate.
 ///

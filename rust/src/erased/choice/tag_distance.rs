@@ -9,8 +9,8 @@ use crate::erased::cldr::{are_alike, matching_form, TagFields};
 use crate::erased::scan::case_insensitive_eq;
 use crate::erased::tag::LangTag;
 
-/// The distance of two different tags if one of them has no known language. Such a tag is `und`, a
-/// private-use tag, or a tag that begins with `i-`.
+/// The distance of two different tags if one of them is `und`, a private-use tag, `i-default`,
+/// `i-enochian` or `i-mingo`.
 ///
 /// ```
 /// # fn main() -> Result<(), Box<dyn std::error::Error>> {
@@ -29,14 +29,20 @@ pub const FORMLESS_DISTANCE: u8 = 255;
 ///
 /// First, deprecated subtags are replaced and likely subtags are added. The distance is then the
 /// sum of the distances of the languages (80 if no rule gives a smaller distance), the scripts (50
-/// if no rule does) and the regions (at most 5). Up to 15 the languages are nearly the same, and
-/// below 50 most readers understand the other language. Case is ignored, and so is everything after
-/// the region, such as variants, extensions and the `oed` of `en-GB-oed`. If one of the tags has no
-/// known language, the distance is [`FORMLESS_DISTANCE`](crate::choice::FORMLESS_DISTANCE), or 0 if
-/// the tags are equal, ignoring case.
+/// if no rule does) and the regions (at most 5). From 0 to 15 the user reads both: they are the
+/// same language, perhaps in another region or script, or nearly the same. Below 50 most users
+/// understand the other language. Case is ignored, and so is everything after the region, such as
+/// variants, extensions and the `oed` of `en-GB-oed`. If one of the tags is `und`, a private-use
+/// tag, `i-default`, `i-enochian` or `i-mingo`, the distance is
+/// [`FORMLESS_DISTANCE`](crate::choice::FORMLESS_DISTANCE), or 0 if the tags are equal, ignoring
+/// case.
 ///
 /// A language that CLDR replaces, such as `ger`, `deu` or `iw`, is read as its replacement, and so
-/// is a deprecated region.
+/// is a deprecated region. An extended language counts only if it is registered for the language
+/// before it ([RFC 5646 section 2.2.2]): `zh-yue` is read as `yue`, and `de-fra` as `de`. The
+/// letter `r` with a region is that region there, as Android writes it: `zh-rTW` is read as
+/// `zh-TW`. A tag that the registry replaces as a whole is read as its Preferred-Value (section
+/// 3.1.7): `i-klingon` as `tlh`, `zh-hakka` as `hak`.
 ///
 /// ```
 /// # fn main() -> Result<(), Box<dyn std::error::Error>> {
@@ -48,6 +54,8 @@ pub const FORMLESS_DISTANCE: u8 = 255;
 /// # Ok(())
 /// # }
 /// ```
+///
+/// [RFC 5646 section 2.2.2]: https://www.rfc-editor.org/rfc/rfc5646#section-2.2.2
 #[inline]
 #[must_use]
 pub fn distance(desired: LangTag<'_>, supported: LangTag<'_>) -> u8 {

@@ -10,8 +10,7 @@ use crate::erased::cldr::{matching_form, TagFields};
 use crate::erased::range::WantedRange;
 
 /// A range other than `*`, its weight, which is not 0, and the number of ranges before it. The
-/// matching form of the range is computed once for many tags, and so is its language if that has at
-/// most three letters.
+/// matching form of the range is computed once for many tags, and so is its language.
 #[derive(Clone, Copy)]
 pub(crate) struct Wish<'a> {
     pub(crate) range: &'a [u8],
@@ -43,15 +42,30 @@ impl<'a> Wish<'a> {
 
     /// Returns whether the first letters of a tag show that it cannot serve the range: the tag has
     /// a two-letter language with which the range does not begin, and which is not near the
-    /// language of the range.
+    /// language of the range. If the range has no matching form, it is enough that the range does
+    /// not begin with these letters.
     pub(crate) fn is_far_from(&self, tag: &[u8]) -> bool {
         let Some(letters) = first_two(tag) else {
             return false;
         };
+        if self.form.is_none() {
+            return self.is_far_without_form(letters);
+        }
         match language_of(letters) {
-            Some(number) => {
-                self.is_far_from_language(&self.language, letters, number) && is_short(tag)
+            Some(number) if is_short(tag) => {
+                self.is_far_from_language(&self.language, letters, number)
             }
+            _ => false,
+        }
+    }
+
+    /// Returns whether the range, which has no matching form, does not begin with these letters.
+    /// Only a tag that equals the range, or that lookup finds, can serve such a range, and both
+    /// begin as the range does.
+    #[inline]
+    fn is_far_without_form(&self, letters: (u8, u8)) -> bool {
+        match self.language {
+            Some(own) => letters != own.letters,
             None => false,
         }
     }

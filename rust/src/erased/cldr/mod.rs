@@ -13,6 +13,7 @@ mod likely;
 mod matching;
 mod names;
 mod read_text;
+mod replacement;
 mod rows;
 mod suggestion;
 mod tables;
@@ -35,6 +36,7 @@ pub(crate) use keys::index_of;
 pub(crate) use likely::suffices;
 pub(crate) use matching::{completed, matching_form, replaced_form};
 pub(crate) use read_text::{after_common, are_alike, basic_len};
+pub(crate) use replacement::may_change_language;
 pub(crate) use rows::{key_number, language_number};
 
 // For langtag_locale and langtag_parent.

@@ -50,7 +50,7 @@ fn without_stars(range: &[u8]) -> &[u8] {
     left
 }
 
-/// Returns whether a range begins with `-*`.
+/// Returns whether a range begins with `-*` or `_*`.
 #[inline]
 fn begins_with_star(range: &[u8]) -> bool {
     matches!(range, [b'-' | b'_', b'*', ..])

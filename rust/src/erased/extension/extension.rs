@@ -19,7 +19,7 @@ use core::fmt;
 /// let error = Extension::new("u").err();
 /// assert_eq!(error.map(|error| error.0), Some("u"));
 /// ```
-#[derive(Debug)]
+#[derive(Debug, Clone, Copy, PartialEq, Eq, Hash)]
 pub struct InvalidExtension<T>(pub T);
 
 impl<T: AsRef<[u8]>> fmt::Display for InvalidExtension<T> {
@@ -121,7 +121,7 @@ impl<'a> Extension<'a> {
     }
 
     /// Returns whether another string equals this string, ignoring the case of ASCII letters.
-    /// Comparisons and hashes also ignore case, and a clone is the same value.
+    /// Comparisons and hashes also ignore case.
     ///
     /// ```
     /// # fn main() -> Result<(), Box<dyn std::error::Error>> {
@@ -258,7 +258,7 @@ impl ExtensionBuf {
         })
     }
 
-    /// Borrows the extension. Comparisons and hashes of owned extensions ignore case.
+    /// Borrows the extension.
     ///
     /// ```
     /// # fn main() -> Result<(), Box<dyn std::error::Error>> {

@@ -17,7 +17,7 @@ use core::fmt;
 /// let error = ExtensionSubtag::new("c").err();
 /// assert_eq!(error.map(|error| error.0), Some("c"));
 /// ```
-#[derive(Debug)]
+#[derive(Debug, Clone, Copy, PartialEq, Eq, Hash)]
 pub struct InvalidExtensionSubtag<T>(pub T);
 
 impl<T: AsRef<[u8]>> fmt::Display for InvalidExtensionSubtag<T> {
@@ -118,7 +118,7 @@ impl<'a> ExtensionSubtag<'a> {
     }
 
     /// Returns whether another string equals this string, ignoring the case of ASCII letters.
-    /// Comparisons and hashes also ignore case, and a clone is the same value.
+    /// Comparisons and hashes also ignore case.
     ///
     /// ```
     /// # fn main() -> Result<(), Box<dyn std::error::Error>> {
@@ -214,7 +214,7 @@ impl ExtensionSubtagBuf {
         })
     }
 
-    /// Borrows the subtag. Comparisons and hashes of owned subtags ignore case.
+    /// Borrows the subtag.
     ///
     /// ```
     /// # fn main() -> Result<(), Box<dyn std::error::Error>> {

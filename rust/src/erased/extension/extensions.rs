@@ -22,7 +22,7 @@ use core::fmt;
 /// let error = Extensions::new("a-bb-u").err();
 /// assert_eq!(error.map(|error| error.0), Some("a-bb-u"));
 /// ```
-#[derive(Debug)]
+#[derive(Debug, Clone, Copy, PartialEq, Eq, Hash)]
 pub struct InvalidExtensions<T>(pub T);
 
 impl<T: AsRef<[u8]>> fmt::Display for InvalidExtensions<T> {
@@ -133,7 +133,7 @@ impl<'a> Extensions<'a> {
     }
 
     /// Returns whether another string equals this string, ignoring the case of ASCII letters.
-    /// Comparisons and hashes also ignore case, and a clone is the same value.
+    /// Comparisons and hashes also ignore case.
     ///
     /// ```
     /// # fn main() -> Result<(), Box<dyn std::error::Error>> {
@@ -293,7 +293,7 @@ impl ExtensionsBuf {
         })
     }
 
-    /// Borrows the extensions. Comparisons and hashes of owned lists of extensions ignore case.
+    /// Borrows the extensions.
     ///
     /// ```
     /// # fn main() -> Result<(), Box<dyn std::error::Error>> {

@@ -12,7 +12,7 @@ use core::fmt;
 ///
 /// assert_eq!(Singleton::new(b'x').err().map(|error| error.0), Some(b'x'));
 /// ```
-#[derive(Debug)]
+#[derive(Debug, Clone, Copy, PartialEq, Eq, Hash)]
 pub struct InvalidSingleton<T>(pub T);
 
 impl<T> fmt::Display for InvalidSingleton<T> {
@@ -47,8 +47,7 @@ pub struct Singleton {
 }
 
 impl Singleton {
-    /// Returns the singleton for a byte. Singletons compare and hash by their exact bytes, and a
-    /// clone is the same value.
+    /// Returns the singleton for a byte. Singletons compare and hash by their exact bytes.
     ///
     /// # Errors
     ///

@@ -96,6 +96,13 @@ pub fn preferred_for(text: &[u8]) -> Option<LangTag<'static>> {
     Some(LangTag::from_checked(text))
 }
 
+/// Returns each whole tag that has a Preferred-Value, and this value.
+#[inline]
+#[must_use]
+pub fn preferred_tags() -> &'static [(&'static str, &'static str)] {
+    &PREFERRED_TAGS
+}
+
 /// Finds the pair whose first string equals the bytes, ignoring case, and returns its second
 /// string. `keys` has the number of the last eight bytes of each first string.
 fn value_beside(

@@ -5,6 +5,7 @@
 use crate::erased::fields::table::value_of;
 use crate::erased::fields::tables::{EXTLANG_PREFIX_KEYS, EXTLANG_PREFIX_VALUES, VARIANT_PREFIXES};
 use crate::erased::language::{ExtendedLangTag, PrimaryLanguage};
+use crate::erased::scan::case_insensitive_eq;
 
 /// Returns the language that an extended language should follow (the field Prefix, [RFC 5646
 /// section 3.1.8]): `zh` for `yue`. Returns `None` for extended languages that are not registered.
@@ -41,6 +42,17 @@ pub fn prefix_of_language(language: PrimaryLanguage<'_>) -> Option<PrimaryLangua
         language.as_bytes(),
     )?;
     Some(PrimaryLanguage::from_checked(text))
+}
+
+/// Returns whether an extended language is registered for a language: `yue` is for `zh`. Case is
+/// ignored.
+#[inline]
+#[must_use]
+pub fn is_prefix_of(language: &[u8], extlang: &[u8]) -> bool {
+    match value_of(&EXTLANG_PREFIX_KEYS, &EXTLANG_PREFIX_VALUES, extlang) {
+        Some(prefix) => case_insensitive_eq(prefix.as_bytes(), language),
+        None => false,
+    }
 }
 
 /// Returns the number of each variant that should follow a prefix, and the prefix; a variant may

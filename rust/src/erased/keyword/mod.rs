@@ -2,7 +2,9 @@
 
 //! The subtags of Unicode's extensions `u` (RFC 6067) and `t` (RFC 6497): keywords, what replaces
 //! their values, how they are edited, and their canonical form (UTS #35, part 1). langtag_unicode
-//! has the same for tags.
+//! has the same for tags. If a tag has two extensions `u`, the first counts: the second makes the
+//! tag invalid, but each call has a result for every tag. Of repeated keys the first counts (RFC
+//! 6067 section 2.1). RFC 6497 leaves this open for `t`, so `t` follows the same rule.
 
 mod alias;
 mod alias_tables;

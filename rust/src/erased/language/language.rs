@@ -21,7 +21,7 @@ use core::fmt;
 /// let error = Language::new("zh_yue").err();
 /// assert_eq!(error.map(|error| error.0), Some("zh_yue"));
 /// ```
-#[derive(Debug)]
+#[derive(Debug, Clone, Copy, PartialEq, Eq, Hash)]
 pub struct InvalidLanguage<T>(pub T);
 
 impl<T: AsRef<[u8]>> fmt::Display for InvalidLanguage<T> {
@@ -123,7 +123,7 @@ impl<'a> Language<'a> {
     }
 
     /// Returns whether another string equals this string, ignoring the case of ASCII letters.
-    /// Comparisons and hashes also ignore case, and a clone is the same value.
+    /// Comparisons and hashes also ignore case.
     ///
     /// ```
     /// # fn main() -> Result<(), Box<dyn std::error::Error>> {
@@ -300,7 +300,7 @@ impl LanguageBuf {
         })
     }
 
-    /// Borrows the language. Comparisons and hashes of owned languages ignore case.
+    /// Borrows the language.
     ///
     /// ```
     /// # fn main() -> Result<(), Box<dyn std::error::Error>> {

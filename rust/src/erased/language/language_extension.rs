@@ -19,7 +19,7 @@ use core::fmt;
 /// let error = LanguageExtension::new("min-").err();
 /// assert_eq!(error.map(|error| error.0), Some("min-"));
 /// ```
-#[derive(Debug)]
+#[derive(Debug, Clone, Copy, PartialEq, Eq, Hash)]
 pub struct InvalidLanguageExtension<T>(pub T);
 
 impl<T: AsRef<[u8]>> fmt::Display for InvalidLanguageExtension<T> {
@@ -120,7 +120,7 @@ impl<'a> LanguageExtension<'a> {
     }
 
     /// Returns whether another string equals this string, ignoring the case of ASCII letters.
-    /// Comparisons and hashes also ignore case, and a clone is the same value.
+    /// Comparisons and hashes also ignore case.
     ///
     /// ```
     /// # fn main() -> Result<(), Box<dyn std::error::Error>> {
@@ -241,8 +241,7 @@ impl LanguageExtensionBuf {
         })
     }
 
-    /// Borrows the language extension. Comparisons and hashes of owned language extensions ignore
-    /// case.
+    /// Borrows the language extension.
     ///
     /// ```
     /// # fn main() -> Result<(), Box<dyn std::error::Error>> {

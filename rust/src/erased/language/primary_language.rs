@@ -17,7 +17,7 @@ use core::fmt;
 /// let error = PrimaryLanguage::new("f").err();
 /// assert_eq!(error.map(|error| error.0), Some("f"));
 /// ```
-#[derive(Debug)]
+#[derive(Debug, Clone, Copy, PartialEq, Eq, Hash)]
 pub struct InvalidPrimaryLanguage<T>(pub T);
 
 impl<T: AsRef<[u8]>> fmt::Display for InvalidPrimaryLanguage<T> {
@@ -78,7 +78,7 @@ impl<'a> PrimaryLanguage<'a> {
     /// Wraps a string that is known to be a primary language subtag, without checking it.
     /// `PrimaryLanguage::from_checked(primary.as_str())` is equal to `primary`.
     #[inline]
-    pub(crate) fn from_checked(text: &'a str) -> PrimaryLanguage<'a> {
+    pub(crate) const fn from_checked(text: &'a str) -> PrimaryLanguage<'a> {
         PrimaryLanguage {
             text: Caseless(text),
         }
@@ -117,7 +117,7 @@ impl<'a> PrimaryLanguage<'a> {
     }
 
     /// Returns whether another string equals this string, ignoring the case of ASCII letters.
-    /// Comparisons and hashes also ignore case, and a clone is the same value.
+    /// Comparisons and hashes also ignore case.
     ///
     /// ```
     /// # fn main() -> Result<(), Box<dyn std::error::Error>> {
@@ -213,7 +213,7 @@ impl PrimaryLanguageBuf {
         })
     }
 
-    /// Borrows the subtag. Comparisons and hashes of owned primary languages ignore case.
+    /// Borrows the subtag.
     ///
     /// ```
     /// # fn main() -> Result<(), Box<dyn std::error::Error>> {

@@ -9,8 +9,9 @@ use crate::erased::tag::LangTag;
 /// `az-Arab` and `und-Thaa`, `false` for `ar-Latn`.
 ///
 /// The script of the tag decides. If the tag has no script, the most likely script of its language
-/// and region is used. Deprecated subtags such as `iw` count as their replacements. The result is
-/// `false` for private-use tags, irregular tags and `und`.
+/// and region is used. Deprecated subtags such as `iw` count as their replacements. An extended
+/// language counts only if it is registered for the language before it ([RFC 5646 section 2.2.2]).
+/// The result is `false` for private-use tags, irregular tags and `und`.
 ///
 /// ```
 /// # fn main() -> Result<(), Box<dyn std::error::Error>> {
@@ -22,6 +23,8 @@ use crate::erased::tag::LangTag;
 /// # Ok(())
 /// # }
 /// ```
+///
+/// [RFC 5646 section 2.2.2]: https://www.rfc-editor.org/rfc/rfc5646#section-2.2.2
 #[inline]
 #[must_use]
 pub fn is_right_to_left(tag: LangTag<'_>) -> bool {

@@ -3,6 +3,7 @@
 //! The fields of a tag that likely subtags fill in: its language, its script and its region.
 
 use crate::erased::cldr::{known, TagFields};
+use crate::erased::fields::is_prefix_of;
 use crate::erased::language::Language;
 use crate::erased::place::{Region, Script};
 use crate::erased::tag::NormalLangTag;
@@ -15,6 +16,33 @@ pub fn fields_of(tag: NormalLangTag<'_>) -> TagFields<'_> {
         language: language_field(tag.language()),
         script: script_field(tag.script()),
         region: region_field(tag.region()),
+    }
+}
+
+/// Returns whether the last extended language of a tag, if it has any, is registered for the
+/// language before it.
+#[inline(always)]
+pub(crate) fn is_read(tag: NormalLangTag<'_>) -> bool {
+    // There is no room for an extended language.
+    if tag.ends().language <= 3 {
+        return true;
+    }
+    is_language_read(tag.language())
+}
+
+/// Returns whether the last extended subtag, if there is any, is registered for the primary subtag.
+fn is_language_read(language: Language<'_>) -> bool {
+    let primary = language.primary().as_bytes();
+    let mut extlangs = language.extension_subtags();
+    let Some(first) = extlangs.next() else {
+        return true;
+    };
+    let Some(second) = extlangs.next() else {
+        return is_prefix_of(primary, first.as_bytes());
+    };
+    match extlangs.next() {
+        Some(third) => is_prefix_of(primary, third.as_bytes()),
+        None => is_prefix_of(primary, second.as_bytes()),
     }
 }
 

@@ -2,8 +2,8 @@
 
 //! Filtering of a list of tags by a language priority list (RFC 4647 section 3.3).
 
-use crate::erased::header::LanguageRange;
 use crate::erased::matching::filter_rule::FilterRule;
+use crate::erased::matching::language_range::LanguageRange;
 use crate::erased::tag::LangTag;
 
 /// Returns an iterator over the tags that basic filtering finds for a language priority list (RFC

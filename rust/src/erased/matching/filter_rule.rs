@@ -2,7 +2,7 @@
 
 //! The two rules of filtering (RFC 4647 section 3.3).
 
-use crate::erased::header::LanguageRange;
+use crate::erased::matching::language_range::LanguageRange;
 use crate::erased::tag::LangTag;
 
 /// The rule by which a range matches a tag.

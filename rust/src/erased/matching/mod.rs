@@ -25,19 +25,31 @@
 //! # }
 //! ```
 
+#[cfg(feature = "alloc")]
+mod accept_language;
+mod accept_language_error;
+mod element;
+mod fallbacks;
 mod filter;
 mod filter_rule;
+mod language_range;
+mod lookup;
+mod weighted_range;
 
-pub use crate::erased::header::{
-    element_at, look_up, Element, ElementPart, Fallbacks, InvalidLanguageRange, LanguageRange,
-    WeightedRange,
-};
-#[cfg(feature = "alloc")]
-pub use crate::erased::header::{
-    tag_for_header, AcceptLanguage, AcceptLanguageError, LanguageRangeBuf,
-};
 pub use crate::erased::range::{
     is_empty_element, listed_range, locale_place, split_wanted, wanted_ranges, weight_of,
     WantedRange, WantedRanges,
 };
+#[cfg(feature = "alloc")]
+pub use accept_language::{tag_for_header, AcceptLanguage};
+#[cfg(feature = "alloc")]
+pub use accept_language_error::AcceptLanguageError;
+pub use accept_language_error::ElementPart;
+pub use element::{element_at, Element};
+pub use fallbacks::Fallbacks;
 pub use filter::{filter_basic, filter_extended, Filtered};
+#[cfg(feature = "alloc")]
+pub use language_range::LanguageRangeBuf;
+pub use language_range::{InvalidLanguageRange, LanguageRange};
+pub use lookup::look_up;
+pub use weighted_range::WeightedRange;

@@ -3,11 +3,10 @@
 //! The parent of a language with its script and its region.
 
 use crate::erased::parent::base::Base;
-use crate::erased::parent::scripts::{is_usual_script, other_script};
+use crate::erased::parent::scripts::{likely_script, other_script};
 use crate::erased::parent::stated::stated_parent;
 
-/// Returns the parent of a language with its script and its region: what CLDR states, or else the
-/// usual parent.
+/// Returns the parent of a short base: what CLDR states, or else the usual parent.
 #[inline]
 pub(crate) fn parent_of<'a>(base: Base<'a>) -> Option<Base<'a>> {
     match stated_parent(base) {
@@ -18,14 +17,25 @@ pub(crate) fn parent_of<'a>(base: Base<'a>) -> Option<Base<'a>> {
 
 /// Returns the parent of a base for which CLDR states none: without the region, or else without the
 /// script.
+#[inline]
 fn usual_parent<'a>(base: Base<'a>) -> Option<Base<'a>> {
     if !base.region.is_empty() {
         return parent_of_region(base);
     }
-    if base.script.is_empty() || !is_usual_script(base) {
+    if base.script.is_empty() {
         return None;
     }
-    Some(base.language_alone())
+    parent_of_script(base)
+}
+
+/// Returns the language, if its likely script is not known.
+#[inline]
+fn parent_of_script<'a>(base: Base<'a>) -> Option<Base<'a>> {
+    let alone = base.language_alone();
+    match likely_script(alone) {
+        Some(_) => None,
+        None => Some(alone),
+    }
 }
 
 /// Returns the parent of a language in a region.

@@ -28,6 +28,20 @@ pub(crate) fn short<'a>(base: Base<'a>) -> Base<'a> {
     }
 }
 
+/// Returns the fields with the script that a tag names, if they are the language of the tag alone,
+/// and the language is usually written in this script.
+pub(crate) fn named<'a>(base: Base<'a>, tag: Base<'a>) -> Base<'a> {
+    let alone = base.script.is_empty() && base.region.is_empty();
+    if alone
+        && case_insensitive_eq(base.language, tag.language)
+        && has_likely_script(tag.without_region())
+    {
+        base.with_script(tag.script)
+    } else {
+        base
+    }
+}
+
 /// Returns the likely script of fields without a script, if the language is usually written in
 /// another one.
 pub(crate) fn other_script<'a>(base: Base<'a>) -> Option<&'a [u8]> {
@@ -43,18 +57,9 @@ pub(crate) fn other_script<'a>(base: Base<'a>) -> Option<&'a [u8]> {
     }
 }
 
-/// Returns whether the script is the likely script of the language, or no likely script is known.
-#[inline]
-pub(crate) fn is_usual_script(base: Base<'_>) -> bool {
-    match likely_script(base.language_alone()) {
-        Some(alone) => case_insensitive_eq(base.script, alone),
-        None => true,
-    }
-}
-
 /// Returns the script in which a language is most likely written in a region, or everywhere if
 /// there is no region. Returns `None` if CLDR has no likely subtags of the language.
 #[inline]
-fn likely_script<'a>(base: Base<'a>) -> Option<&'a [u8]> {
+pub(crate) fn likely_script<'a>(base: Base<'a>) -> Option<&'a [u8]> {
     Some(add_likely(base.fields()?)?.script)
 }

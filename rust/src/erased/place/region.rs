@@ -17,7 +17,7 @@ use core::fmt;
 /// let error = Region::new("fra").err();
 /// assert_eq!(error.map(|error| error.0), Some("fra"));
 /// ```
-#[derive(Debug)]
+#[derive(Debug, Clone, Copy, PartialEq, Eq, Hash)]
 pub struct InvalidRegion<T>(pub T);
 
 impl<T: AsRef<[u8]>> fmt::Display for InvalidRegion<T> {
@@ -79,7 +79,7 @@ impl<'a> Region<'a> {
     /// Wraps a string that is known to be a region, without checking it.
     /// `Region::from_checked(region.as_str())` is equal to `region`.
     #[inline]
-    pub(crate) fn from_checked(text: &'a str) -> Region<'a> {
+    pub(crate) const fn from_checked(text: &'a str) -> Region<'a> {
         Region {
             text: Caseless(text),
         }
@@ -118,7 +118,7 @@ impl<'a> Region<'a> {
     }
 
     /// Returns whether another string equals this string, ignoring the case of ASCII letters.
-    /// Comparisons and hashes also ignore case, and a clone is the same value.
+    /// Comparisons and hashes also ignore case.
     ///
     /// ```
     /// # fn main() -> Result<(), Box<dyn std::error::Error>> {
@@ -214,7 +214,7 @@ impl RegionBuf {
         })
     }
 
-    /// Borrows the region. Comparisons and hashes of owned regions ignore case.
+    /// Borrows the region.
     ///
     /// ```
     /// # fn main() -> Result<(), Box<dyn std::error::Error>> {

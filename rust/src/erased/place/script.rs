@@ -17,7 +17,7 @@ use core::fmt;
 /// let error = Script::new("Lat").err();
 /// assert_eq!(error.map(|error| error.0), Some("Lat"));
 /// ```
-#[derive(Debug)]
+#[derive(Debug, Clone, Copy, PartialEq, Eq, Hash)]
 pub struct InvalidScript<T>(pub T);
 
 impl<T: AsRef<[u8]>> fmt::Display for InvalidScript<T> {
@@ -78,7 +78,7 @@ impl<'a> Script<'a> {
     /// Wraps a string that is known to be a script, without checking it.
     /// `Script::from_checked(script.as_str())` is equal to `script`.
     #[inline]
-    pub(crate) fn from_checked(text: &'a str) -> Script<'a> {
+    pub(crate) const fn from_checked(text: &'a str) -> Script<'a> {
         Script {
             text: Caseless(text),
         }
@@ -117,7 +117,7 @@ impl<'a> Script<'a> {
     }
 
     /// Returns whether another string equals this string, ignoring the case of ASCII letters.
-    /// Comparisons and hashes also ignore case, and a clone is the same value.
+    /// Comparisons and hashes also ignore case.
     ///
     /// ```
     /// # fn main() -> Result<(), Box<dyn std::error::Error>> {
@@ -213,7 +213,7 @@ impl ScriptBuf {
         })
     }
 
-    /// Borrows the script. Comparisons and hashes of owned scripts ignore case.
+    /// Borrows the script.
     ///
     /// ```
     /// # fn main() -> Result<(), Box<dyn std::error::Error>> {

@@ -17,7 +17,7 @@ use core::fmt;
 /// let error = Variant::new("roz").err();
 /// assert_eq!(error.map(|error| error.0), Some("roz"));
 /// ```
-#[derive(Debug)]
+#[derive(Debug, Clone, Copy, PartialEq, Eq, Hash)]
 pub struct InvalidVariant<T>(pub T);
 
 impl<T: AsRef<[u8]>> fmt::Display for InvalidVariant<T> {
@@ -119,7 +119,7 @@ impl<'a> Variant<'a> {
     }
 
     /// Returns whether another string equals this string, ignoring the case of ASCII letters.
-    /// Comparisons and hashes also ignore case, and a clone is the same value.
+    /// Comparisons and hashes also ignore case.
     ///
     /// ```
     /// # fn main() -> Result<(), Box<dyn std::error::Error>> {
@@ -216,7 +216,7 @@ impl VariantBuf {
         })
     }
 
-    /// Borrows the variant. Comparisons and hashes of owned variants ignore case.
+    /// Borrows the variant.
     ///
     /// ```
     /// # fn main() -> Result<(), Box<dyn std::error::Error>> {

@@ -19,7 +19,7 @@ use core::fmt;
 /// let error = Variants::new("rozaj-").err();
 /// assert_eq!(error.map(|error| error.0), Some("rozaj-"));
 /// ```
-#[derive(Debug)]
+#[derive(Debug, Clone, Copy, PartialEq, Eq, Hash)]
 pub struct InvalidVariants<T>(pub T);
 
 impl<T: AsRef<[u8]>> fmt::Display for InvalidVariants<T> {
@@ -129,7 +129,7 @@ impl<'a> Variants<'a> {
     }
 
     /// Returns whether another string equals this string, ignoring the case of ASCII letters.
-    /// Comparisons and hashes also ignore case, and a clone is the same value.
+    /// Comparisons and hashes also ignore case.
     ///
     /// ```
     /// # fn main() -> Result<(), Box<dyn std::error::Error>> {
@@ -290,7 +290,7 @@ impl VariantsBuf {
         })
     }
 
-    /// Borrows the variants. Comparisons and hashes of owned lists of variants ignore case.
+    /// Borrows the variants.
     ///
     /// ```
     /// # fn main() -> Result<(), Box<dyn std::error::Error>> {

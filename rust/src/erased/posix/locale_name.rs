@@ -21,8 +21,8 @@ const MOST: usize = 28;
 /// adds it, as in `pt_BR.UTF-8`. These modifiers are written:
 ///
 /// - `latin`, `cyrillic` and `devanagari` for a script;
-/// - `ijekavian`, `tarask` and `valencia` for a variant, and `ijekavianlatin` for both a script and
-///   a variant.
+/// - `ijekavian`, `polyton`, `tarask` and `valencia` for a variant, and `ijekavianlatin` for both a
+///   script and a variant.
 ///
 /// A script is left out if it is the likely script of the language, both alone and with its region:
 /// `en_US` for `en-Latn-US`. A script without a modifier is also left out if it is likely with the

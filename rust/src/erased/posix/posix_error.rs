@@ -3,6 +3,7 @@
 //! Why a POSIX locale name has no tag.
 
 use crate::shim::AllocError;
+use alloc::string::String;
 use core::fmt;
 
 /// The error for a POSIX locale name: why it has no tag.
@@ -10,19 +11,19 @@ use core::fmt;
 /// ```
 /// use langtag::likely::{PosixError, from_posix};
 ///
-/// assert!(matches!(from_posix("POSIX"), Err(PosixError::NoTag("POSIX"))));
+/// assert!(matches!(from_posix("POSIX"), Err(PosixError::NoTag(name)) if name == "POSIX"));
 /// ```
 #[derive(Debug, Clone, PartialEq, Eq, Hash)]
 #[non_exhaustive]
-pub enum PosixError<'a> {
+pub enum PosixError {
     /// The name, which gives no tag: `C`, `POSIX`, the empty string, or a string that is not a tag,
     /// such as `en_`.
-    NoTag(&'a str),
+    NoTag(String),
     /// Allocation failed.
     Memory(AllocError),
 }
 
-impl fmt::Display for PosixError<'_> {
+impl fmt::Display for PosixError {
     fn fmt(&self, f: &mut fmt::Formatter<'_>) -> fmt::Result {
         match self {
             PosixError::NoTag(value) => write!(
@@ -35,9 +36,9 @@ impl fmt::Display for PosixError<'_> {
     }
 }
 
-impl core::error::Error for PosixError<'_> {}
+impl core::error::Error for PosixError {}
 
-impl<'a> From<AllocError> for PosixError<'a> {
+impl From<AllocError> for PosixError {
     #[inline]
     fn from(error: AllocError) -> Self {
         PosixError::Memory(error)

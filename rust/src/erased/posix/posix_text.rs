@@ -4,7 +4,7 @@
 //! and territory, and its extensions.
 
 use crate::erased::posix::keyword_names::{are_keywords, push_keywords};
-use crate::erased::posix::platform_names::{read_place, MOST, MOST_READ};
+use crate::erased::posix::platform_names::{is_of_language, read_place, MOST, MOST_READ};
 use crate::erased::range::{locale_place, split_at_byte, split_at_either};
 use crate::erased::scan::{case_insensitive_eq, is_script};
 use crate::erased::tag::LangTag;
@@ -32,7 +32,7 @@ pub(crate) fn tag_of_name<'a>(name: &[u8], room: &'a mut [u8; MOST_NAMED]) -> Op
         return None;
     }
     let tag = tag_from(&room[..len])?;
-    if case_insensitive_eq(place, b"POSIX") {
+    if !is_of_language(place) {
         return None;
     }
     Some(tag)

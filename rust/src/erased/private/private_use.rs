@@ -18,7 +18,7 @@ use core::fmt;
 /// let error = PrivateUse::new("x").err();
 /// assert_eq!(error.map(|error| error.0), Some("x"));
 /// ```
-#[derive(Debug)]
+#[derive(Debug, Clone, Copy, PartialEq, Eq, Hash)]
 pub struct InvalidPrivateUse<T>(pub T);
 
 impl<T: AsRef<[u8]>> fmt::Display for InvalidPrivateUse<T> {
@@ -119,7 +119,7 @@ impl<'a> PrivateUse<'a> {
     }
 
     /// Returns whether another string equals this string, ignoring the case of ASCII letters.
-    /// Comparisons and hashes also ignore case, and a clone is the same value.
+    /// Comparisons and hashes also ignore case.
     ///
     /// ```
     /// # fn main() -> Result<(), Box<dyn std::error::Error>> {
@@ -262,7 +262,7 @@ impl PrivateUseBuf {
         })
     }
 
-    /// Borrows the private use part. Comparisons and hashes of owned private use parts ignore case.
+    /// Borrows the private use part.
     ///
     /// ```
     /// # fn main() -> Result<(), Box<dyn std::error::Error>> {

@@ -14,7 +14,7 @@ use crate::erased::range::wanted_element::wanted_at;
 /// let mut wanted = wanted_ranges(b"de_CH;q=0.5");
 /// assert_eq!(wanted.next().map(|range| (range.bytes, range.weight)), Some((&b"de_CH"[..], 500)));
 /// ```
-#[derive(Clone, Copy, Debug, PartialEq, Eq, Hash)]
+#[derive(Clone, Copy, PartialEq, Eq, Hash)]
 pub struct WantedRange<'a> {
     /// The string, in which `_` means `-`: `de_CH` is the range `de-CH`.
     pub bytes: &'a [u8],
@@ -42,8 +42,8 @@ pub struct WantedRanges<'a> {
 /// In a range, `_` is read as `-`, and everything from the first `.`, `@` or `_#` on is dropped, as
 /// in `zh_TW_#Hant`. If the rest is not a range, the element is skipped. Parameters other than `q`
 /// are ignored. A weight that is not a number, or is above 1, counts as 1. A weight may have a
-/// decimal comma: `fr;q=0,8` has the weight 800. In contrast, `AcceptLanguage` follows RFC 9110
-/// strictly.
+/// decimal comma: `fr;q=0,8` has the weight 800, because no range begins with a digit. In contrast,
+/// `AcceptLanguage` follows RFC 9110 strictly.
 ///
 /// ```
 /// use langtag::matching::wanted_ranges;

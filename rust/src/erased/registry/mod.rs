@@ -29,6 +29,10 @@
 //! # }
 //! ```
 
+mod invalid_subtag;
+mod misplaced;
+mod validity;
+
 #[cfg(feature = "alloc")]
 pub use crate::erased::canonical::{canonical, extlang_form};
 pub use crate::erased::canonical::{is_canonical, write_canonical};
@@ -39,6 +43,6 @@ pub use crate::erased::fields::{
     preferred_language, preferred_region, preferred_tag, preferred_variant, suppress_script,
     FILE_DATE,
 };
-pub use crate::erased::validity::{
-    fault_at, misplaced_extlang, misplaced_variant, validate, InvalidSubtag,
-};
+pub use invalid_subtag::InvalidSubtag;
+pub use misplaced::{misplaced_extlang, misplaced_variant};
+pub use validity::{fault_at, validate};

@@ -18,7 +18,7 @@ use core::hash::{Hash, Hasher};
 pub struct Caseless<T>(pub T);
 
 impl<T: AsStr> Caseless<T> {
-    /// Returns the bytes of the string. A clone of a borrowed string is the string itself.
+    /// Returns the bytes of the string.
     #[inline]
     fn as_bytes(&self) -> &[u8] {
         self.0.as_str().as_bytes()

@@ -4,12 +4,12 @@
 //! digits are ASCII letters and ASCII digits.
 
 #[inline]
-pub(crate) fn is_letter(byte: u8) -> bool {
+pub(crate) const fn is_letter(byte: u8) -> bool {
     byte.is_ascii_alphabetic()
 }
 
 #[inline]
-pub(crate) fn is_digit(byte: u8) -> bool {
+pub(crate) const fn is_digit(byte: u8) -> bool {
     byte.is_ascii_digit()
 }
 
@@ -23,13 +23,22 @@ pub(crate) fn is_alphanumeric(byte: u8) -> bool {
 /// `are_letters(b"zh")` is `true`, and `are_letters(b"z4")` is `false`.
 #[inline]
 #[must_use]
-pub fn are_letters(bytes: &[u8]) -> bool {
-    bytes.iter().all(|byte| is_letter(*byte))
+pub const fn are_letters(bytes: &[u8]) -> bool {
+    // A loop and not `all`, because rustc can run a loop when it compiles a constant.
+    let mut index = 0;
+    while index < bytes.len() && is_letter(bytes[index]) {
+        index += 1;
+    }
+    index == bytes.len()
 }
 
 #[inline]
-fn are_digits(bytes: &[u8]) -> bool {
-    bytes.iter().all(|byte| is_digit(*byte))
+const fn are_digits(bytes: &[u8]) -> bool {
+    let mut index = 0;
+    while index < bytes.len() && is_digit(bytes[index]) {
+        index += 1;
+    }
+    index == bytes.len()
 }
 
 #[inline]
@@ -56,7 +65,7 @@ fn starts_with_digit(bytes: &[u8]) -> bool {
 /// ```
 #[inline]
 #[must_use]
-pub fn is_primary(bytes: &[u8]) -> bool {
+pub const fn is_primary(bytes: &[u8]) -> bool {
     bytes.len() >= 2 && bytes.len() <= 8 && are_letters(bytes)
 }
 
@@ -84,7 +93,7 @@ pub fn is_extended(bytes: &[u8]) -> bool {
 /// ```
 #[inline]
 #[must_use]
-pub fn is_script(bytes: &[u8]) -> bool {
+pub const fn is_script(bytes: &[u8]) -> bool {
     bytes.len() == 4 && are_letters(bytes)
 }
 
@@ -99,7 +108,7 @@ pub fn is_script(bytes: &[u8]) -> bool {
 /// ```
 #[inline]
 #[must_use]
-pub fn is_region(bytes: &[u8]) -> bool {
+pub const fn is_region(bytes: &[u8]) -> bool {
     (bytes.len() == 2 && are_letters(bytes)) || (bytes.len() == 3 && are_digits(bytes))
 }
 

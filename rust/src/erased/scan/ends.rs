@@ -8,8 +8,6 @@
 /// The language begins at 0. Every other part begins just after the hyphen that follows the
 /// previous part. In `en-Latn-x-a` the ends are 2, 7, 7, 7, 7 and 11, in the order of the fields.
 ///
-/// Two `Ends` are equal if and only if each field is, and a clone is the same value.
-///
 /// ```
 /// use langtag::scan::{Metered, recognise};
 ///
@@ -43,31 +41,41 @@ pub(crate) struct Marks {
 impl Marks {
     /// Returns the marks before the first byte, when no part has ended.
     #[inline(always)]
-    pub(crate) fn new() -> Self {
+    pub(crate) const fn new() -> Self {
         Marks { places: [0; 6] }
     }
 
     /// Sets the end of a part.
     #[inline(always)]
-    pub(crate) fn set(&mut self, part: usize, index: usize) {
+    pub(crate) const fn set(&mut self, part: usize, index: usize) {
         self.places[part] = index;
     }
 
     /// Returns the ends in a string of this length. An absent part ends where the previous part
     /// ends.
     #[inline(always)]
-    pub(crate) fn ends(&self, len: usize) -> Ends {
+    pub(crate) const fn ends(&self, len: usize) -> Ends {
         let language = self.places[0];
-        let script = self.places[1].max(language);
-        let region = self.places[2].max(script);
-        let variants = self.places[3].max(region);
+        let script = later(self.places[1], language);
+        let region = later(self.places[2], script);
+        let variants = later(self.places[3], region);
         Ends {
             language,
             script,
             region,
             variants,
-            extensions: self.places[4].max(variants),
+            extensions: later(self.places[4], variants),
             whole: len,
         }
+    }
+}
+
+/// Returns the end of a part, which is that of the previous part if the part is absent.
+#[inline(always)]
+const fn later(place: usize, previous: usize) -> usize {
+    if place > previous {
+        place
+    } else {
+        previous
     }
 }

@@ -74,8 +74,7 @@ impl Found {
     }
 
     /// Returns the ends of the parts of a normal tag (section 2.1): in `fr-FR`, the language and
-    /// the absent script end at 2, and all other ends are 5. Returns `None` for `x-a`. A clone is
-    /// the same value.
+    /// the absent script end at 2, and all other ends are 5. Returns `None` for `x-a`.
     ///
     /// ```
     /// use langtag::scan::{recognise, Metered};

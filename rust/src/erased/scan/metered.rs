@@ -4,8 +4,8 @@
 
 use crate::erased::scan::source::ByteSource;
 
-/// Bytes with a count of the reads, which shows how much of a string
-/// [`recognise`](crate::scan::recognise) reads. They can be read only through [`ByteSource`].
+/// A byte source that counts its reads. Tests use it to see how far
+/// [`recognise`](crate::scan::recognise) reads. Its bytes can be read only through [`ByteSource`].
 ///
 /// ```
 /// use langtag::scan::{ByteSource, Metered, recognise};

@@ -29,7 +29,7 @@
 mod case;
 mod caseless;
 mod class;
-mod ends;
+pub(crate) mod ends;
 mod finding;
 mod found;
 mod grandfathered;

@@ -28,8 +28,8 @@
 //!
 //! A state represents all positions after which the same bytes may follow and the same parts end. A
 //! position consists of a stage, what is known about the subtag after that stage, and the irregular
-//! tag that the bytes may become. Each step from one state to the next matches the step between the
-//! positions that the states represent.
+//! tag that the bytes may become. It is proved that each step from one state to the next matches
+//! the step between the positions that the states represent.
 
 use crate::erased::scan::states::{CLASSES, NONE, START, TABLES};
 

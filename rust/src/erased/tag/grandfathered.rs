@@ -15,7 +15,7 @@ use core::fmt;
 /// let error = GrandfatheredLangTag::try_from(&b"i-none"[..]).err();
 /// assert_eq!(error.map(|error| error.0), Some(&b"i-none"[..]));
 /// ```
-#[derive(Debug)]
+#[derive(Debug, Clone, Copy, PartialEq, Eq, Hash)]
 pub struct InvalidGrandfatheredTag<T>(pub T);
 
 impl<T: AsRef<[u8]>> fmt::Display for InvalidGrandfatheredTag<T> {
@@ -140,8 +140,7 @@ impl GrandfatheredLangTag {
     /// Returns the grandfathered tag that equals these bytes, ignoring case.
     ///
     /// No two grandfathered tags are equal, ignoring case, and all are language tags. They compare
-    /// and hash by their indices, a clone is the same value, and [`GRANDFATHERED`] has each tag at
-    /// its index.
+    /// and hash by their indices, and [`GRANDFATHERED`] has each tag at its index.
     ///
     /// # Errors
     ///

@@ -29,7 +29,7 @@ use core::fmt;
 /// let error = LangTag::new("zh_Hant").err();
 /// assert_eq!(error.map(|error| error.0), Some("zh_Hant"));
 /// ```
-#[derive(Debug)]
+#[derive(Debug, Clone, Copy, PartialEq, Eq, Hash)]
 pub struct InvalidLangTag<T>(pub T);
 
 impl<T: AsRef<[u8]>> fmt::Display for InvalidLangTag<T> {
@@ -198,8 +198,8 @@ impl<'a> LangTag<'a> {
     /// that is equal is a tag of the same kind. If both are normal tags, their parts are equal,
     /// ignoring case, and are at the same offsets.
     ///
-    /// Comparisons and hashes of tags also ignore case, and a clone is the same tag. A tag sorts
-    /// after every longer tag that begins with its text: `zh` sorts after `zh-Latn`.
+    /// Comparisons and hashes of tags also ignore case. A tag sorts after every longer tag that
+    /// begins with its text: `zh` sorts after `zh-Latn`.
     ///
     /// ```
     /// # fn main() -> Result<(), Box<dyn std::error::Error>> {
@@ -217,7 +217,7 @@ impl<'a> LangTag<'a> {
     }
 
     /// Returns the kind of the tag. The regular grandfathered tags are normal. Kinds compare and
-    /// hash by their position in the declaration of [`Kind`], and a clone is the same kind.
+    /// hash by their position in the declaration of [`Kind`].
     ///
     /// ```
     /// # fn main() -> Result<(), Box<dyn std::error::Error>> {

@@ -75,8 +75,6 @@ impl LangTagBuf {
 
     /// Borrows the tag, without parsing it again.
     ///
-    /// Comparisons and hashes of owned tags ignore case.
-    ///
     /// ```
     /// # fn main() -> Result<(), Box<dyn std::error::Error>> {
     /// use langtag::LangTag;

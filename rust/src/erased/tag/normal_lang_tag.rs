@@ -26,7 +26,7 @@ use core::fmt;
 /// let error = NormalLangTag::new("x-a").err();
 /// assert_eq!(error.map(|error| error.0), Some("x-a"));
 /// ```
-#[derive(Debug)]
+#[derive(Debug, Clone, Copy, PartialEq, Eq, Hash)]
 pub struct InvalidNormalLangTag<T>(pub T);
 
 impl<T: AsRef<[u8]>> fmt::Display for InvalidNormalLangTag<T> {
@@ -168,8 +168,8 @@ impl<'a> NormalLangTag<'a> {
     /// that is equal is a normal tag, too. The parts of both are equal, ignoring case, and are at
     /// the same offsets.
     ///
-    /// Comparisons and hashes of normal tags also ignore case, and a clone is the same tag. A tag
-    /// sorts after every longer tag that begins with its text: `sl` sorts after `sl-IT`.
+    /// Comparisons and hashes of normal tags also ignore case. A tag sorts after every longer tag
+    /// that begins with its text: `sl` sorts after `sl-IT`.
     ///
     /// ```
     /// # fn main() -> Result<(), Box<dyn std::error::Error>> {

@@ -115,8 +115,6 @@ impl NormalLangTagBuf {
 
     /// Borrows the tag, without parsing it again.
     ///
-    /// Comparisons and hashes of owned normal tags ignore case.
-    ///
     /// ```
     /// # fn main() -> Result<(), Box<dyn std::error::Error>> {
     /// use langtag::NormalLangTag;

@@ -47,8 +47,7 @@ pub enum Part<'a> {
 /// 2.2.7). It does not allocate. The caller joins the bytes before `start`, the hyphen, the part,
 /// and the bytes from `end` on.
 ///
-/// To put the region `AT` into `de-DE-1996`, replace the bytes from 2 to 5 by a hyphen and `AT`. A
-/// clone of a part is the same part.
+/// To put the region `AT` into `de-DE-1996`, replace the bytes from 2 to 5 by a hyphen and `AT`.
 ///
 /// ```
 /// # fn main() -> Result<(), Box<dyn std::error::Error>> {

@@ -57,8 +57,8 @@ impl<'a> TypedLangTag<'a> {
         }
     }
 
-    /// Returns the kind of the tag. Typed tags are equal if they have the same kind and their
-    /// strings are equal, ignoring case, and a clone is the same value.
+    /// Returns the kind of the tag. Typed tags are equal if they have the same kind, and their
+    /// strings are equal, ignoring case.
     ///
     /// ```
     /// # fn main() -> Result<(), Box<dyn std::error::Error>> {

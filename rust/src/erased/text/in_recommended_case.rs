@@ -30,8 +30,7 @@ pub struct InRecommendedCase<'a> {
 }
 
 impl<'a> InRecommendedCase<'a> {
-    /// Returns a value that displays an ASCII text in its recommended case. A clone succeeds and is
-    /// the same value.
+    /// Returns a value that displays an ASCII text in its recommended case.
     #[inline]
     pub(crate) fn from_checked(text: &'a str) -> Self {
         InRecommendedCase { text }

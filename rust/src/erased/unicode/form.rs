@@ -53,8 +53,8 @@ pub fn extensions_form(tag: LangTag<'_>) -> Result<LangTagBuf, AllocError> {
     Ok(tag_of(form_bytes(tag)?))
 }
 
-/// Returns the bytes of the form. They are written once if they fit into a guess of their number,
-/// and otherwise again.
+/// Returns the bytes of the form. The buffer has a guessed length. If it is too short, the bytes
+/// are written again.
 #[cfg(feature = "alloc")]
 fn form_bytes(tag: LangTag<'_>) -> Result<Vec<u8>, AllocError> {
     let mut bytes = try_vec(0, tag.as_bytes().len().saturating_add(SPARE))?;

@@ -4,7 +4,7 @@ use std::borrow::Cow;
 use std::collections::{BTreeMap, HashMap, HashSet};
 use std::error::Error;
 
-use langtag::likely::PosixErrorBuf;
+use langtag::likely::PosixError;
 use langtag::matching::*;
 use langtag::registry::{canonical, validate, InvalidSubtagBuf};
 use langtag::*;
@@ -152,13 +152,20 @@ fn errors_with_more_than_a_text() {
     for text in INVALID.split(' ') {
         let invalid = validate(LangTag::new(text).unwrap()).unwrap_err();
         let owned = InvalidSubtagBuf::from(invalid);
-        assert_eq!(owned.as_invalid_subtag(), invalid);
+        assert_eq!(
+            (owned.fault(), owned.subtag()),
+            (invalid.fault(), invalid.subtag())
+        );
+        assert_eq!(
+            (owned.start(), owned.end()),
+            (invalid.start(), invalid.end())
+        );
         assert_eq!(owned.suggestion(), invalid.suggestion());
         assert_eq!(owned.to_string(), invalid.to_string());
     }
     fn read(header: &str, name: &str, tag: &str) -> Result<(), Box<dyn Error>> {
-        AcceptLanguage::new(header).map_err(AcceptLanguageError::into_owned)?;
-        from_posix(name).map_err(likely::PosixError::into_owned)?;
+        AcceptLanguage::new(header)?;
+        from_posix(name)?;
         validate(LangTag::new(tag).map_err(InvalidLangTag::into_owned)?)
             .map_err(InvalidSubtag::into_owned)?;
         Ok(())
@@ -168,7 +175,7 @@ fn errors_with_more_than_a_text() {
             "fr, de_CH",
             "de",
             "de",
-            "element 2 at offset 3 has a bad language range: `de_CH`",
+            "element 2 at offset 4 has a bad language range: `de_CH`",
         ),
         ("fr", "C", "de", "no language in the locale name `C`"),
         (
@@ -181,8 +188,8 @@ fn errors_with_more_than_a_text() {
     ] {
         assert_eq!(read(header, name, tag).unwrap_err().to_string(), said);
     }
-    let error = AcceptLanguage::new("fr,de;q=2").unwrap_err().into();
-    let AcceptLanguageErrorBuf::BadElement {
+    let error = AcceptLanguage::new("fr,de;q=2").unwrap_err();
+    let AcceptLanguageError::BadElement {
         header,
         index,
         offset,
@@ -195,8 +202,7 @@ fn errors_with_more_than_a_text() {
     let invalid = |text| validate(LangTag::new(text).unwrap()).unwrap_err();
     let distinct = HashSet::from(["de-1997", "DE-1997", "fr-FQ"].map(invalid));
     assert_eq!(distinct.len(), 2);
-    let error = PosixErrorBuf::from(from_posix("C").unwrap_err());
-    assert_eq!(error, PosixErrorBuf::NoTag("C".into()));
+    assert_eq!(from_posix("C"), Err(PosixError::NoTag("C".into())));
 }
 
 #[test]

@@ -4,7 +4,8 @@
 //! - `LangTag::new(text)?` in a function that returns `Box<dyn Error>`: the error borrows the string. Write `text.parse::<LangTagBuf>()?`,
 //!   or `map_err(InvalidLangTag::into_owned)`.
 //! - `LangTag::new` in a `const` or a `static`: the recogniser calls a trait. `from_static` and the macro `langtag` read a slice instead.
-//!   Parts and ranges have no such call, because a tag gives its parts, and few programs name a range.
+//!   Languages, scripts and regions have `from_static`, too. `const LATIN: Option<Script> = langtag!("sr-Latn").script()` does not compile,
+//!   because Rust 1.85 cannot cut a `str` in a `const`.
 //! - `tag.language() == Some("de")`: Rust compares only options of one type. Write `is_some_and(|language| language == "de")`.
 //! - `set_script(Some("Latn"))`, and `from_parts` of strings: a string may be no script. Write `Script::new("Latn")?`. With a generic
 //!   argument, `set_script(None)` would not compile.
@@ -19,7 +20,7 @@
 //! - `map.get("en")` and `map.get(&tag)`: a `str` is hashed with its case. Write `map.get("en".caseless())`.
 //! - `tag.primary_language()`: only normal tags have one. Write `tag.language().map(|language| language.primary())`.
 //! - `error.offset()`: only the refusal of a string has an offset, and a program may make an error without one. Write `error.refusal()`,
-//!   which has `start` and `end`.
+//!   which has `start` and `end`. The error of `validate` has `start()` and `end()`.
 //! - `maximize`, `minimize`, `canonicalize`, `normalize`, `is_rtl`, `ancestors`, `choice::choose`: a call has one name, and rustdoc finds it.
 //! - `oxilangtag::LanguageTag` without the feature `oxilangtag`.
 //! - a type `Locale`, a builder of tags, and descriptions of the registry: a `LangTag` is read and set directly, and `names` has CLDR's names.
@@ -32,9 +33,10 @@
 #![allow(clippy::needless_borrows_for_generic_args)] // references are taken, too
 use std::borrow::Cow;
 use std::collections::HashSet;
+use std::rc::Rc;
 use std::sync::Arc;
 
-use langtag::choice::{best_among, best_for_header, BestMatch};
+use langtag::choice::{best_among, best_for_header, BestMatch, Site};
 use langtag::matching::{filter_basic, tag_for_header, AcceptLanguage, LanguageRange};
 use langtag::*;
 
@@ -91,12 +93,20 @@ fn byte_of(singleton: Singleton) -> u8 {
     singleton.into()
 }
 
-fn cow<'a>(tag: LangTag<'a>) -> Cow<'a, str> {
-    tag.as_str().into()
+fn cow(tag: LangTagBuf) -> Cow<'static, str> {
+    tag.into()
 }
 
-fn arc(tag: LangTag) -> Arc<str> {
-    tag.as_str().into()
+fn arc(tag: LangTagBuf) -> Arc<str> {
+    tag.into()
+}
+
+fn normal(tag: LangTag) -> Option<NormalLangTag> {
+    tag.try_into().ok()
+}
+
+fn site(tags: Vec<LangTagBuf>) -> Site<LangTagBuf> {
+    tags.into_iter().collect()
 }
 
 #[test]
@@ -107,13 +117,62 @@ fn conversions() {
     let found = langtag::choice::match_for_header("de", &["de"]).unwrap();
     assert!(is_same(found, found));
     assert_eq!(byte_of(Singleton::new(b'u').unwrap()), b'u');
+    let owned = tag("de-CH").to_owned();
     assert_eq!(
-        (&*cow(tag("de-CH")), &*arc(tag("de-CH"))),
+        (&*cow(owned.clone()), &*arc(owned.clone())),
         ("de-CH", "de-CH")
     );
     assert_eq!(&*Box::<str>::from(tag("de-CH")), "de-CH");
+    assert_eq!(&*Box::<str>::from(owned.clone()), "de-CH");
+    assert_eq!(&*Rc::<str>::from(owned.clone()), "de-CH");
+    assert_eq!(
+        (String::from(tag("de")), String::from(&owned)),
+        ("de".into(), "de-CH".into())
+    );
     let default: LangTagBuf = Default::default();
     assert_eq!(default, LangTag::UND);
+    assert_eq!(normal(tag("de-CH")).unwrap(), "de-CH");
+    assert_eq!(normal(tag("x-mine")), None);
+}
+
+/// A string of any type becomes an owned tag, and a refused one is returned.
+#[test]
+fn from_strings() {
+    for text in ["de-CH", "de_CH"] {
+        let cow: Result<LangTagBuf, _> = Cow::Borrowed(text).try_into();
+        let boxed: Result<LangTagBuf, _> = Box::<str>::from(text).try_into();
+        let refused = InvalidLangTag(String::from(text));
+        let tag = LangTag::new(text).map(|tag| tag.to_owned());
+        let tag = tag.map_err(InvalidLangTag::into_owned);
+        assert!(cow == tag && boxed == tag && (tag.is_ok() || tag == Err(refused)));
+    }
+    for bytes in [&b"de-CH"[..], b"de_CH", b"de-\xff"] {
+        let vec: Result<LangTagBuf, _> = bytes.to_vec().try_into();
+        let slice: Result<LangTagBuf, _> = bytes.try_into();
+        let tag = LangTag::from_bytes(bytes).map(|tag| tag.to_owned());
+        let tag = tag.map_err(|_| InvalidLangTag(bytes.to_vec()));
+        assert!(vec == tag && slice == tag);
+    }
+}
+
+#[test]
+fn sites() {
+    let tags: Vec<LangTagBuf> = vec!["en".parse().unwrap(), "de".parse().unwrap()];
+    let site = site(tags.clone());
+    assert_eq!((site.len(), site.is_empty()), (2, false));
+    assert_eq!(site.tags(), Site::from(tags).tags());
+    let found = site.match_for_ranges(&["tlh", "gsw"]).unwrap();
+    assert_eq!(
+        (found.index, found.range, found.distance),
+        (1, &b"gsw"[..], 8)
+    );
+    let shown = r#"BestMatch { index: 1, range: b"gsw", place: 1, distance: 8 }"#;
+    assert_eq!(format!("{found:?}"), shown);
+    let wanted = matching::wanted_ranges(b"gsw;q=0.5").next();
+    assert_eq!(
+        format!("{:?}", wanted.unwrap()),
+        r#"WantedRange { bytes: b"gsw", weight: 500 }"#
+    );
 }
 
 #[test]

@@ -1,16 +1,14 @@
 //! The choice for a reader: a prepared site chooses as the calls over its tags do, and all suitable tags are those that a program gets
 //! which removes each tag that was chosen, and asks again.
 #![cfg(all(feature = "alloc", feature = "data"))]
+use crate::numbers::Numbers;
 use langtag::choice::{
     best_for_accept_language, best_for_header, best_for_ranges, match_for_header, suitable_among,
     suitable_for_header, suitable_for_ranges, write_suitable, Site, TagList,
 };
 use langtag::matching::AcceptLanguage;
 use langtag::LangTag;
-use numbers::Numbers;
 use std::cell::Cell;
-
-mod numbers;
 
 /// Ranges, tags and other texts.
 const PIECES: &str = "\

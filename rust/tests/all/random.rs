@@ -1,5 +1,6 @@
 //! All calls, over texts of random subtags: none panics, with overflow checks, and forms are their own forms.
 #![cfg(all(feature = "alloc", feature = "data"))]
+use crate::numbers::Numbers;
 use langtag::choice::{
     best_for_accept_language, best_for_header, best_for_ranges, match_for_header,
 };
@@ -8,9 +9,6 @@ use langtag::matching::{wanted_ranges, AcceptLanguage, LanguageRange};
 use langtag::registry::{is_canonical, write_canonical};
 use langtag::unicode::is_locale;
 use langtag::*;
-use numbers::Numbers;
-
-mod numbers;
 
 const SUBTAGS: [&str; 56] = [
     "en", "zh", "min", "nan", "Hant", "latn", "TW", "419", "rozaj", "1994", "u", "x", "a", "t",

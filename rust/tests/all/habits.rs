@@ -148,8 +148,7 @@ fn small_things() {
 #[test]
 #[cfg(feature = "data")]
 fn suggestions() {
-    let dari = langtag::registry::InvalidSubtag::Language(PrimaryLanguage::new("drw").unwrap());
-    assert_eq!(dari.suggestion(), None);
+    assert_eq!(langtag::erased::likely::suggested_language("drw"), None);
 }
 
 /// A tag of a `const` is the tag that `new` returns.
@@ -166,5 +165,31 @@ fn constants() {
         let ends = |tag: LangTag<'_>| tag.as_normal().map(NormalLangTag::ends);
         assert_eq!((tag.kind(), ends(tag)), (parsed.kind(), ends(parsed)));
         assert_eq!(tag.as_grandfathered(), parsed.as_grandfathered());
+    }
+}
+
+/// A part of a `const` is refused if and only if `new` refuses it.
+#[test]
+fn constant_parts() {
+    const LATIN: Script = Script::from_static("Latn");
+    const SWISS: Region = Region::from_static("CH");
+    const GERMAN: PrimaryLanguage = PrimaryLanguage::from_static("de");
+    let tag = langtag::langtag!("de-Latn-CH");
+    assert_eq!((tag.script(), tag.region()), (Some(LATIN), Some(SWISS)));
+    assert_eq!(tag.language().unwrap().primary(), GERMAN);
+    fn is_made<T>(part: fn(&'static str) -> T, text: &'static str) -> bool {
+        std::panic::catch_unwind(|| part(text)).is_ok()
+    }
+    for text in "a de 9a 419 41a gsw 4191 La9n Latn abcdefgh abcdefghi é".split(' ') {
+        let language = is_made(PrimaryLanguage::from_static, text);
+        assert_eq!(language, PrimaryLanguage::new(text).is_ok());
+        assert_eq!(
+            is_made(Script::from_static, text),
+            Script::new(text).is_ok()
+        );
+        assert_eq!(
+            is_made(Region::from_static, text),
+            Region::new(text).is_ok()
+        );
     }
 }

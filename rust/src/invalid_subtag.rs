@@ -1,0 +1,205 @@
+//! The error for a tag that is not valid: what is wrong, with which subtag, and where it is.
+use core::fmt;
+
+use crate::erased::likely::{suggested_language, suggested_region};
+use crate::erased::registry;
+use crate::LangTag;
+
+/// What makes a subtag invalid. It is displayed as one word, such as `second-extlang`.
+#[derive(Clone, Copy, Debug, PartialEq, Eq, PartialOrd, Ord, Hash)]
+#[non_exhaustive]
+pub enum Fault {
+    /// A language that is not registered: `qt` in `qt-FR`.
+    Language,
+    /// An extended language that is not registered: `fra` in `zh-fra`.
+    Extlang,
+    /// A second extended language, which no valid tag has ([RFC 5646 section 2.2.2]): `yue` in
+    /// `zh-cmn-yue`.
+    ///
+    /// [RFC 5646 section 2.2.2]: https://www.rfc-editor.org/rfc/rfc5646#section-2.2.2
+    SecondExtlang,
+    /// A script that is not registered: `Abcd` in `fr-Abcd`.
+    Script,
+    /// A region that is not registered: `FQ` in `fr-FQ`.
+    Region,
+    /// A variant that is not registered: `1997` in `de-1997`.
+    Variant,
+    /// A variant that equals an earlier one, ignoring case: the second `1996` in `de-1996-1996`.
+    RepeatedVariant,
+    /// A singleton that equals an earlier one, ignoring case: the `A` in `fr-a-bb-A-cc`.
+    RepeatedSingleton,
+}
+
+impl Fault {
+    /// Returns the word for the fault, and for a message the words before and after the subtag.
+    fn words(self) -> [&'static str; 3] {
+        match self {
+            Fault::Language => ["language", "language", "is not registered"],
+            Fault::Extlang => ["extlang", "extended language", "is not registered"],
+            Fault::SecondExtlang => ["second-extlang", "extended language", "is the second"],
+            Fault::Script => ["script", "script", "is not registered"],
+            Fault::Region => ["region", "region", "is not registered"],
+            Fault::Variant => ["variant", "variant", "is not registered"],
+            Fault::RepeatedVariant => ["repeated-variant", "variant", "is repeated"],
+            Fault::RepeatedSingleton => ["repeated-singleton", "singleton", "is repeated"],
+        }
+    }
+}
+
+impl fmt::Display for Fault {
+    fn fmt(&self, f: &mut fmt::Formatter<'_>) -> fmt::Result {
+        f.pad(self.words()[0])
+    }
+}
+
+/// The error for a tag that is not valid: its first subtag that is not registered, is a second
+/// extended language, or repeats an earlier subtag.
+///
+/// ```
+/// use langtag::registry::{validate, Fault};
+/// use langtag::LangTag;
+///
+/// let error = validate(LangTag::new("sl-rozaj-rozaj")?).unwrap_err();
+/// assert_eq!((error.fault(), error.subtag()), (Fault::RepeatedVariant, "rozaj"));
+/// assert_eq!((error.start(), error.end()), (9, 14));
+/// assert_eq!(error.to_string(), "variant rozaj is repeated");
+/// # Ok::<(), Box<dyn std::error::Error>>(())
+/// ```
+#[derive(Clone, Copy, Debug, PartialEq, Eq, Hash)]
+pub struct InvalidSubtag<T> {
+    fault: Fault,
+    subtag: T,
+    start: usize,
+}
+
+/// The error of [`LangTagBuf::validate`](crate::LangTagBuf::validate), which owns its subtag.
+#[cfg(feature = "alloc")]
+pub type InvalidSubtagBuf = InvalidSubtag<alloc::string::String>;
+
+impl<'a> InvalidSubtag<&'a str> {
+    /// Returns the error for a tag, or `None` if the tag is valid.
+    pub(crate) fn of(tag: LangTag<'a>) -> Option<Self> {
+        use registry::InvalidSubtag as Found;
+
+        let (found, index) = registry::fault_at(tag)?;
+        let tag = tag.as_normal()?;
+        let ends = tag.ends();
+        let extlang = tag.language().primary().len() + 1;
+        let variant = || ends.region + 1 + length(tag.variants().iter().take(index));
+        let (fault, start, subtag) = match found {
+            Found::Language(subtag) => (Fault::Language, 0, subtag.as_str()),
+            Found::Extlang(subtag) => (Fault::Extlang, extlang, subtag.as_str()),
+            Found::SecondExtlang(subtag) => (Fault::SecondExtlang, extlang + 4, subtag.as_str()),
+            Found::Script(subtag) => (Fault::Script, ends.language + 1, subtag.as_str()),
+            Found::Region(subtag) => (Fault::Region, ends.script + 1, subtag.as_str()),
+            Found::Variant(subtag) => (Fault::Variant, variant(), subtag.as_str()),
+            Found::RepeatedVariant(subtag) => (Fault::RepeatedVariant, variant(), subtag.as_str()),
+            Found::RepeatedSingleton(_) => {
+                let start = ends.variants + 1 + length(tag.extensions().iter().take(index));
+                let singleton = &tag.as_lang_tag().as_str()[start..=start];
+                (Fault::RepeatedSingleton, start, singleton)
+            }
+        };
+        Some(InvalidSubtag {
+            fault,
+            subtag,
+            start,
+        })
+    }
+}
+
+/// Returns the number of bytes of some parts, each with the hyphen after it.
+fn length(parts: impl Iterator<Item: AsRef<str>>) -> usize {
+    parts.map(|part| part.as_ref().len() + 1).sum()
+}
+
+impl<T: AsRef<str>> InvalidSubtag<T> {
+    /// Returns what is wrong with the subtag.
+    #[must_use]
+    pub fn fault(&self) -> Fault {
+        self.fault
+    }
+
+    /// Returns the subtag, in its original case.
+    #[must_use]
+    pub fn subtag(&self) -> &str {
+        self.subtag.as_ref()
+    }
+
+    /// Returns where the subtag begins in the tag, in bytes.
+    #[doc(alias = "offset")]
+    #[must_use]
+    pub fn start(&self) -> usize {
+        self.start
+    }
+
+    /// Returns where the subtag ends in the tag, in bytes.
+    #[must_use]
+    pub fn end(&self) -> usize {
+        self.start + self.subtag().len()
+    }
+
+    /// Returns the registered code that is probably meant, or `None` if CLDR's aliases have none:
+    /// `de` for the languages `deu` and `ger`, `GB` for the region `UK`. Only languages and regions
+    /// have a suggestion.
+    ///
+    /// The message of the error ends with this code.
+    ///
+    /// ```
+    /// use langtag::registry::validate;
+    /// use langtag::LangTag;
+    ///
+    /// let error = validate(LangTag::new("ger-AT").unwrap()).unwrap_err();
+    /// assert_eq!(error.suggestion(), Some("de"));
+    /// assert_eq!(error.to_string(), "language ger is not registered: did you mean de?");
+    /// ```
+    #[must_use]
+    pub fn suggestion(&self) -> Option<&'static str> {
+        match self.fault {
+            Fault::Language => suggested_language(self.subtag()),
+            Fault::Region => suggested_region(self.subtag()),
+            _ => None,
+        }
+    }
+}
+
+#[cfg(feature = "alloc")]
+impl<T: Into<alloc::string::String>> InvalidSubtag<T> {
+    /// Returns the same error with its own copy of the subtag, so that it does not borrow the tag.
+    ///
+    /// ```
+    /// use langtag::registry::{validate, InvalidSubtag};
+    /// use langtag::LangTagBuf;
+    ///
+    /// fn read(text: &str) -> Result<LangTagBuf, Box<dyn std::error::Error>> {
+    ///     let tag: LangTagBuf = text.parse()?;
+    ///     validate(&tag).map_err(InvalidSubtag::into_owned)?;
+    ///     Ok(tag)
+    /// }
+    /// assert_eq!(read("qt-FR").unwrap_err().to_string(), "language qt is not registered");
+    /// ```
+    #[must_use]
+    pub fn into_owned(self) -> InvalidSubtagBuf {
+        InvalidSubtag {
+            fault: self.fault,
+            subtag: self.subtag.into(),
+            start: self.start,
+        }
+    }
+}
+
+#[cfg(feature = "alloc")]
+from!([] InvalidSubtag<&str> => InvalidSubtagBuf: error => error.into_owned());
+
+impl<T: AsRef<str>> fmt::Display for InvalidSubtag<T> {
+    fn fmt(&self, f: &mut fmt::Formatter<'_>) -> fmt::Result {
+        let [_, what, how] = self.fault.words();
+        write!(f, "{what} {} {how}", self.subtag())?;
+        match self.suggestion() {
+            Some(code) => write!(f, ": did you mean {code}?"),
+            None => Ok(()),
+        }
+    }
+}
+
+impl<T: AsRef<str> + fmt::Debug> core::error::Error for InvalidSubtag<T> {}
