@@ -1,5 +1,5 @@
-"""Writes docs/CALLS.md and the table of README from bindings/calls.txt: a row for a task, and a column for a language. A name is linked to
-the first section of the language's page that shows it in code, or else names it, if there is one."""
+"""Writes docs/CALLS.md from bindings/calls.txt: a row for a task, and a column for a language. A name is linked to the first section of the
+language's page that shows it in code, or else names it, if there is one. The pages of SQL have each name themselves."""
 from __future__ import annotations
 
 import pathlib
@@ -8,8 +8,7 @@ from typing import NamedTuple
 
 from interface import Interface
 
-SOURCE, PAGE, README = "bindings/calls.txt", "docs/CALLS.md", "README.md"
-SHORT = 8  # the rows of README's table
+SOURCE, PAGE = "bindings/calls.txt", "docs/CALLS.md"
 
 
 class Language(NamedTuple):
@@ -26,24 +25,22 @@ LANGUAGES = [
     Language("C++", "docs/C.md", "bindings/include/langtag.hpp bindings/include/langtag.h bindings/include/langtag_names.hpp"),
     Language("Python", "docs/PYTHON.md", "bindings/python/langtag/__init__.py bindings/python/langtag/_native.pyi"),
     Language("JavaScript", "docs/JAVASCRIPT.md", "bindings/js/index.d.ts"),
-    Language("PostgreSQL", "docs/POSTGRESQL.md", "bindings/postgresql/langtag.sql.in"),
+    Language("PostgreSQL", "docs/POSTGRESQL.md", "bindings/postgresql/langtag.sql.in bindings/postgresql/order.sql.in"),
     Language("SQLite", "docs/SQLITE.md", "bindings/sqlite/sqlite_langtag.c"),
 ]
 # The tables of the page: their columns, and where every call is documented. A table of all columns would not fit into a page.
 TABLES = [
     (0, 3, "Every call is documented: for Rust by `cargo doc --open`, for C in [langtag.h](../bindings/include/langtag.h), and for C++ in\n[langtag.hpp](../bindings/include/langtag.hpp)."),
     (3, 5, "Every call is documented: for Python by `help(langtag)`, and for JavaScript in [index.d.ts](../bindings/js/index.d.ts)."),
-    (5, 7, "The pages of [PostgreSQL](POSTGRESQL.md#types-and-functions) and [SQLite](SQLITE.md#functions) list every function."),
 ]
-IN_README = ["Python", "JavaScript", "Rust", "C"]
-OF_THE_LANGUAGE = {"==", "<", "=", "Hash", "std::hash", "to_ascii_lowercase", "lower", "COLLATE langtag"}  # what the language itself has
-FILES = {SOURCE, PAGE, README, *(name for language in LANGUAGES for names in language[1:] for name in names.split())}
+OF_THE_LANGUAGE = {"==", "<", "=", "Hash", "std::hash", "to_ascii_lowercase", "lower", "lower(tag::text)", "COLLATE langtag"}  # what the language itself has
+FILES = {SOURCE, PAGE, *(name for language in LANGUAGES for names in language[1:] for name in names.split())}
 
 HEAD = """\
 # Calls
 
-A row is a task, and a column has the names of a language. A link leads to the section of the language's page that shows the call. `-` means
-that the language has no such call.
+A link leads to the section of the language's page that shows the call. `-` means that the language has no such call. The pages of
+[PostgreSQL](POSTGRESQL.md#types-and-functions) and [SQLite](SQLITE.md#functions) list every function.
 """
 
 
@@ -95,13 +92,19 @@ def sections(text: str) -> list[Section]:
     return [it for it in found if it.anchor != "install"]
 
 
+def calls_in(path: pathlib.Path) -> str:
+    """Returns the text in which the names of a language's calls are: of a file for SQL, only what its statements create."""
+    text = path.read_text(encoding="utf-8").replace("@T@", "langtag")
+    return "\n".join(re.findall(r"(?m)^(?:CREATE \w+|@type) (\{[^}]*\}|[^\s(;]+)", text)) if path.name.endswith(".sql.in") else text
+
+
 class Linker:
     """Finds where the names of a language are."""
 
     def __init__(self, root: pathlib.Path, language: Language):
         self.language, self.root = language, root
         self.sections = sections((root / language.page).read_text(encoding="utf-8"))
-        self.known = "".join((root / name).read_text(encoding="utf-8") for name in language.names.split())
+        self.known = "".join(calls_in(root / name) for name in language.names.split())
 
     def linked(self, name: str) -> str:
         """Returns a name with a link to the first section of the language's page that shows it in code, or else names it."""
@@ -122,15 +125,8 @@ def table(head: list[str], lines: list[list[str]]) -> str:
     return "".join(" | ".join(line) + "\n" for line in [head, ["---|" * (len(head) - 1) + "---"], *lines])
 
 
-def short_table(all_rows: list[list[str]]) -> str:
-    """Returns the table of README."""
-    columns = [1 + [it.name for it in LANGUAGES].index(name) for name in IN_README]
-    lines = [[row[0], *(", ".join(f"`{name}`" for name in names_in(row[at])) or "-" for at in columns)] for row in all_rows[:SHORT]]
-    return table(["to", *IN_README], lines)
-
-
 def pages(root: pathlib.Path) -> dict[str, str]:
-    """Returns the text of docs/CALLS.md and of README."""
+    """Returns the text of docs/CALLS.md."""
     all_rows, linkers = rows(root), [Linker(root, language) for language in LANGUAGES]
     heads = [f"[{language.name}]({relative(language.page)})" for language in LANGUAGES]
     lines = [[row[0], *(linker.cell(cell) for linker, cell in zip(linkers, row[1:]))] for row in all_rows]
@@ -139,9 +135,7 @@ def pages(root: pathlib.Path) -> dict[str, str]:
         names = [language.name for language in LANGUAGES[begin:end]]
         has = [[line[0], *line[begin + 1 : end + 1]] for line in lines if set(line[begin + 1 : end + 1]) != {"-"}]
         parts.append(f"## {', '.join(names[:-1])} and {names[-1]}\n\n{documented}\n\n{table(['to', *heads[begin:end]], has)}")
-    readme = (root / README).read_text(encoding="utf-8")
-    return {PAGE: "\n".join(parts),
-            README: re.sub(r"(?m)^to \|.*\n(?:.+\n)+", lambda _: short_table(all_rows), readme, count=1)}
+    return {PAGE: "\n".join(parts)}
 
 
 def faults(it: Interface, root: pathlib.Path) -> list[str]:
@@ -151,5 +145,9 @@ def faults(it: Interface, root: pathlib.Path) -> list[str]:
     for at, language in enumerate(LANGUAGES, 1):
         linker = Linker(root, language)
         found += [f"{SOURCE}: {language.name} has no {name}" for row in all_rows for name in linker.unknown(row[at])]
+        if language.names.startswith(("bindings/postgresql/", "bindings/sqlite/")):
+            page = (root / language.page).read_text(encoding="utf-8")
+            names = {name for row in all_rows for name in names_in(row[at])} - OF_THE_LANGUAGE
+            found += [f"{language.page} lacks {name}" for name in sorted(names) if not re.search(pattern(name), page)]
     named = {name for row in all_rows for name in names_in(row[2])}
     return found + [f"{SOURCE} has no row with {function.name}" for function in it.functions if function.name not in named]

@@ -8,8 +8,7 @@
     bindings/python/native/calls.c            the functions for Python, in C
     bindings/python/langtag/_native.pyi       their types
     bindings/js/calls.js                      the functions in JavaScript, over the memory of the WebAssembly module
-    bindings/python/langtag/help.txt          the help of the program, which is that of the program in Rust
-    docs/CALLS.md, README.md                  the calls of each language, by task, from bindings/calls.txt
+    docs/CALLS.md                             the calls of each language, by task, from bindings/calls.txt
 
 It also compares the numbers that stand in several files (check_numbers.py).
 A function must have LANGTAG_PURE if its result is its only effect.
@@ -188,8 +187,6 @@ def wrong_template(it: Interface, template: str) -> list[str]:
     return [f"{interface.TEMPLATE}: {name}" for name in sorted({*interface.modules(template)} ^ ours)]
 
 
-# The help of the program in Rust, and its copy for the program in Python.
-HELP, COPY = "rust/src/bin/langtag/help.txt", "bindings/python/langtag/help.txt"
 FILES = {
     "rust/c/src/exports.rs": exports,
     "bindings/c/langtag_verified.map": script,
@@ -206,7 +203,7 @@ def main(root: pathlib.Path, is_check: bool) -> int:
     if not it.functions or not it.structs:
         faults.append("crates/langtag_c has no functions, or no structs")
     faults += calls_page.faults(it, root) + check_numbers.wrong_numbers(root) + check_numbers.copied_dates(root)
-    files = {HEADER: header(it, template), COPY: (root / HELP).read_text(encoding="utf-8")} | {name: written(it) for name, written in FILES.items()}
+    files = {HEADER: header(it, template)} | {name: written(it) for name, written in FILES.items()}
     for name, text in (files | calls_page.pages(root)).items():
         path = root / name
         if not is_check:

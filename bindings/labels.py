@@ -1,10 +1,11 @@
 #!/usr/bin/env python3
-"""What a package says of the archive in it: its version, LANGTAG_PROVED of its header, and PROVED.txt.
+"""What a package says of itself: PROVED.txt, which has the checksum of its archive, and its README, which is a page of docs/.
 
-    bindings/labels.py ARCHIVE    prints PROVED.txt for an archive for this machine
+    bindings/labels.py proved ARCHIVE    prints PROVED.txt for an archive for this machine
+    bindings/labels.py readme PACKAGE    prints the README of a package: c, python, js, postgresql or sqlite
 
-An archive counts as proved only if its record shows that `rt lib` built it from these sources (targets.py). The version of a package
-with another archive ends in `+cargo`, and its PROVED.txt says that it is not proved.
+A package whose archive does not count as proved (targets.py) has a version that ends in `+cargo`, and its PROVED.txt says that it is not
+proved.
 """
 from __future__ import annotations
 
@@ -12,44 +13,31 @@ import hashlib
 import os
 import pathlib
 import re
-import shutil
 import subprocess
 import sys
-from typing import NamedTuple
 
-from readmes import readme
-from targets import NATIVE, ROOT, Target, prover_of, record_of
+from targets import NATIVE, ROOT, Target, prover_of
 
 HERE = pathlib.Path(__file__).resolve().parent
+DOCS = ROOT / "docs"
 sys.path.insert(0, str(HERE / "python"))
-from backend import notices, summary  # noqa: E402, F401
+from backend import Archive, version  # noqa: E402
 
-VERSION = re.findall(r'LANGTAG_VERSION "(.*)"', (HERE / "include/langtag.h").read_text(encoding="utf-8"))[0]
+# The page of each package, and what stands below it.
+PAGES = {"c": "C.md", "python": "PYTHON.md", "js": "JAVASCRIPT.md", "postgresql": "POSTGRESQL.md", "sqlite": "SQLITE.md"}
+LICENCES = """
+## License
 
-
-class Archive(NamedTuple):
-    """The path and the bytes of an archive, and the line of `rt version` that proved it, or None."""
-
-    path: pathlib.Path
-    data: bytes
-    prover: str | None
-
-    def copy_to(self, folder: pathlib.Path) -> pathlib.Path:
-        """Writes the archive to a folder, with its record if it is proved, and returns its path there."""
-        copy = folder / "liblangtag_c.a"
-        copy.write_bytes(self.data)
-        if self.prover:
-            shutil.copyfile(record_of(self.path), record_of(copy))
-        return copy
-
-
-def read_archive(path: pathlib.Path) -> Archive:
-    return Archive(path, path.read_bytes(), prover_of(path))
-
-
-def version_of(prover: str | None) -> str:
-    """Returns the version of packages whose archive was proved, or was not."""
-    return VERSION if prover else f"{VERSION}+cargo"
+Apache License 2.0 or MIT license, at your option. The CLDR data is under Unicode's license.
+"""
+ARCHIVE_PROVED = """\
+Above stand the target and the SHA-256 of each proved archive. `rt lib --target TARGET` in crates/langtag_c of that commit proves the
+sources, and builds the same archive.
+"""
+ARCHIVE_NOT_PROVED = """\
+cargo and rustc built this archive from the Rattle sources of that commit with their contracts taken out. This package does not show that
+these sources were proved, and the archive itself is not.
+"""
 
 
 def commit() -> str:
@@ -63,44 +51,49 @@ def commit() -> str:
     return head + (" with uncommitted changes" if changed else "")
 
 
-def functions() -> tuple[int, int]:
+def functions() -> str:
     """Returns how many functions the crates of the library have, and how many crates they are."""
     taken = re.findall(r'Module\("(\w+)"', (ROOT / "rust/erase/crates.py").read_text())
     sources = [path.read_text(encoding="utf-8") for crate in taken for path in sorted((ROOT / "crates" / crate / "src").glob("*.rt"))]
-    return sum(len(re.findall(r"(?m)^\s*(?:pub(?:\(\w+\))? )?fn ", source)) for source in sources), len(taken)
+    count = sum(len(re.findall(r"(?m)^\s*(?:pub(?:\(\w+\))? )?fn ", source)) for source in sources)
+    return f"{count} functions in {len(taken)} crates"
 
 
-ARCHIVE_PROVED = """\
-Above stand the target and the SHA-256 of each proved archive. `rt lib --target TARGET` in crates/langtag_c of that commit proves the
-sources, and builds the same archive.
-"""
-ARCHIVE_NOT_PROVED = """\
-cargo and rustc built this archive from the Rattle sources of that commit with their contracts taken out. Nobody has shown here that
-these sources are proved, and the archive itself is not.
-"""
-
-
-def proved_text(archives: dict[Target, Archive], what: str | None = None, names_archives: bool = True) -> str:
-    """Returns PROVED.txt: what a package was made from, and whether it is proved."""
-    provers = {archive.prover for archive in archives.values()}
-    prover = provers.pop() if len(provers) == 1 else None
+def proved_text(prover: str | None, archive: str = "", what: str | None = None) -> str:
+    """Returns PROVED.txt: what a package was made from, and whether it is proved. `archive` is the target and the checksum."""
     # as the generators of the tables wrote them
     registry, cldr = (re.findall(r"(?m)^\w+ = (\S+)$", (HERE / f"postgresql/{name}.mk").read_text())[0] for name in ("registry_date", "cldr_version"))
-    count, crates = functions()
-    sums = "".join(f"target {target.name}\n{hashlib.sha256(archive.data).hexdigest()}  liblangtag_c.a\n"
-                   for target, archive in archives.items() if names_archives)
-    return (f"langtag-verified {version_of(prover)}\ncommit {commit()}\nregistry {registry}\ncldr {cldr}\n"
-            f"{f'proved by {prover}' if prover else 'not proved'}\n{count} functions in {crates} crates\n{sums}\n"
+    return (f"langtag-verified {version(bool(prover))}\ncommit {commit()}\nregistry {registry}\ncldr {cldr}\n"
+            f"{f'proved by {prover}' if prover else 'not proved'}\nsources: {functions()}\n{archive}\n"
             f"{what or (ARCHIVE_PROVED if prover else ARCHIVE_NOT_PROVED)}")
 
 
-def notes(package: str, archives: dict[Target, Archive]) -> dict[str, bytes]:
-    """Returns the files that each package has: its README, which is a page of docs/, the licences, and PROVED.txt for its
-    archives."""
-    return {**notices(), "PROVED.txt": proved_text(archives).encode(), "README.md": readme(package).encode()}
+def label_of(archive: pathlib.Path, target: Target = NATIVE, is_proved: bool = True) -> str:
+    """Returns PROVED.txt for an archive, which counts as proved if its record shows it, unless what was made of it is not."""
+    of_archive = f"target {target.name}\n{hashlib.sha256(archive.read_bytes()).hexdigest()}  liblangtag_c.a\n"
+    return proved_text(prover_of(archive) if is_proved else None, of_archive)
+
+
+def labelled(archive: pathlib.Path, target: Target = NATIVE) -> Archive:
+    return Archive(archive, label_of(archive, target))
+
+
+def named(link: re.Match[str]) -> str:
+    """Returns the text that replaces a link to a file that the package does not have."""
+    path = link[2].partition("#")[0]
+    return link[0] if path.startswith("http") else f"{link[1]} (`{(DOCS / path).resolve().relative_to(ROOT)}` in the repository)"
+
+
+def without_links(page: str) -> str:
+    return re.sub(r"\[([^\]]*)\]\(([^)#]+(?:#[\w-]*)?)\)", named, page)
+
+
+def readme(package: str) -> str:
+    return without_links((DOCS / PAGES[package]).read_text(encoding="utf-8")) + LICENCES
 
 
 if __name__ == "__main__":
-    if len(sys.argv) != 2 or sys.argv[1].startswith("-"):
+    made = {"proved": lambda it: label_of(pathlib.Path(it)), "readme": readme}
+    if len(sys.argv) != 3 or sys.argv[1] not in made:
         sys.exit(__doc__)
-    print(proved_text({NATIVE: read_archive(pathlib.Path(sys.argv[1]))}), end="")
+    print(made[sys.argv[1]](sys.argv[2]), end="")

@@ -39,6 +39,7 @@ def indented(lines: list[str]) -> list[str]:
 
 # ---- in C: native/calls.c
 
+BY_HAND = ("prepare", "describe", "autonym")  # functions in list.c and names.c
 OBJECTS = {"bool": "PyBool_FromLong", "u32": "PyLong_FromUnsignedLong", "usize": "PyLong_FromSize_t", "i32": "PyLong_FromLong",
            "u64": "PyLong_FromUnsignedLongLong"}
 CODES = {"u32": ("I", "(unsigned)"), "usize": ("n", "(Py_ssize_t)"), "u64": ("K", "")}
@@ -79,8 +80,9 @@ def body_in_c(call: Call) -> list[str]:
                 "answer = PyBytes_FromStringAndSize(len <= sizeof room ? room : NULL, (Py_ssize_t)len);", "if (answer && len > sizeof room) {",
                 *indented(["data = PyBytes_AsString(answer);", *again]), "}"]
     if call.has_array:
-        return ["size_t *found = PyMem_Malloc(((size_t)most + 1) * sizeof *found);", "if (found) {",
-                *indented([*made_in_c(call, "size_t count = ", "found", "(size_t)most"), "answer = lt_numbers(found, count);"]), "} else PyErr_NoMemory();", "PyMem_Free(found);"]
+        return ["size_t room = most < 0 ? 0 : (size_t)most < tags.count ? (size_t)most : tags.count;",
+                "size_t *found = PyMem_Malloc((room + 1) * sizeof *found);", "if (found) {",
+                *indented([*made_in_c(call, "size_t count = ", "found", "room"), "answer = lt_numbers(found, count);"]), "} else PyErr_NoMemory();", "PyMem_Free(found);"]
     if not kind:
         return [f"answer = lt_changed(&text, {call.function.name});"]
     if not call.written:
@@ -108,9 +110,10 @@ def function_in_c(call: Call) -> str:
 def in_c(it: Interface, written: str) -> str:
     comment = "".join(f" * {line}".rstrip() + "\n" for line in CONVENTIONS.format(written=written).splitlines())
     ways = [(call.name(), "METH_O" if is_of_one_text(call) else "METH_VARARGS" if call.taken else "METH_NOARGS") for call in calls(it)]
-    table = "".join(f'    {{"{name}", {name}, {way}, NULL}},\n' for name, way in [*ways, ("prepare", "METH_O")])
+    rows = [(name, name, way) for name, way in ways] + [(name, f"lt_{name}", "METH_O") for name in BY_HAND]
+    table = "".join(f'    {{"{name}", {function}, {way}, NULL}},\n' for name, function, way in rows)
     return (f'/*\n{comment} */\n#include "native.h"\n{"".join(function_in_c(call) for call in calls(it))}\n'
-            f"PyMethodDef lt_functions[] = {{\n{table.replace('prepare, METH', 'lt_prepare, METH')}    {{NULL, NULL, 0, NULL}}}};\n")
+            f"PyMethodDef lt_functions[] = {{\n{table}    {{NULL, NULL, 0, NULL}}}};\n")
 
 
 # ---- their types: langtag/_native.pyi
@@ -120,6 +123,8 @@ HEAD = '''\
 from typing import Any
 
 from ._texts import Text
+
+PROVED: bool
 
 class _Value:
     @property
@@ -156,6 +161,8 @@ class RangeBase(_Value):
     def matches_extended(self, tag: TagBase | Text, /) -> bool: ...
 
 def prepare(tags: list[Any], /) -> tuple[bytes, bytes]: ...
+def describe(tag: Text, /) -> bytes: ...
+def autonym(tag: Text, /) -> bytes | None: ...
 '''
 TYPES = {"text": "Text", "list": "list[Any]", "site": "tuple[bytes, bytes]"}
 

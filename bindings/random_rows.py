@@ -175,7 +175,7 @@ def elements(header: bytes) -> Iterator[Element]:
         asked, weight = before.strip(b" \t"), re.fullmatch(rb"(?i)q=(0(?:\.\d{0,3})?|1(?:\.0{0,3})?)", after.strip(b" \t"))
         wrong = "range" if range_kind(asked) != "basic" else "weight" if semicolon and not weight else ""
         if text.strip(b" \t"):
-            yield Element(index, offset, wrong, asked, round(1000 * float(weight[1])) if weight else 1000)
+            yield Element(index, offset + len(text) - len(text.lstrip(b" \t")), wrong, asked, round(1000 * float(weight[1])) if weight else 1000)
         offset += len(text) + 1
 
 

@@ -1,10 +1,8 @@
 #!/usr/bin/env python3
-"""The list of the targets of langtag_c, and the archive of each target.
+"""The targets of langtag_c, and the archive of each target.
 
-    bindings/targets.py                   lists the targets, and says which archives exist
     bindings/targets.py archive TARGET    prints the path of its archive, which `rt lib` builds if it is missing or older
                                           than a source
-    bindings/targets.py cargo             prints the path of the archive for this machine that cargo builds
     bindings/targets.py proved ARCHIVE    prints what proved an archive, or fails if its record does not show that
 
 `rt lib` proves the sources before it builds an archive. The record beside the archive, ARCHIVE.proved, has the checksums of the
@@ -27,11 +25,13 @@ BUILT = CRATE / "out/liblangtag_c.a"  # what `rt lib` writes, for any target
 
 
 class Target(NamedTuple):
-    """A target: its name in the toolchain and in Rust, the name of its processor in the packages, and the platform of a wheel."""
+    """A target: its name in the toolchain and in Rust, the name of its processor in the packages, the platforms of a wheel, and its C
+    compiler."""
 
     name: str
     processor: str
-    platform: str
+    platforms: str = ""
+    compiler: str = "cc"
 
     @property
     def archive(self) -> pathlib.Path:
@@ -39,8 +39,8 @@ class Target(NamedTuple):
 
 
 NATIVE = Target("x86_64-unknown-linux-gnu", "x86_64", "manylinux_2_17_x86_64.manylinux2014_x86_64")
-AARCH64 = Target("aarch64-unknown-linux-gnu", "aarch64", "manylinux_2_17_aarch64.manylinux2014_aarch64")
-WASM = Target("wasm64-unknown-unknown", "wasm", "")
+AARCH64 = Target("aarch64-unknown-linux-gnu", "aarch64", "manylinux_2_17_aarch64.manylinux2014_aarch64", "aarch64-linux-gnu-gcc")
+WASM = Target("wasm64-unknown-unknown", "wasm")
 TARGETS = {target.name: target for target in (NATIVE, AARCH64, WASM)}
 
 
@@ -82,6 +82,15 @@ def prover_of(archive: pathlib.Path) -> str | None:
     return prover if sums == wanted else None
 
 
+def copied(archive: pathlib.Path, folder: pathlib.Path) -> pathlib.Path:
+    """Copies an archive to a folder, with its record, and returns its path there."""
+    copy = folder / BUILT.name
+    shutil.copyfile(archive, copy)
+    if record_of(archive).is_file():
+        shutil.copyfile(record_of(archive), record_of(copy))
+    return copy
+
+
 def build(target: Target) -> None:
     """Proves langtag_c for a target, and keeps its archive and record. The archive for this machine stays at its path."""
     (CRATE / "out").mkdir(exist_ok=True)
@@ -113,24 +122,11 @@ def archive_of(target: Target) -> pathlib.Path:
     return target.archive
 
 
-def archives_by_cargo() -> dict[Target, pathlib.Path]:
-    """Builds the library of rust/c by cargo for this machine, and returns its archive."""
-    built = ROOT / "rust/c/target/liblangtag_c.a"
-    if subprocess.run([ROOT / "rust/c/archive", built], check=False).returncode:
-        sys.exit("there is no archive by cargo: see above")
-    return {NATIVE: built}
-
-
 def main(words: list[str]) -> None:
     if words[:1] == ["archive"] and len(words) == 2 and words[1] in TARGETS:
         print(archive_of(TARGETS[words[1]]))
-    elif words == ["cargo"]:
-        print(archives_by_cargo()[NATIVE])
     elif words[:1] == ["proved"] and len(words) == 2:
         print(prover_of(pathlib.Path(words[1])) or sys.exit(f"{words[1]} has no record that it was proved from these sources"))
-    elif not words:
-        for target in TARGETS.values():
-            print(target.name, target.archive if target.archive.is_file() else "-")
     else:
         sys.exit(__doc__)
 

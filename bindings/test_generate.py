@@ -20,7 +20,7 @@ ROOT = pathlib.Path(sys.argv[1] if sys.argv[1:] else pathlib.Path(__file__).pare
 HEADER, TEMPLATE, MODULE = generate.HEADER, interface.TEMPLATE, "bindings/python/langtag/__init__.py"
 CRATE = "crates/langtag_c/src"
 DATE = check_numbers.registry_date(ROOT)
-FILES = {HEADER, TEMPLATE, MODULE, generate.HELP, generate.COPY, check_numbers.DATED, "rows/table.txt", *generate.FILES, *calls_page.FILES, *(name for name, _ in check_numbers.VERSIONS + check_numbers.NUMBERS)}
+FILES = {HEADER, TEMPLATE, MODULE, check_numbers.DATED, "rows/table.txt", *generate.FILES, *calls_page.FILES, *(name for name, _ in check_numbers.VERSIONS + check_numbers.NUMBERS)}
 
 # A file, a text in it, the text that replaces it, and what the message has to name.
 PLANTED = [
@@ -46,8 +46,8 @@ PLANTED = [
     *((name, "hash", "hush", name) for name in generate.FILES),
     (calls_page.SOURCE, "langtag_viable_len, ", "", "no row with langtag_viable_len"),
     (calls_page.SOURCE, "viableLength", "viableLen", "JavaScript has no viableLen"),
+    (calls_page.SOURCE, "try_langtag", "btequalimage", "PostgreSQL has no btequalimage"),
     (calls_page.PAGE, "hash a tag", "hash a task", calls_page.PAGE),
-    (calls_page.README, "`langtag_parse`", "`langtag_parsed`", calls_page.README),
 ]
 
 

@@ -50,7 +50,7 @@ check "aarch64: no symbol of a C library after 2.17, as the wheel says" aarch64_
 # The Rust crate needs no archive. Its tests run if there is a standard library of Rust for aarch64.
 rust_on_aarch64() {
     cd "$rust_crate" && CARGO_TARGET_AARCH64_UNKNOWN_LINUX_GNU_LINKER=$cross-gcc \
-        CARGO_TARGET_AARCH64_UNKNOWN_LINUX_GNU_RUNNER=$under_qemu cargo test -q --release --target aarch64-unknown-linux-gnu --test rows --test habits
+        CARGO_TARGET_AARCH64_UNKNOWN_LINUX_GNU_RUNNER=$under_qemu cargo test -q --release --target aarch64-unknown-linux-gnu --test rows --test all
 }
 lacks "aarch64: the Rust crate" 'has cargo' "there is no cargo" '[ -d "$(rustc --print sysroot)/lib/rustlib/aarch64-unknown-linux-gnu" ]' \
     "there is no standard library of Rust for it (rustup target add aarch64-unknown-linux-gnu; in Debian 12 rustc-web, libstd-rust-web-dev:arm64)" ||

@@ -2,9 +2,12 @@
 # toolchain, cargo builds one from the same sources, which is not proved.
 archive=${LANGTAG_ARCHIVE:-}
 if [ -z "$archive" ]; then
-    if has rt; then wanted="archive x86_64-unknown-linux-gnu"; else wanted=cargo; fi
-    archive=$(python3 "$here/targets.py" $wanted 2>"$work/log") ||
-        { tail -20 "$work/log"; give_up "there is no archive: see above, or name one by LANGTAG_ARCHIVE"; }
+    if has rt; then
+        archive=$(python3 "$here/targets.py" archive x86_64-unknown-linux-gnu 2>"$work/log")
+    else
+        archive=$work/cargo/liblangtag_c.a
+        "$here/archive" --cargo "$archive" 2>"$work/log"
+    fi || { tail -20 "$work/log"; give_up "there is no archive: see above, or name one by LANGTAG_ARCHIVE"; }
 fi
 [ -f "$archive" ] || give_up "there is no $archive"
 cargo_built() { ar t "$archive" | grep -q '^langtag_verified'; }

@@ -19,7 +19,6 @@ pip_installs() {
     outside 'python3 -m venv v
         PIP_NO_INDEX=1 v/bin/python -m pip install -q --disable-pip-version-check ../clone/bindings/python
         v/bin/python -c "import langtag; assert not langtag.PROVED and langtag.parse(\"zh-Hant-TW\").script == \"Hant\""
-        v/bin/python -m langtag --version | grep -x "not proved"
         v/bin/python -c "import langtag; assert \"proved\" not in langtag.__doc__.split(\"PROVED is True only\")[0]"
         notices v/lib/python3*/site-packages/langtag_verified-*+cargo.dist-info
         grep "^Summary: .* not proved$" v/lib/python3*/site-packages/langtag_verified-*/METADATA && grep -x "# langtag for Python" v/lib/python3*/site-packages/langtag_verified-*/METADATA

@@ -51,6 +51,9 @@ lacks() {
 # needs CONDITION REASON NAME COMMAND..: runs a check if a condition holds, or else says why it is not run.
 needs() { lacks "$3" "$1" "$2" || check "${@:3}"; }
 
+# What `langtag_version()` has to return in SQL, by the Python module.
+versions() { python3 -c 'from langtag import *; from langtag import __version__; print(f"langtag {__version__} (IANA\x27s registry of {REGISTRY_DATE}, CLDR {CLDR_VERSION})")'; }
+
 # give_up REASON: ends the run, because nothing can be checked.
 give_up() {
     echo "FAILED: $1"

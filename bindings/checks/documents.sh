@@ -6,5 +6,4 @@ needs 'has cargo' "there is no cargo" "documents: the examples in Rust and of th
 needs 'has sqlite3 && has_header sqlite3ext.h' "there is no sqlite3, or its headers are not installed" "documents: the examples in SQLite" examples_of sqlite
 if [ -d "$work/clone" ]; then export LANGTAG_CLONE="$work/clone"; fi # of checks/clone.sh, with what cargo has built in it
 check "documents: the commands in a clone" examples_of clone
-needs 'has rt' "there is no rt" "documents: the program by rt try" examples_of rattle
 needs '[ -d "$work/dist" ]' "there are no packages" "documents: the commands that install" env LANGTAG_DIST="$work/dist" bash -c 'examples_of install'

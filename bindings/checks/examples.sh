@@ -30,14 +30,15 @@ check "the example of a catalogue asks the parents of a tag" catalogues
 check "gettext reads the messages of the parents of a locale" env -C examples python3 -m unittest test_gettext
 check "the example counts a million rows by pandas, where it is there, as without" count_tags
 
+sqlite_make() { make -s -B -C sqlite LANGTAG_ARCHIVE="$work/usr/lib/liblangtag_verified.a" LANGTAG_INCLUDE="$work/usr/include" "$@"; }
 sqlite_extension() {
-    make -s -C sqlite CFLAGS="$strict" LANGTAG_ARCHIVE="$work/usr/lib/liblangtag_verified.a" LANGTAG_INCLUDE="$work/usr/include" || return 1
-    ! nm -D --defined-only sqlite/sqlite_langtag.so | grep ' T langtag_' && mv sqlite/sqlite_langtag.so "$work/built"
+    sqlite_make CFLAGS="$strict" && ! nm -D --defined-only sqlite/sqlite_langtag.so | grep ' T langtag_' && mv sqlite/sqlite_langtag.so "$work/built"
 }
-sqlite_version() { sqlite3 :memory: ".load $work/built/sqlite_langtag" "SELECT langtag_version()" | diff - <(python3 -m langtag --version | head -1); }
+sqlite_version() { sqlite3 :memory: ".load $work/built/sqlite_langtag" "SELECT langtag_version()" | diff - <(versions); }
 if ! lacks "SQLite: the extension" 'has sqlite3' "there is no sqlite3" 'has_header sqlite3ext.h' "the headers of SQLite are not installed"; then
     check "SQLite: the extension builds" sqlite_extension
     check "SQLite: SQL says the versions of the program" sqlite_version
-    check "SQLite: the rows, and what only SQL has" env -C sqlite EXTENSION="$work/built/sqlite_langtag.so" python3 -m unittest test_sqlite
+    check "SQLite: the rows, and what only SQL has, under sanitizers" sqlite_make check CFLAGS="$strict -g -fsanitize=address,undefined -fno-sanitize-recover" \
+        SANITIZER="$(cc -print-file-name=libasan.so) $(cc -print-file-name=libubsan.so)"
 fi
 unset PYTHONPATH

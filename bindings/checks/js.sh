@@ -11,8 +11,13 @@ why_without_archive() {
     fi
 }
 without_archive=$(why_without_archive)
-# Without the archive, everything runs over the module that cargo builds.
-js_build() { if [ -z "$without_archive" ]; then "$here/js/build" "$wasm_archive" "$PWD/js"; else "$here/js/build" --cargo "$PWD/js"; fi; }
+# Without the archive, everything runs over the module that cargo builds. The copy keeps the package.json of a clone, of which the parts
+# after this make packages.
+js_build() {
+    local from=$wasm_archive
+    if [ -n "$without_archive" ]; then from=--cargo; fi
+    "$here/js/build" "$from" "$PWD/js" && cp "$here/js/package.json" js
+}
 if [ -n "$without_archive" ]; then
     js_build >"$work/log" 2>&1 || { not_run "JavaScript: everything" "$without_archive; $(tail -1 "$work/log")" && return 0; }
     not_run "JavaScript: the proved module" "$without_archive"

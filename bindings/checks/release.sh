@@ -7,59 +7,82 @@ releases() {
     (cd "$root" && cp --parents CHANGELOG.md LICENSE-APACHE LICENSE-MIT LICENSE-UNICODE "$work") || return 1
     cp -r "$root/docs" "$work" || return 1
     tar -C "$root" -c --exclude=out --exclude=must-fail crates crates.txt | tar -x -C "$work" || return 1
-    local targets=()
-    if [ -n "${aarch64_archive:-}" ]; then targets+=(--target "aarch64-unknown-linux-gnu=$aarch64_archive"); fi
-    if [ -n "${wasm_archive:-}" ]; then targets+=(--target "wasm64-unknown-unknown=$wasm_archive"); fi
-    ./release "$archive" "${targets[@]}" >"$work/sums" && mv dist "$work/dist" || return 1
-    ./release "$archive" "${targets[@]}" | diff "$work/sums" - || return 1
-    proves liblangtag-verified-*-x86_64-elf.tar.gz "$archive" x86_64-unknown-linux-gnu && (cd "$work/dist" && tar -xzOf langtag-verified-*.crate --wildcards '*/PROVED.txt') | grep -x 'commit .*' && ! tar -tzf "$work"/dist/*.crate | grep -E '\.(a|so)$|build\.rs'
+    local targets=("x86_64-unknown-linux-gnu=$archive")
+    if [ -n "${aarch64_archive:-}" ]; then targets+=("aarch64-unknown-linux-gnu=$aarch64_archive"); fi
+    if [ -n "${wasm_archive:-}" ]; then targets+=("wasm64-unknown-unknown=$wasm_archive"); fi
+    ./release "${targets[@]}" >"$work/sums" && mv dist "$work/dist" && ./release "${targets[@]}" | diff "$work/sums" -
 }
-# proves FILE ARCHIVE TARGET: PROVED.txt of a release has to have the checksum of the archive, its target, and what proved it. If the
-# archive has no record that it is proved, PROVED.txt has to say so, and the name of the file, too.
-proves() {
-    local said=$work/proved-txt prover
-    prover=$(python3 "$here/targets.py" proved "$2" 2>/dev/null) || prover=
-    (cd "$work/dist" && tar -xzOf $1 --wildcards '*/PROVED.txt') >"$said" || return 1
-    grep -x "commit $COMMIT" "$said" && grep -x "registry $(sed -n '1s/File-Date: //p' "$root/data/registry/language-subtag-registry")" "$said" || return 1
-    grep -x "cldr $(sed -n 's/^CLDR_VERSION = //p' postgresql/cldr_version.mk)" "$said" && grep -xE '[0-9]+ functions in [0-9]+ crates' "$said" || return 1
-    grep -A1 -x "target $3" "$said" | grep -x "$(sha256sum <"$2" | cut -c1-64)  liblangtag_c.a" || return 1
-    if [ -n "$prover" ]; then
-        grep -x "proved by $prover" "$said" && ! (cd "$work/dist" && ls $1 | grep -F +cargo)
-    else
-        grep -x "not proved" "$said" && ! grep -q "logic" "$said" && (cd "$work/dist" && ls $1 | grep -F +cargo)
-    fi
-}
-check "release: two runs give the same bytes, with the archive's sum" releases
+check "release: two runs give the same bytes" releases
 
+# opened PACKAGE: unpacks a package, and changes to its folder.
+opened() {
+    rm -rf "$work/opened" && mkdir "$work/opened" && cd "$work/opened" || return 1
+    case $1 in
+        *.deb) dpkg-deb -R "$1" . ;;
+        *x86_64.whl) python3 -m zipfile -e "$1" . && python3 -c 'import langtag; print("PROVED =", langtag.PROVED)' >label ;;
+        *.whl | *.zip) python3 -m zipfile -e "$1" . ;;
+        *.html) cp "$1" . ;;
+        *) tar -xzf "$1" ;;
+    esac
+}
 # named PACKAGE: prints what the name of a package says.
 named() { if [[ $1 == *+cargo* ]]; then echo "not proved"; else echo proved; fi; }
-# labels_of PACKAGE: prints `proved` or `not proved` for each label in a package: LANGTAG_PROVED of C, PROVED of Python and JavaScript, the
-# descriptions in metadata, and PROVED.txt.
-labels_of() {
-    local room
-    room=$(mktemp -d -p "$work") || return 1
-    case $1 in
-        *.deb) dpkg-deb -R "$1" "$room" ;;
-        *.whl | *.zip) python3 -m zipfile -e "$1" "$room" ;;
-        *.html) cp "$1" "$room" ;;
-        *) tar -xzf "$1" -C "$room" ;;
-    esac || return 1
-    grep -rIhE '^(#define LANGTAG_PROVED [01]$|(export )?(const )?PROVED = ([Tt]rue|[Ff]alse)|Summary: |  "description": | (It is not|The library .* was) proved|(not )?proved( by .*)?$)' "$room" |
+# labels PATH..: prints `proved` or `not proved` for each label: LANGTAG_PROVED of C, PROVED of Python and JavaScript, the descriptions in
+# metadata, and PROVED.txt.
+labels() {
+    grep -rIhE '^(#define LANGTAG_PROVED [01]$|(export )?(const )?PROVED = ([Tt]rue|[Ff]alse)|Summary: |  "description": | (It is not|The library .* was) proved|(not )?proved( by .*)?$)' "$@" |
         sed -E 's/.*(not proved|[Ff]alse;?|LANGTAG_PROVED 0)[".,]*$/not proved/; t; s/.*/proved/'
-    rm -rf "$room"
 }
-# Each label in a package says the same of its archive, and so does the package's name. The crate has no archive and one name.
-labelled() {
-    local package of said
+# proves PROVER [TARGET ARCHIVE]: PROVED.txt of the opened package has the sources, their data, and what proved them, and the checksum of the
+# archive that is in the package, if there is one.
+proves() {
+    diff <(sed -n '/^commit /,/^$/p' $(find . -name PROVED.txt) | sed -E '/^sources: /s/[0-9]+/N/g') - <<END
+commit $COMMIT
+registry $(sed -n '1s/File-Date: //p' "$root/data/registry/language-subtag-registry")
+cldr $(sed -n 's/^CLDR_VERSION = //p' "$here/postgresql/cldr_version.mk")
+$1
+sources: N functions in N crates
+${2:+target $2
+$(sha256sum <"$3" | cut -c1-64)  liblangtag_c.a
+}
+END
+}
+# has_page PACKAGE: the opened package has the page of its language as README. So does the metadata of a wheel, which Python reads.
+has_page() {
+    local page
+    case $1 in
+        *.whl | *.dev0*.tar.gz) page=python ;;
+        *-x86_64-elf.tar.gz | *.zip) page=c ;;
+        *postgresql-*.tar.gz) page=postgresql ;;
+        *.tgz) page=js ;;
+        *) return 0 ;;
+    esac
+    python3 "$work/bindings/labels.py" readme $page | tee "$work/readme.md" | cmp - */README.md || return 1
+    [[ $1 != *.whl ]] || { sed -n '/^# /,$p' */METADATA | cmp - "$work/readme.md" && grep '^Project-URL: ' */METADATA; }
+}
+# What each package says: its labels say the same of its archive, and so do its name and PROVED.txt. It has a README. A tarball for C unpacks to a
+# folder of its own name, so that those of both processors can be unpacked in one folder. The crate has no archive, and one name.
+packages_say() {
+    local package of said prover
     for package in "$work"/dist/*; do
-        of=$archive
-        case $package in *aarch64*) of=$aarch64_archive ;; *.tgz | *.html) of=$wasm_archive ;; esac
-        if python3 "$here/targets.py" proved "$of" >/dev/null 2>&1; then said=proved; else said="not proved"; fi
-        labels_of "$package" | sort -u | diff <(echo "$said") - || { echo "$package" && return 1; }
-        [[ $package == *.crate ]] || named "$package" | grep -x "$said" || { echo "$package" && return 1; }
+        echo "$package" && opened "$package" && has_page "$package" || return 1
+        of=(x86_64-unknown-linux-gnu "$archive")
+        case $package in
+            *aarch64*) of=(aarch64-unknown-linux-gnu "$aarch64_archive") ;;
+            *.tgz | *.html) of=(wasm64-unknown-unknown "$wasm_archive") ;;
+        esac
+        said="not proved" prover=$(python3 "$here/targets.py" proved "${of[1]}" 2>/dev/null) && said=proved prover="proved by $prover"
+        labels . | sort -u | diff <(echo "$said") - || return 1
+        case $package in
+            *.crate) proves "${prover:-$said}" && ! find . -type f | grep -E '\.(a|so)$|build\.rs' || return 1 ;;
+            *.html) named "$package" | grep -x "$said" || return 1 ;;
+            *) named "$package" | grep -x "$said" && proves "${prover:-$said}" "${of[@]}" || return 1 ;;
+        esac
+        [[ $package != *-elf.tar.gz ]] || [ "$(ls)" = "$(basename "$package" .tar.gz)" ] || return 1
     done
+    python3 "$work/bindings/labels.py" readme python >"$work/readme.md" && cd "$work/bindings/python" && python3 -m doctest "$work/readme.md"
 }
-check "release: each label in each package says what the record of its archive shows" labelled
+check "release: each package has a README, and says what the record of its archive shows" packages_say
 
 # forged ARCHIVE: writes a record for an archive, as if it had been proved from the sources of the copy.
 forged() {
@@ -83,8 +106,17 @@ only_as_proved() {
     rm "$work/crates/langtag_c/src/during.rt" && ! python3 targets.py proved "$work/crates/langtag_c/out/liblangtag_c.a" || return 1
     EDIT=true PATH=$work/rt:$PATH python3 targets.py archive x86_64-unknown-linux-gnu && python3 targets.py proved "$work/crates/langtag_c/out/liblangtag_c.a"
 }
-# What is made from another archive than the proved one does not count as proved: by make after a proved one, by pip from an sdist, and by a
-# module that was not linked from the archive.
+# extensions_say LABEL FOLDER VARIABLE=VALUE..: what make builds in the folders of SQLite and PostgreSQL has this label.
+extensions_say() {
+    local said=$1 folder=$2
+    shift 2
+    if has sqlite3 && has_header sqlite3ext.h; then
+        make -s -B -C "$folder/sqlite" "$@" && sqlite3 :memory: ".load $folder/sqlite/sqlite_langtag" "SELECT langtag_proved()" | grep -x "$said" || return 1
+    fi
+    ! has pg_config || [ ! -f "$(pg_config --pgxs)" ] || { make -s -C "$folder/postgresql" build/langtag.h "$@" && grep -x "#define LANGTAG_PROVED $said" "$folder/postgresql/build/langtag.h"; }
+}
+# What is made from another archive than the proved one does not count as proved: by make after a proved one, beside the header of a proved
+# one, and in an unpacked tarball; by pip from an sdist; and by a module that was not linked from the archive.
 only_what_is_proved() {
     local built=$work/crates/langtag_c/out/liblangtag_c.a said
     unset LANGTAG_ARCHIVE
@@ -93,59 +125,37 @@ only_what_is_proved() {
     for said in "1" "0 ARCHIVE=$work/other.a" "1 ARCHIVE=$built" "1"; do
         make -s -C c install BUILD="$work/labelled" PREFIX="$work/labelled" ${said:1} && grep -x "#define LANGTAG_PROVED ${said%% *}" "$work/labelled/include/langtag.h" || return 1
     done
-    for said in "1" "0 LANGTAG_ARCHIVE=$work/other.a" "1 LANGTAG_ARCHIVE=$built"; do
-        has sqlite3 && has_header sqlite3ext.h || break
-        make -s -B -C sqlite ${said:1} && sqlite3 :memory: ".load sqlite/sqlite_langtag" "SELECT langtag_proved()" | grep -x "${said%% *}" || return 1
+    for said in "1" "0 LANGTAG_ARCHIVE=$work/other.a LANGTAG_INCLUDE=$work/labelled/include" "1 LANGTAG_ARCHIVE=$built"; do
+        extensions_say "${said%% *}" "$work/bindings" ${said:1} || return 1
     done
+    mkdir -p "$work/tarball/lib" && cp -r sqlite postgresql "$work/labelled/include" "$work/tarball" && python3 labels.py proved "$built" >"$work/tarball/PROVED.txt" || return 1
+    cp "$built" "$work/tarball/lib/liblangtag_verified.a" && ln -s ../PROVED.txt ../include ../lib "$work/tarball/postgresql" && extensions_say 1 "$work/tarball" || return 1
+    cp "$work/other.a" "$work/tarball/lib/liblangtag_verified.a" && extensions_say 0 "$work/tarball" || return 1
     mkdir "$work/of-sdist" && (cd python && LANGTAG_ARCHIVE=$built python3 -c 'import backend, sys; backend.build_sdist(sys.argv[1])' "$work/of-sdist") || return 1
     cd "$work/of-sdist" && tar -xzf langtag_verified-*.tar.gz && cd langtag_verified-*/ && wheel_says proved || return 1
     cp "$work/other.a" liblangtag_c.a && wheel_says "not proved" && LANGTAG_ARCHIVE=$built wheel_says proved && cd "$work/bindings" || return 1
-    # Any file serves as a module, since `wasm-opt` here is a script that copies it.
-    mkdir "$work/lowered" && printf '%s\n' '#!/bin/sh' 'cp "$3" "$5"' >"$work/lowered/wasm-opt" && chmod +x "$work/lowered/wasm-opt" && cp -r js "$work/js-labelled" || return 1
+    # Any file serves as a module, since `wasm-opt` here is a script that copies it. The folder js gets such modules, and then is as before.
+    cp -r js "$work/js-kept" && mkdir "$work/lowered" && printf '%s\n' '#!/bin/sh' 'cp "$3" "$5"' >"$work/lowered/wasm-opt" && chmod +x "$work/lowered/wasm-opt" && cp -r js "$work/js-labelled" || return 1
     module_says "not proved" && cat <(module_sum) "$built.proved" >"$work/other.a.proved" && module_says proved && cp "$work/other.a.proved" "$work/right" || return 1
     sed '/^module/s/ / 0/' "$work/right" >"$work/other.a.proved" && module_says "not proved" || return 1
-    sed '/^archive/s/ / 0/' "$work/right" >"$work/other.a.proved" && module_says "not proved"
+    sed '/^archive/s/ / 0/' "$work/right" >"$work/other.a.proved" && module_says "not proved" && rm -r js && mv "$work/js-kept" js
 }
-# module_says LABEL: the package that js/build makes of the proved archive and of another module has this label.
+# module_says LABEL: the package that js/build makes of the proved archive and of another module has this label. package.json of a clone stays.
 module_says() {
-    PATH=$work/lowered:$PATH LANGTAG_WASM_MODULE=$work/other.a js/build "$work/crates/langtag_c/out/liblangtag_c.a" "$work/js-labelled" && tar -C "$work" -czf "$work/js.tgz" js-labelled/{module.js,package.json,PROVED.txt} &&
-        [ "$(labels_of "$work/js.tgz" | uniq -c)" = "$(printf '%7d %s' 3 "$1")" ] && named "$(grep '"version"' "$work/js-labelled/package.json")" | grep -x "$1"
+    local build=(env "PATH=$work/lowered:$PATH" "LANGTAG_WASM_MODULE=$work/other.a" js/build "$work/crates/langtag_c/out/liblangtag_c.a") made=$work/js-labelled
+    "${build[@]}" && cmp js/package.json "$here/js/package.json" && labels js/module.js | grep -x "$1" && "${build[@]}" "$made" || return 1
+    [ "$(labels "$made"/{module.js,package.json,PROVED.txt} | uniq -c)" = "$(printf '%7d %s' 3 "$1")" ] && named "$(grep '"version"' "$made/package.json")" | grep -x "$1"
 }
 module_sum() { echo "module $(sha256sum <"$work/other.a" | cut -c1-64)"; }
 # wheel_says LABEL: the wheel that the sdist in this folder makes has this label, a version that goes with it, and the sum of its archive.
 wheel_says() {
-    rm -rf wheels && mkdir wheels && python3 -c 'import backend; backend.build_wheel("wheels")' && [ "$(labels_of wheels/*.whl | sort -u)" = "$1" ] || return 1
-    named "$(ls wheels)" | grep -x "$1" && python3 -m zipfile -e wheels/*.whl wheels || return 1
-    grep "^$(sha256sum <"${LANGTAG_ARCHIVE:-liblangtag_c.a}" | cut -c1-64)  liblangtag_c.a" wheels/*/PROVED.txt
+    rm -rf wheels && mkdir wheels && python3 -c 'import backend; backend.build_wheel("wheels")' && named "$(ls wheels)" | grep -x "$1" || return 1
+    (opened "$PWD"/wheels/*x86_64.whl && [ "$(labels . | sort -u)" = "$1" ]) &&
+        grep "^$(sha256sum <"${LANGTAG_ARCHIVE:-liblangtag_c.a}" | cut -c1-64)  liblangtag_c.a" "$work"/opened/*/PROVED.txt
 }
 check "release: only the record of these sources shows that an archive is proved" only_by_record
 check "release: a source that changes during its proof leaves no record" only_as_proved
 check "release: what is made from another archive is not labelled as proved" only_what_is_proved
-
-# The name has the processor, so that the tarballs for both processors can be unpacked in one folder.
-own_folders() {
-    local file
-    for file in "$work"/dist/*-elf.tar.gz; do
-        [ "$(tar -tzf "$file" | cut -d/ -f1 | sort -u)" = "$(basename "$file" .tar.gz)" ] || return 1
-    done
-}
-check "release: each tarball for C unpacks to a folder of its own name" own_folders
-
-# Each package has to have the README of its language. So does the metadata of the wheel, which Python reads.
-readmes() {
-    local pair
-    for pair in c:liblangtag-verified-*-x86_64-elf.tar.gz python:langtag_verified-*.tar.gz \
-        postgresql:langtag-postgresql-*.tar.gz js:langtag-verified-*.tgz; do
-        python3 readmes.py ${pair%%:*} >"$work/readme.md" || return 1
-        (cd "$work/dist" && if ls ${pair#*:}; then tar -xzOf ${pair#*:} --wildcards --no-wildcards-match-slash '*/README.md' | cmp - "$work/readme.md"; fi) || return 1
-    done
-    python3 readmes.py python >"$work/readme.md" && (cd python && python3 -m doctest "$work/readme.md") || return 1
-    for wheel in "$work"/dist/*.whl; do
-        rm -rf "$work/wheel" && python3 -m zipfile -e "$wheel" "$work/wheel" || return 1
-        sed -n '/^# /,$p' "$work"/wheel/*/METADATA | cmp - "$work/readme.md" && grep '^Project-URL: ' "$work"/wheel/*/METADATA || return 1
-    done
-}
-check "release: each package has a README" readmes
 
 # Checks what only the tarball has: the archive under the name in the page, and the examples.
 by_itself() {
@@ -261,6 +271,5 @@ npm_in_page() { cd js && PACKAGE=$work/npm PAGE=$(echo "$work"/dist/langtag-*.ht
 lacks "release: the package for npm" 'ls "$work"/dist/*.tgz >/dev/null 2>&1' "it was not made" 'has npm' "there is no npm" && return 0
 check "release: the package for npm in Node" npm_package
 check "release: npm packs the same files" npm_pack
-check "release: its archive" proves 'langtag-verified-*.tgz' "$wasm_archive" wasm64-unknown-unknown
 needs 'has esbuild' "there is no esbuild" "release: the package for npm in a bundle" npm_bundled
 if [ -n "${CHROMIUM:-}" ]; then check "release: the package for npm in a page, and the page" npm_in_page; fi

@@ -23,8 +23,11 @@ with_extlangs() {
 check "Rust: answers about extended languages, by a plain reading of the registry" with_extlangs
 check "Rust: C's 300,000 answers to random calls and to those of the oracles" \
     env LANGTAG_ANSWERS="$work/answers_for_rust" bash -c 'cd "$rust_crate" && cargo test -q --features oxilangtag --test rows as_c_answers -- --nocapture'
+# Calls that allocate may refuse by their contracts. These rows show that none does, for strings and lists of each length.
+check "Rust: the calls of C's rows of each length to 4,200 bytes, and to 2 MB" bash -c 'python3 c/sweep/sweep.py >"$work/sweep" &&
+    cd "$rust_crate" && CARGO_PROFILE_TEST_OPT_LEVEL=1 LANGTAG_ANSWERS="$work/sweep" cargo test -q --features oxilangtag --test rows as_c_answers'
 check "Rust: names of languages" bash -c 'cd "$rust_crate" && cargo test -q --features names,oxilangtag --test rows display_names && cargo test -q --features names,oxilangtag --doc names'
-check "Rust: the names of oxilangtag" bash -c 'cd "$rust_crate" && cargo test -q --features oxilangtag --doc oxilangtag && cargo test -q --features oxilangtag --test oxilangtag'
+check "Rust: the names of oxilangtag" bash -c 'cd "$rust_crate" && cargo test -q --features oxilangtag --doc oxilangtag && cargo test -q --features oxilangtag --test all oxilangtag::'
 
 # The same program with the crate for which it was written. Only the line with `use` differs.
 literals_elsewhere() {
@@ -51,7 +54,7 @@ with_serde() {
     sed 's/^#: \?//' "$rust_crate/Cargo.toml" >"$folder/Cargo.toml" || return 1
     mkdir "$folder/.cargo" && printf '%s\n' '[source.crates-io]' 'replace-with = "folder"' '[source.folder]' "directory = \"$registry\"" >"$folder/.cargo/config.toml"
     export RUSTFLAGS=-Dwarnings
-    cd "$folder" && cargo test -q --features serde,oxilangtag --test serde || return 1
+    cd "$folder" && cargo test -q --features serde,oxilangtag --test all serde:: || return 1
     cargo run -q --features serde,oxilangtag --example articles | diff - <(printf '%s\n' 'fr Vélo' 'zh-Hant 單車' \
         'invalid language tag `de_CH`: invalid character `_`: expected a letter, a digit or a hyphen at line 1 column 19')
 }
@@ -65,10 +68,3 @@ program() {
     cargo run -q zh-Hant-TW | diff - <(wanted)
 }
 check "Rust: a program of a user" program
-
-# The program `langtag`, and `python -m langtag`.
-programs() {
-    (cd "$rust_crate" && cargo build -q --features oxilangtag --bin langtag) || return 1
-    cd python && LANGTAG_PROGRAM=$CARGO_TARGET_DIR/debug/langtag python3 -m unittest test_program
-}
-check "Rust: the program langtag, and python -m langtag, answer alike" programs

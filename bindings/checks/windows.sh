@@ -6,7 +6,7 @@ lacks "Windows: everything" 'has $mingw-gcc' \
 
 # ld would put the addresses of a table that a DLL does not have into the code.
 windows_refused() {
-    "$root/rust/c/archive" "$work/by_cargo.a" || return 1
+    "$here/archive" --cargo "$work/by_cargo.a" || return 1
     ! windows/build "$work/by_cargo.a" "$work/refused" 2>"$work/refused.why" && grep 'R_X86_64_GOTPCREL' "$work/refused.why"
 }
 if has cargo; then check "Windows: an archive that a DLL cannot have is refused" windows_refused; fi

@@ -16,7 +16,7 @@ def best_language(get_response):
     site = Site([code for code, _ in settings.LANGUAGES])
 
     def middleware(request):
-        best = site.best_for_header(request.META.get("HTTP_ACCEPT_LANGUAGE"), settings.LANGUAGE_CODE)
+        best = site.best_for_header(request.META.get("HTTP_ACCEPT_LANGUAGE", "")[:1000], settings.LANGUAGE_CODE)
         request.META["HTTP_ACCEPT_LANGUAGE"] = best
         return get_response(request)
 

@@ -2,7 +2,7 @@
 
     curl 'localhost:5000/?lang=sr'; curl -H 'Accept-Language: ger-CH, fr;q=0.5' localhost:5000
 
-The language is the reader's choice (?lang=, kept in a cookie), or else the best language for the browser's header.
+The language is the user's choice (?lang=, kept in a cookie), or else the best language for the browser's header.
 """
 from __future__ import annotations
 
@@ -17,7 +17,7 @@ app = Flask(__name__)
 
 
 def picked() -> str | None:
-    """Returns the language that the reader picked. A language that is only near the picked one does not count: ?lang=tlh is not
+    """Returns the language that the user picked. A language that is only near the picked one does not count: ?lang=tlh is not
     English."""
     for text in (request.args.get("lang"), request.cookies.get("lang")):
         match = SITE.match_for_header(text)
@@ -38,7 +38,7 @@ def menu(page: str) -> str:
 
 @app.get("/")
 def page() -> Response:
-    wish, match = picked(), SITE.match_for_header(request.headers.get("Accept-Language"))
+    wish, match = picked(), SITE.match_for_header(request.headers.get("Accept-Language", "")[:1000])
     tag = wish or (match.tag if match else "en")
     response = make_response(f'<html lang="{tag}" dir="{direction(tag)}"><p>{PAGES[tag]}<p>{menu(tag)}</html>\n')
     response.headers["Content-Language"] = tag

@@ -13,13 +13,18 @@ import langtag
 
 
 def names(tag: langtag.Tag) -> dict[str, None]:
-    """Returns the names that the folder of a tag's messages may have: `sr@latin` and `sr_Latn` for `sr-Latn`."""
-    return dict.fromkeys(filter(None, (tag.to_posix(), str(tag).replace("-", "_"))))
+    """Returns the names that the folder of a tag's messages may have: `sr_Latn` and `sr@latin` for `sr-Latn`."""
+    return dict.fromkeys(filter(None, (str(tag).replace("-", "_"), tag.to_posix())))
 
 
 def translations(domain: str, folder: pathlib.Path, locale: str) -> gettext.NullTranslations:
     """Returns the messages of the locale, which fall back to those of its parents, the nearest first."""
-    files = [folder / name / "LC_MESSAGES" / f"{domain}.mo" for tag in langtag.Tag.from_posix(locale).parents for name in names(tag)]
+    try:
+        tag = langtag.Tag.from_posix(locale)
+    except langtag.InvalidLocale:  # C, POSIX, C.UTF-8: the messages of the program itself
+        return gettext.NullTranslations()
+    chain = dict.fromkeys([*tag.parents, *(tag.locale_form() or tag).parents])  # of iw_IL: iw-IL, iw, he-IL, he
+    files = [folder / name / "LC_MESSAGES" / f"{domain}.mo" for member in chain for name in names(member)]
     found: gettext.NullTranslations | None = None
     for path in filter(pathlib.Path.is_file, files):
         with path.open("rb") as file:

@@ -1,5 +1,5 @@
 /*
- * Answers each request in the language that its reader wants, by the header Accept-Language: negotiate [PORT]
+ * Answers each request in the language that its user wants, by the header Accept-Language: negotiate [PORT]
  *
  *     cc negotiate.c $(pkg-config --cflags --libs langtag_verified) -o negotiate && ./negotiate 8080
  *     curl -H 'Accept-Language: zh-TW,zh;q=0.9,en;q=0.8' localhost:8080
@@ -32,9 +32,9 @@ static void find_tags(langtag_span *spans) {
     }
 }
 
-/* Returns the index of the best tag for the reader, or of the default. */
+/* Returns the index of the best tag for the user, or of the default. */
 static size_t choose(const char *accept, size_t len, const langtag_span *spans) {
-    const size_t best = accept ? langtag_best_for_header(accept, len, tags, strlen(tags), spans, COUNT) : COUNT;
+    const size_t best = accept ? langtag_best_for_header(accept, len < 1000 ? len : 1000, tags, strlen(tags), spans, COUNT) : COUNT;
     return best < COUNT ? best : DEFAULT;
 }
 

@@ -1,4 +1,4 @@
-"""Answers each request in the language that its reader wants, by the header Accept-Language: python3 negotiate.py [PORT]
+"""Answers each request in the language that its user wants, by the header Accept-Language: python3 negotiate.py [PORT]
 
     curl -H 'Accept-Language: zh-TW,zh;q=0.9,en;q=0.8' localhost:8080
 """
@@ -14,7 +14,7 @@ GREETINGS = {"en": "Hello", "de": "Guten Tag", "de-CH": "Grüezi", "fr": "Bonjou
 
 class Handler(http.server.BaseHTTPRequestHandler):
     def do_GET(self) -> None:
-        tag = best_for_header(self.headers.get("Accept-Language"), GREETINGS, "en")
+        tag = best_for_header(self.headers.get("Accept-Language", "")[:1000], GREETINGS, "en")
         body = GREETINGS[tag].encode() + b"\n"
         self.send_response(200)
         self.send_header("Content-Type", "text/plain; charset=utf-8")

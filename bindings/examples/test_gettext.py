@@ -7,16 +7,17 @@ import unittest
 import gettext_catalogue
 
 FOLDERS = {
-    "few": "zh zh_Hant sr sr@latin pt pt_PT en",
+    "few": "zh zh_Hans zh_Hant sr sr@latin pt pt_PT en he id fil",
     "many": "en de de_AT pt pt_BR zh_CN zh_TW zh_HK sr sr@latin ca ca@valencia es es_MX nb fr uz@cyrillic",
 }
 
 # A folder, a locale, and the folder of its messages.
 FOUND = [
     ("few", "zh_TW.UTF-8", "zh_Hant"), ("few", "sr_ME.UTF-8", "sr@latin"), ("few", "pt_AO.UTF-8", "pt_PT"), ("few", "zh-Hant_TW", "zh_Hant"),
-    ("few", "pt-Latn_AO", "pt_PT"), ("many", "ca_ES.UTF-8@valencia", "ca@valencia"),
+    ("few", "zh-Hans_CN", "zh_Hans"), ("few", "zh_CN", "zh"), ("few", "pt-Latn_AO", "pt_PT"), ("many", "ca_ES.UTF-8@valencia", "ca@valencia"),
     ("many", "zh-Hant_HK", "zh_HK"), ("many", "zh-Hans_CN", "zh_CN"), ("many", "zh_TW_#Hant", "zh_TW"), ("many", "zh_MO.UTF-8", "zh_HK"),
     ("many", "sr_RS@latin", "sr@latin"), ("many", "sr_ME", "sr@latin"), ("many", "fi_FI", "who"),
+    ("few", "iw_IL", "he"), ("few", "in_ID.UTF-8", "id"), ("few", "tl_PH", "fil"), ("few", "C.UTF-8", "who"), ("few", "POSIX", "who"), ("few", "", "who"),
 ]
 
 

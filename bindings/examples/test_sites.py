@@ -1,13 +1,17 @@
-"""Tests the examples in which a user picks a language. PROGRAM names the program built from player.cc.
+"""Tests the examples of sites and players. PROGRAM names the program built from player.cc.
 Without Flask or Django, its test is left out, and the output says so. The middleware for Django is also called with its settings and with a
 request that has only headers, so that much is tested without Django."""
 import importlib
 import os
+import re
 import subprocess
 import sys
 import types
 import unittest
 from unittest import mock
+
+import film
+import hreflang
 
 try:
     import flask_site
@@ -25,6 +29,13 @@ TRACKS = [
     ("tlh", "jpn,eng", "eng", "audio 0 (jpn), subtitles 0 (eng)"), ("fi", "jpn", "eng", "audio 0 (jpn)"), ("", "ger", "", "audio 0 (ger)"),
 ]
 
+# The header, the user's own languages, and the languages of the page, the audio and the subtitles.
+FILMS = [
+    ("zh-TW,zh;q=0.9,en;q=0.8", "", ("zh-Hant", "eng", "zh-Hant")), ("en-GB,en;q=0.9", "nap it", ("it", "eng", "it")), ("nap", "", ("en", "jpn", None)),
+    ("gsw,it;q=0.5", "", ("it", "ger", "it")), ("de_CH", "", ("en", "ger", "de")), ("de,en;q=0", "", ("en", "ger", "de")), ("", "", ("en", "jpn", None)),
+    ("en-GB," + "x" * 1000 + ",de", "", ("en", "eng", "en")),
+]
+
 # The language in the URL, the cookie, the header, the language of the page, and whether a cookie keeps it.
 PAGES = [
     (None, None, None, "en", False), (None, None, "ger-CH, fr;q=0.5", "de", False), ("sr", None, "de", "sr-Latn", True), ("tlh", None, "de", "de", False),
@@ -39,13 +50,25 @@ class Sites(unittest.TestCase):
             self.assertEqual(run.stdout, picked + "\n")
         self.assertEqual(subprocess.run([os.environ["PROGRAM"]], capture_output=True).returncode, 2)
 
+    def test_film(self):
+        for header, languages, wanted in FILMS:
+            self.assertEqual(film.chosen(header, languages.split()), wanted, header)
+
+    def test_hreflang(self):
+        wanted = {"en": "en", "he": "iw", "zh-Hant": "zh-hant", "x-default": None}
+        links = [f'<link rel="alternate" hreflang="{tag}" href="https://example.org{f"/{own}" if own else ""}/help?a&amp;b">' for tag, own in wanted.items()]
+        self.assertEqual(hreflang.links("https://example.org/{}/help?a&b", ["en", "iw", "zh-hant"]), links)
+        for wrong, why in [("en-UK", "en-UK: region UK is not registered: did you mean GB?"), ("de_CH", "invalid character `_`")]:
+            with self.assertRaisesRegex(ValueError, re.escape(why)):
+                hreflang.links("https://example.org/{}", [wrong])
+
     @unittest.skipUnless(flask_site, "Flask is not there")
     def test_flask(self):
         for wish, cookie, header, tag, is_kept in PAGES:
-            client = flask_site.app.test_client()
-            if cookie is not None:
-                client.set_cookie("lang", cookie)
-            got = client.get("/", query_string={} if wish is None else {"lang": wish}, headers={} if header is None else {"Accept-Language": header})
+            client = flask_site.app.test_client(use_cookies=False)  # `set_cookie` takes other arguments in Werkzeug 2.3 than before
+            headers = {"Accept-Language": header, "Cookie": cookie and f"lang={cookie}"}
+            headers = {name: value for name, value in headers.items() if value is not None}
+            got = client.get("/", query_string={} if wish is None else {"lang": wish}, headers=headers)
             self.assertEqual((got.headers["Content-Language"], got.headers.get("Set-Cookie")), (tag, f"lang={tag}; Path=/" if is_kept else None))
             self.assertIn(f'lang="{tag}" dir="{"rtl" if tag == "ar" else "ltr"}"><p>{flask_site.PAGES[tag]}', got.text)
             self.assertIn(f'<p><a href="?lang={tag}" lang="{tag}"', got.text)  # it comes first in the menu

@@ -15,7 +15,8 @@
  * langtag_next_field read the string from its start in each call. So a walk reads it once for each different key, of
  * which there are at most 1,296.
  *
- * Only langtag_validity, langtag_canonical, langtag_is_canonical and langtag_locale_form use the IANA registry.
+ * langtag_validity, langtag_canonical, langtag_is_canonical and langtag_locale_form use the IANA registry. Other functions use at most its
+ * extended languages.
  *
  * WHAT THE CALLER MUST ENSURE. Nothing checks these rules at run time.
  *
@@ -546,13 +547,16 @@ size_t langtag_parent(const char *bytes, size_t len, char *buffer, size_t buffer
  *     char tag[64];
  *     size_t len;
  *     for (uint32_t at = 0; (len = langtag_nth_parent("pt-Latn-AO", 10, at, tag, sizeof tag)) > 0 && len <= sizeof tag; at++)
- *         printf("%.*s ", (int)len, tag); // pt-Latn-AO pt-AO pt-PT pt
+ *         printf("%.*s ", (int)len, tag); // pt-Latn-AO pt-AO pt-PT pt-Latn pt
  *
- * All tags of a chain are written in the same script, so zh-Hant has no parent: zh is Simplified. A script that is
- * likely anyway goes first. Extensions and private use are removed next, then each variant, the last one first, and
- * then the region. The variants come back with each parent: ca-ES-valencia, ca-ES, ca-valencia, ca. A script is only
- * removed if it is the likely script of the language. The tag should be in its canonical form, as CLDR does not list
- * deprecated or extended languages. Case is ignored.
+ * All tags of a chain are written in the same script if CLDR lists the language, so zh-Hant has no parent: zh is
+ * Simplified. A script that is likely anyway goes first, and comes back before the language alone: zh-Hans-CN, zh-CN,
+ * zh-Hans, zh. Extensions and private use are removed next, then each variant, the last one first, and then the
+ * region. The variants come back with each parent: ca-ES-valencia, ca-ES, ca-valencia, ca. Case is ignored.
+ *
+ * If the folders of a catalogue name scripts, such as zh-Hans, call this function with the result of
+ * langtag_maximized, which names the script of zh-CN. CLDR does not list replaced codes such as iw and cmn, nor
+ * extended languages: replace them first by langtag_locale_form.
  *
  * Returns 0 and writes nothing if the chain has no more tags, or if the string is not a tag.
  */
@@ -567,13 +571,15 @@ LANGTAG_PURE bool langtag_is_right_to_left(const char *bytes, size_t len);
 #define LANGTAG_NO_DISTANCE UINT32_MAX
 
 /*
- * Returns the distance from the tag that a reader desires to a supported tag (UTS #35, part 1, Language Matching): 0
+ * Returns the distance from the tag that a user desires to a supported tag (UTS #35, part 1, Language Matching): 0
  * from zh-TW to zh-Hant, 4 from de-AT to de, 10 from yue to zh-HK, 84 from de to en, and at most 134.
  *
- * Up to 15 the languages are nearly the same. Below 50 most readers of the desired language understand the supported
- * one. Languages and regions that CLDR replaces count as their replacements: iw counts as he, and ger and deu count as
- * de. Everything after the region is ignored, such as variants, extensions and private use: en-GB-oed counts as en-GB.
- * The distance is 255 if the tags differ and either of them is only und, is a private-use tag, or begins with i-.
+ * From 0 to 15 the user reads both: they are the same language, perhaps in another region or script, or nearly the
+ * same. Below 50 most users of the desired language understand the supported one. Languages and regions that CLDR
+ * replaces count as their replacements: iw counts as he, and ger and deu count as de. Everything after the region is
+ * ignored, such as variants, extensions and private use: en-GB-oed counts as en-GB. A tag that the registry replaces as
+ * a whole counts as its replacement: i-klingon counts as tlh, and zh-hakka as hak. The distance is 255 if the tags
+ * differ and either of them is only und, is a private-use tag, or is i-default, i-enochian or i-mingo.
  *
  * Returns LANGTAG_NO_DISTANCE if one of the strings is not a tag.
  */
@@ -719,17 +725,19 @@ size_t langtag_site_match_for_header(const char *header, size_t header_len, cons
  * as Java prints it, becomes zh-Hant-TW. As with langtag_canonical, nothing is written if the buffer is too short.
  * Names as Android and .NET write them are read, too: zh-rTW becomes zh-TW, b+sr+Latn becomes sr-Latn, zh-CHT becomes
  * zh-Hant, and sr-SP-Latn becomes sr-Latn-RS. An empty language or region is read as in Java and ICU: _US becomes und-US.
+ * Java's no_NO_NY becomes nn-NO.
  *
- * The codeset is dropped. The modifiers latin, cyrillic, devanagari, iqtelif, valencia, tarask, ijekavian,
+ * The codeset is dropped. The modifiers latin, cyrillic, devanagari, iqtelif, valencia, tarask, polyton, ijekavian,
  * ijekavianlatin and the codes of scripts are used, ignoring case. Extensions come from Java's names and from the keywords
  * of ICU and Apple: de_DE_#u-co-phonebk and de_DE@collation=phonebook become de-DE-u-co-phonebk. Other modifiers are
  * dropped, and so are keywords if one of them cannot be read. If the only variant is
  * POSIX, ignoring case, and there are no extensions, it becomes the keyword va-posix: en_US_POSIX becomes
  * en-US-u-va-posix.
  *
- * Returns 0 and writes nothing if language and territory do not form a tag (C), are POSIX, or have more than 255
- * bytes, or 260 with extensions. Also if what follows # is no script and no extension, or if extensions would come after an
- * extension or private use.
+ * Returns 0 and writes nothing if language and territory do not form a tag (C), or have more than 255 bytes, or 260 with
+ * extensions. Also if the language has more than three letters (POSIX, german, night), or if other qualifiers of an
+ * Android folder come after the region (en-rGB-land). Also if what follows # is no script and no extension, or if
+ * extensions would come after an extension or private use.
  */
 size_t langtag_from_posix(const char *name, size_t name_len, char *buffer, size_t buffer_len);
 
@@ -746,7 +754,7 @@ size_t langtag_from_posix(const char *name, size_t name_len, char *buffer, size_
  *
  * A script is left out if it is the likely script of the language, both alone and with its region: en_US for
  * en-Latn-US. A script without a modifier is also left out if it is likely with the region. The modifiers are latin,
- * cyrillic, devanagari, valencia, tarask, ijekavian and ijekavianlatin.
+ * cyrillic, devanagari, valencia, tarask, polyton, ijekavian and ijekavianlatin.
  *
  * Returns 0 and writes nothing if no name expresses the whole tag: another script or variant, an extended language,
  * another extension, private use, or a language of more than three letters. Also for und, and if the string is not a
@@ -845,8 +853,8 @@ enum langtag_accepted_answer {
  *             printf("%.*s %u ", (int)range.len, header + range.start, (unsigned)weight); // fr 300 de 900
  *
  * `range` (out) is where the range is, and `weight` (out) its weight in thousandths: 1000 if none is given, and 0 for
- * "not acceptable". For a malformed element, `range` is everything between the commas, and `weight` is 0. The next
- * call continues after that element. So the loop above skips malformed elements. A strict program stops at a malformed
+ * "not acceptable". For a malformed element, `range` is everything between the commas without the spaces and tabs
+ * around it, and `weight` is 0. The next call continues after that element. So the loop above skips malformed elements. A strict program stops at a malformed
  * element, and refuses the header.
  *
  * The elements are returned in the order of the header. A lookup tries the greatest weight first, and ranges of equal
@@ -865,7 +873,7 @@ uint32_t langtag_next_accepted(const char *bytes, size_t len, langtag_span *rest
  * - LANGTAG_ACCEPTED_END: no element is malformed. `index` (out) is what langtag_tag_for_header_lenient returns, and
  *   `bad` (out) is empty, at the end of the header.
  * - Otherwise: the answer says what is wrong with the first malformed element. `index` is `tags_len`, and `bad` is the
- *   string of that element between its commas.
+ *   string of that element, without the spaces and tabs around it.
  */
 uint32_t langtag_tag_for_header(const char *header, size_t header_len, const char *bytes, size_t len,
                                 const langtag_span *tags, size_t tags_len, size_t *index, langtag_span *bad);

@@ -258,7 +258,8 @@ public:
     std::optional<std::string> to_posix() const { return unless_empty(written(langtag_to_posix)); }
 
     /* Returns the parent of the tag in CLDR, which a catalogue of strings asks next: pt-PT for pt-AO, zh-Hant for zh-TW. Returns
-     * std::nullopt if there is none, such as for pt. A parent is written in the same script, so zh-Hant has none. */
+     * std::nullopt if there is none, such as for pt. If CLDR lists the language, the parent is written in the same script, so zh-Hant
+     * has none. */
     std::optional<std::string> parent() const { return unless_empty(written(langtag_parent)); }
 
     /* Returns the tag and its parents, in the order in which to search a catalogue: pt-AO, pt-PT and pt for pt-AO. The comment of
@@ -870,7 +871,7 @@ public:
     }
     template <class Ranges = texts> std::optional<tag> best_for_ranges(const Ranges &) const && = delete;
 
-    /* Return all suitable tags, best first, as the functions with these names do. */
+    /* Return all suitable tags, best first, as the functions with these names do, and in the same time. */
     std::vector<tag> suitable_for_header(std::string_view header, std::size_t most = all_suitable) const & {
         return listed_tags(texts_of()).suitable(header, most);
     }
@@ -902,7 +903,7 @@ struct weighted_range {
 /* The part of an element of a header that is malformed. If range and weight are both malformed, it is the range. */
 enum class element_part : std::uint32_t { range = LANGTAG_ACCEPTED_BAD_RANGE, weight = LANGTAG_ACCEPTED_BAD_WEIGHT };
 
-/* A malformed element of a header: the number of commas before it, the offset after the last of them, and the malformed part. */
+/* A malformed element of a header: the number of commas before it, the offset of its first byte, and the malformed part. */
 struct bad_element {
     element_part part;
     std::size_t index, offset;
@@ -962,7 +963,8 @@ private:
 };
 
 /* Returns the distance from the desired tag to a supported tag (UTS #35, Language Matching): 0 from zh-TW to zh-Hant,
- * and at most 134. It is 255 if the tags differ and one of them has no known language. */
+ * and at most 134. It is 255 if the tags differ and one of them is und, a private-use tag, i-default, i-enochian or
+ * i-mingo. */
 inline std::uint32_t distance(const tag &desired, const tag &supported) noexcept {
     const std::string_view a = desired.text(), b = supported.text();
     return langtag_distance(a.data(), a.size(), b.data(), b.size());

@@ -1,6 +1,6 @@
 /*
- * Names of tags from Unicode's CLDR, for the wrappers of the C library: langtag_names.hpp, PostgreSQL and SQLite. The functions do not
- * allocate. They are not proved: tests compare them with the other languages.
+ * Names of tags from Unicode's CLDR and IANA's registry, for the wrappers of the C library: langtag_names.hpp, PostgreSQL and SQLite. The
+ * functions do not allocate. They are not proved: tests compare them with the other languages.
  *
  * Each function takes the form of a tag that langtag_name_form writes, in the recommended case, so call langtag_recommend next.
  */
@@ -29,18 +29,20 @@ static inline void langtag_name_put(langtag_name *to, const char *bytes, size_t 
         if (to->len < to->room) to->buffer[to->len] = bytes[k];
 }
 
-/* Returns the name in the row of a subtag or tag, or NULL if there is no row. The rows are in the order of their keys. */
-static inline const char *langtag_name_in(const char *const *rows, size_t count, const char *key, size_t len) {
-    while (count > 0) {
-        const char *row = rows[count / 2];
-        const int order = strncmp(row, key, len);
-        if (order == 0 && row[len] == ' ') return row + len + 1;
-        if (order < 0) rows += count / 2 + 1, count -= count / 2 + 1;
+/* Returns the name of a key, or NULL if no row has the key. The rows are in order, a NUL ends each, and NULs fill each page. */
+static inline const char *langtag_name_in(const char (*pages)[LANGTAG_NAMES_PAGE], size_t count, const char *key, size_t len) {
+    while (count > 1) {
+        const char *first = pages[count / 2];
+        const int order = strncmp(first, key, len);
+        if (order < 0 || (order == 0 && first[len] == ' ')) pages += count / 2, count -= count / 2;
         else count /= 2;
     }
+    for (const char *row = *pages; row < *pages + LANGTAG_NAMES_PAGE && *row != '\0'; row += strlen(row) + 1)
+        if (strncmp(row, key, len) == 0 && row[len] == ' ') return row + len + 1;
     return NULL;
 }
 
+/* Returns the English name of a language, or of another subtag with the hyphen before it. */
 static inline const char *langtag_english_name(const char *key, size_t len) {
     return langtag_name_in(langtag_english_names, sizeof langtag_english_names / sizeof *langtag_english_names, key, len);
 }
@@ -56,49 +58,21 @@ static inline void langtag_name_detail(langtag_name *to, bool *is_first, const c
     for (size_t k = 0; k < len; k++) langtag_name_put(to, bytes[k] == '(' ? "[" : bytes[k] == ')' ? "]" : bytes + k, 1);
 }
 
-/* Adds the English name of a subtag, or the subtag if it has no name. */
+/* Adds the English name of a subtag after the language, or the subtag if it has no name. */
 static inline void langtag_name_subtag(langtag_name *to, bool *is_first, const char *bytes, langtag_span subtag) {
-    const char *name = langtag_english_name(bytes + subtag.start, subtag.len);
+    const char *name = subtag.len > 0 ? langtag_english_name(bytes + subtag.start - 1, subtag.len + 1) : NULL;
     if (subtag.len == 0) return;
     langtag_name_detail(to, is_first, name ? name : bytes + subtag.start, name ? strlen(name) : subtag.len);
 }
 
-/* Returns whether a subtag of a string comes before another one in alphabetical order. */
-static inline bool langtag_name_is_before(const char *bytes, langtag_span a, langtag_span b) {
-    const int order = memcmp(bytes + a.start, bytes + b.start, a.len < b.len ? a.len : b.len);
-    return order < 0 || (order == 0 && a.len < b.len);
-}
-
-/* Returns the offset of the first hyphen at or after an offset, or `len` if there is none. */
-static inline size_t langtag_name_hyphen(const char *subtags, size_t at, size_t len) {
-    while (at < len && subtags[at] != '-') at++;
-    return at;
-}
-
-/* Puts subtags with hyphens between them in alphabetical order, by merging two sorted halves. `room` has `len` bytes. */
-static inline void langtag_name_sort(char *subtags, size_t len, char *room) {
-    const size_t middle = langtag_name_hyphen(subtags, len / 2, len), half = middle < len ? middle : langtag_name_hyphen(subtags, 0, len);
-    langtag_span rest[2] = {{0, half}, {half + 1, 0}}, next[2];
-    size_t made = 0;
-    if (half == len) return;
-    rest[1].len = len - half - 1;
-    langtag_name_sort(subtags, half, room);
-    langtag_name_sort(subtags + half + 1, len - half - 1, room);
-    for (int k = 0; k < 2; k++) langtag_next_subtag(subtags, len, &rest[k], &next[k]);
-    while (made < len) {
-        const int k = next[0].len == 0 || (next[1].len > 0 && langtag_name_is_before(subtags, next[1], next[0]));
-        memcpy(room + made, subtags + next[k].start, next[k].len);
-        made += next[k].len;
-        if (made < len) room[made++] = '-';
-        if (!langtag_next_subtag(subtags, len, &rest[k], &next[k])) next[k].len = 0;
-    }
-    memcpy(subtags, room, len);
-}
-
-/* Puts the variants of a tag in alphabetical order, as `describe` shows them. `room` has `len` bytes. */
-static inline void langtag_name_sort_variants(char *form, size_t len, char *room) {
+/* Puts the tag's own language in its form, in uppercase, if it is replaced with a language that CLDR does not name: HIM, not srx. Such
+ * languages have three letters. */
+static inline void langtag_name_keep_language(const char *tag, size_t len, char *form) {
+    char own[3];
     langtag_parts parts;
-    if (langtag_parse(form, len, &parts) != LANGTAG_NONE) langtag_name_sort(form + parts.variants.start, parts.variants.len, room);
+    if (langtag_parse(tag, len, &parts) != LANGTAG_NORMAL || parts.language.len != sizeof own) return;
+    for (size_t k = 0; k < sizeof own; k++) own[k] = tag[k] & 0x5f; /* in uppercase */
+    if (langtag_english_name(own, sizeof own)) memcpy(form, own, sizeof own);
 }
 
 /* Adds each extension as it stands, but only the first with the same singleton. */
@@ -114,7 +88,7 @@ static inline void langtag_name_extensions(langtag_name *to, bool *is_first, con
 /*
  * Writes an English name of a tag, and returns its length: "Portuguese (Brazil)" for pt-BR. As with snprintf, the result may be greater
  * than `buffer_len`. The name is then cut off. A string that is not a tag, a private-use tag and an irregular tag are written as they are.
- * Call langtag_name_sort_variants first.
+ * Call langtag_name_keep_language first.
  */
 static inline size_t langtag_name_describe(const char *form, size_t len, char *buffer, size_t buffer_len) {
     langtag_name to = {buffer, buffer_len, 0};

@@ -1,6 +1,8 @@
 /*
- * Names of tags in English, and of languages in themselves, from Unicode's CLDR. They are in a header of their own, so that a
- * program that does not include it has no tables. They are tested, and not proved.
+ * English names of tags, and each language's own name (Deutsch, português), from Unicode's CLDR and IANA's registry. They are in a header
+ * of their own, so that a program that does not include it has no tables. They are tested, and not proved: a proof could only show that a
+ * table equals its list, not that the names are right. C has no describe, because a locale form may need more room than the tag, and the
+ * library allocates nothing.
  */
 #ifndef LANGTAG_NAMES_HPP
 #define LANGTAG_NAMES_HPP
@@ -11,11 +13,11 @@
 namespace langtag {
 
 /* Returns an English name of a tag, made of CLDR's names for the subtags of its locale form, or of its canonical form if it has none:
- * "Portuguese (Brazil)" for pt-BR. A subtag for which CLDR has no name is shown as it is, and so are extensions and private use. The
- * variants are in alphabetical order. */
+ * "Portuguese (Brazil)" for pt-BR. If CLDR does not name the language, the name is the tag's own language as IANA's registry describes it:
+ * "Himachali languages" for him. A subtag without a name is shown as it is, and so are extensions and private use. */
 inline std::string describe(const tag &tag) {
-    std::string form = recommended(written_by(langtag_name_form, tag.text())), room = form;
-    langtag_name_sort_variants(&form[0], form.size(), &room[0]);
+    std::string form = recommended(written_by(langtag_name_form, tag.text()));
+    langtag_name_keep_language(tag.text().data(), tag.text().size(), &form[0]);
     return written_by(langtag_name_describe, form);
 }
 
@@ -28,6 +30,10 @@ inline std::optional<std::string_view> autonym(const tag &tag) {
     if (name == nullptr) return std::nullopt;
     return name;
 }
+
+/* The same for tags that own their text. The name is in the library's table, so it outlives the tag. */
+inline std::string describe(const owned_tag &tag) { return describe(tag.view()); }
+inline std::optional<std::string_view> autonym(const owned_tag &tag) { return autonym(tag.view()); }
 
 } // namespace langtag
 

@@ -9,8 +9,8 @@
  *     tag.equals("ZH-YUE-hant-hk-U-CO-pinyin-x-MINE");                            // true
  *     bestForHeader("zh-TW,zh;q=0.9,en;q=0.8", ["en", "zh-Hans", "zh-Hant"]);     // "zh-Hant"
  *
- * Offsets and lengths count UTF-16 code units, as in JavaScript's strings. Only `isValid`, `invalidSubtag`, `isCanonical`, `canonical`,
- * `localeForm`, `describe` and `autonym` use the IANA registry. Functions that take a tag or a range also accept a string. An invalid string throws `InvalidTag` or
+ * Offsets and lengths count UTF-16 code units, as in JavaScript's strings. `isValid`, `invalidSubtag`, `isCanonical`, `canonical`,
+ * `localeForm`, `describe` and `autonym` use the IANA registry, and other calls at most its extended languages. Functions that take a tag or a range also accept a string. An invalid string throws `InvalidTag` or
  * `InvalidRange`, and any other value throws a `TypeError`.
  */
 /** A string, or an object with a `text`, such as a tag or a range, also from another copy of this module or from `structuredClone`. */
@@ -112,8 +112,8 @@ export declare class EditError extends RangeError {
     readonly text: string | undefined;
     private constructor();
 }
-/** Thrown if a header has a malformed element. It has the number of commas before the element, where the element begins, and which part
- * is malformed. */
+/** Thrown if a header has a malformed element. It has the number of commas before the element, the offset of its first byte,
+ * and which part is malformed. */
 export declare class AcceptLanguageError extends RangeError {
     readonly header: string;
     readonly index: number;
@@ -225,12 +225,16 @@ export declare class LanguageTag {
     toPosix(): string | undefined;
     /**
      * The parent of the tag in CLDR, which a catalogue of strings asks next, or undefined if there is none: pt-PT for pt-AO, zh-Hant for
-     * zh-TW. A parent is written in the same script, so zh-Hant has none: zh is Simplified.
+     * zh-TW. If CLDR lists the language, the parent is written in the same script, so zh-Hant has none: zh is Simplified.
      */
     get parent(): LanguageTag | undefined;
     /**
-     * The tag and its parents, in the order in which to search a catalogue: pt-Latn-AO, pt-AO, pt-PT and pt. A script that is likely anyway goes
-     * first, then extensions and private use, then the variants one by one, and then the region. The variants come back with each parent.
+     * The tag and its parents, in the order in which to search a catalogue: zh-Hans-CN, zh-CN, zh-Hans and zh. A script that is likely anyway
+     * goes first, and comes back before the language alone. Extensions and private use go next, then the variants one by one, and then the
+     * region. The variants come back with each parent. All tags are written in the same script if CLDR lists the language.
+     *
+     * If a catalogue's folders name scripts, such as zh-Hans, ask for the parents of `maximized()`, which names the script of zh-CN. CLDR does
+     * not list replaced codes such as iw and cmn, nor extended languages: ask for the parents of `localeForm()`.
      */
     get parents(): LanguageTag[];
     /** Whether the tag is a Unicode locale identifier (UTS #35), as Intl requires: false for zh-yue, i-klingon and x-a. */
@@ -321,7 +325,7 @@ export declare function tagForHeaderLenient<Tag extends Text>(header: Header, ta
 export declare function tagForHeaderLenient<Tag extends Text, Otherwise>(header: Header, tags: Iterable<Tag>, otherwise: Otherwise): Tag | Otherwise;
 /**
  * Returns the distance from the desired tag to a supported tag (UTS #35, Language Matching). It is at most
- * 134, or 255 if the tags differ and one of them has no known language, such as und.
+ * 134, or 255 if the tags differ and one of them is und, a private-use tag, i-default, i-enochian or i-mingo.
  *
  *     distance("zh-TW", "zh-Hant"); // 0
  *     distance("de", "en");         // 84
@@ -337,7 +341,10 @@ export declare function distance(desired: Text, supported: Text): number;
 export declare function unknownModifier(name: string): string | undefined;
 /**
  * Returns the best tag for a header by language distance, or the last argument if none is suitable. Malformed elements are read
- * leniently: de_CH is read as de-CH. Time is at most proportional to the length of the header times the length of the tags.
+ * leniently: de_CH is read as de-CH. A tag whose longest matching range has the weight 0 is not chosen, and * chooses nothing. Of several
+ * tags at the same distance, the first is chosen, unless one has more of the range's variants, needs fewer subtags removed, has the most
+ * likely region, or is one of CLDR's paradigm locales, such as es-419. Throws InvalidTag if one of the tags is not a tag: a Site throws it
+ * once, when the program starts. Time is at most proportional to the length of the header times the length of the tags.
  *
  *     bestForHeader("gsw", ["fr", "de-CH"], "fr"); // "de-CH"
  */
@@ -378,14 +385,14 @@ export declare function bestForRanges<Tag extends Text>(ranges: Iterable<Text>, 
 export declare function bestForRanges<Tag extends Text, Otherwise>(ranges: Iterable<Text>, tags: Iterable<Tag>, otherwise: Otherwise): Tag | Otherwise;
 /**
  * The tags of a site that are known before the requests, such as the languages of its translations. What a choice needs of each tag is
- * computed once, so a choice takes less time than with a list. The methods return what the functions of the same names return for the same
- * tags. A site does not change.
+ * computed once, so a choice of one tag takes less time than with a list. The methods return what the functions of the same names return for
+ * the same tags. The constructor throws InvalidTag if one of them is not a tag. A site does not change.
  *
  *     const site = new Site(["en", "zh-Hans", "zh-Hant"]);
  *     site.bestForHeader("zh-TW,zh;q=0.9,en;q=0.8"); // "zh-Hant"
  *     site.bestForHeader("fi", "en");                // "en"
  */
-export declare class Site<Tag extends Text = Text> {
+export declare class Site<Tag extends Text = string> {
     #private;
     /** The tags, as they were given. */
     readonly tags: readonly Tag[];
@@ -398,15 +405,16 @@ export declare class Site<Tag extends Text = Text> {
     /** Returns the best tag for a list of ranges in order of preference, or the last argument. */
     bestForRanges(ranges: Iterable<Text>): Tag | undefined;
     bestForRanges<Otherwise>(ranges: Iterable<Text>, otherwise: Otherwise): Tag | Otherwise;
-    /** Returns all suitable tags for a header, best first, or the `most` best, as the function suitableForHeader does. */
+    /** Returns all suitable tags for a header, best first, or the `most` best, as the function suitableForHeader does, and in the same time. */
     suitableForHeader(header: Header, most?: number): Tag[];
     /** Returns all suitable tags for a list of ranges, best first, or the `most` best, as the function suitableForRanges does. */
     suitableForRanges(ranges: Iterable<Text>, most?: number): Tag[];
 }
 /**
  * Returns an English name of a tag, made of CLDR's names for the subtags of its locale form, or of its canonical form if it has none:
- * "Portuguese (Brazil)" for pt-BR. A subtag for which CLDR has no name is shown as it is, and so are extensions and private use. The
- * variants are in alphabetical order. For names in other languages, use `Intl.DisplayNames`.
+ * "Portuguese (Brazil)" for pt-BR. If CLDR does not name the language, the name is the tag's own language as IANA's registry describes it:
+ * "Himachali languages" for him. A subtag without a name is shown as it is, and so are extensions and private use. For names in other
+ * languages, use `Intl.DisplayNames`.
  */
 export declare function describe(tag: Text): string;
 /**

@@ -9,8 +9,8 @@
  *     tag.equals("ZH-YUE-hant-hk-U-CO-pinyin-x-MINE");                            // true
  *     bestForHeader("zh-TW,zh;q=0.9,en;q=0.8", ["en", "zh-Hans", "zh-Hant"]);     // "zh-Hant"
  *
- * Offsets and lengths count UTF-16 code units, as in JavaScript's strings. Only `isValid`, `invalidSubtag`, `isCanonical`, `canonical`,
- * `localeForm`, `describe` and `autonym` use the IANA registry. Functions that take a tag or a range also accept a string. An invalid string throws `InvalidTag` or
+ * Offsets and lengths count UTF-16 code units, as in JavaScript's strings. `isValid`, `invalidSubtag`, `isCanonical`, `canonical`,
+ * `localeForm`, `describe` and `autonym` use the IANA registry, and other calls at most its extended languages. Functions that take a tag or a range also accept a string. An invalid string throws `InvalidTag` or
  * `InvalidRange`, and any other value throws a `TypeError`.
  */
 import * as calls from "./calls.js";
@@ -115,8 +115,8 @@ export class EditError extends RangeError {
         Object.assign(this, { part, text });
     }
 }
-/** Thrown if a header has a malformed element. It has the number of commas before the element, where the element begins, and which part
- * is malformed. */
+/** Thrown if a header has a malformed element. It has the number of commas before the element, the offset of its first byte,
+ * and which part is malformed. */
 export class AcceptLanguageError extends RangeError {
     constructor(header, index, offset, part) {
         const end = header.indexOf(",", offset), element = withoutSpaces(header.slice(offset, end < 0 ? header.length : end));
@@ -380,15 +380,19 @@ export class LanguageTag {
     }
     /**
      * The parent of the tag in CLDR, which a catalogue of strings asks next, or undefined if there is none: pt-PT for pt-AO, zh-Hant for
-     * zh-TW. A parent is written in the same script, so zh-Hant has none: zh is Simplified.
+     * zh-TW. If CLDR lists the language, the parent is written in the same script, so zh-Hant has none: zh is Simplified.
      */
     get parent() {
         const parent = calls.parent(this.text);
         return parent === "" ? undefined : new LanguageTag(parent);
     }
     /**
-     * The tag and its parents, in the order in which to search a catalogue: pt-Latn-AO, pt-AO, pt-PT and pt. A script that is likely anyway goes
-     * first, then extensions and private use, then the variants one by one, and then the region. The variants come back with each parent.
+     * The tag and its parents, in the order in which to search a catalogue: zh-Hans-CN, zh-CN, zh-Hans and zh. A script that is likely anyway
+     * goes first, and comes back before the language alone. Extensions and private use go next, then the variants one by one, and then the
+     * region. The variants come back with each parent. All tags are written in the same script if CLDR lists the language.
+     *
+     * If a catalogue's folders name scripts, such as zh-Hans, ask for the parents of `maximized()`, which names the script of zh-CN. CLDR does
+     * not list replaced codes such as iw and cmn, nor extended languages: ask for the parents of `localeForm()`.
      */
     get parents() {
         const found = [this];
@@ -580,7 +584,7 @@ export function tagForHeaderLenient(header, tags, otherwise) {
 }
 /**
  * Returns the distance from the desired tag to a supported tag (UTS #35, Language Matching). It is at most
- * 134, or 255 if the tags differ and one of them has no known language, such as und.
+ * 134, or 255 if the tags differ and one of them is und, a private-use tag, i-default, i-enochian or i-mingo.
  *
  *     distance("zh-TW", "zh-Hant"); // 0
  *     distance("de", "en");         // 84
@@ -651,8 +655,8 @@ function rangeTexts(ranges) {
 }
 /**
  * The tags of a site that are known before the requests, such as the languages of its translations. What a choice needs of each tag is
- * computed once, so a choice takes less time than with a list. The methods return what the functions of the same names return for the same
- * tags. A site does not change.
+ * computed once, so a choice of one tag takes less time than with a list. The methods return what the functions of the same names return for
+ * the same tags. The constructor throws InvalidTag if one of them is not a tag. A site does not change.
  *
  *     const site = new Site(["en", "zh-Hans", "zh-Hant"]);
  *     site.bestForHeader("zh-TW,zh;q=0.9,en;q=0.8"); // "zh-Hant"
@@ -676,7 +680,7 @@ export class Site {
     bestForRanges(ranges, otherwise) {
         return this.#at(calls.siteBestForRanges(rangeTexts(ranges), this.#prepared), otherwise);
     }
-    /** Returns all suitable tags for a header, best first, or the `most` best, as the function suitableForHeader does. */
+    /** Returns all suitable tags for a header, best first, or the `most` best, as the function suitableForHeader does, and in the same time. */
     suitableForHeader(header, most = Infinity) {
         return suitableForHeader(header, this.tags, most);
     }
@@ -696,7 +700,8 @@ function namesIn(lines) {
         return names.get(key);
     };
 }
-const englishName = namesIn(NAMES), ownName = namesIn(AUTONYMS); // the keys are subtags, or tags, in the recommended case
+// The keys are languages, other subtags with a hyphen, or tags. The calls are pure, so that a bundler can leave unused names out.
+const englishName = /* @__PURE__ */ namesIn(NAMES), ownName = /* @__PURE__ */ namesIn(AUTONYMS);
 /** Returns the form of a tag whose subtags have the names: de for ger. */
 function named(tag) {
     const read = tagOf(tag);
@@ -704,18 +709,20 @@ function named(tag) {
 }
 /**
  * Returns an English name of a tag, made of CLDR's names for the subtags of its locale form, or of its canonical form if it has none:
- * "Portuguese (Brazil)" for pt-BR. A subtag for which CLDR has no name is shown as it is, and so are extensions and private use. The
- * variants are in alphabetical order. For names in other languages, use `Intl.DisplayNames`.
+ * "Portuguese (Brazil)" for pt-BR. If CLDR does not name the language, the name is the tag's own language as IANA's registry describes it:
+ * "Himachali languages" for him. A subtag without a name is shown as it is, and so are extensions and private use. For names in other
+ * languages, use `Intl.DisplayNames`.
  */
 export function describe(tag) {
     const form = named(tag);
     if (form.language === undefined)
         return form.text;
-    const name = (subtag) => englishName(subtag) ?? subtag;
-    const subtags = [form.script, form.region, ...[...form.variants].sort()].filter(Boolean).map(name);
+    const own = tagOf(tag).language?.toUpperCase(); // a key, if the language is replaced with one that CLDR does not name
+    const language = englishName(own) ?? englishName(form.language) ?? form.language;
+    const subtags = [form.script, form.region, ...form.variants].filter(Boolean).map((subtag) => englishName(`-${subtag}`) ?? subtag);
     const extensions = [...form.extensions].map(([singleton, rest]) => [singleton, ...rest].join("-"));
     const inside = [...subtags, ...extensions, form.privateUse ?? []].flat().join(", ").replaceAll("(", "[").replaceAll(")", "]");
-    return inside === "" ? name(form.language) : `${name(form.language)} (${inside})`;
+    return inside === "" ? language : `${language} (${inside})`;
 }
 /**
  * Returns the name of a tag's language in the language itself, from CLDR: "Deutsch" for de-DE, "繁體中文" for zh-TW. Returns undefined if

@@ -8,6 +8,8 @@
  *
  * The module is installed twice: as langtag, and, for the functions that use the registry, under a name with the registry's date.
  * So replacing a file changes no value that an index or a generated column contains.
+ *
+ * extensions_form, is_locale and locale_form take at most 256 KiB, because a call of the library cannot be cancelled.
  */
 #include "postgres.h"
 
@@ -584,7 +586,7 @@ OF_ONE(pg_langtag_describe, tag) {
     char none, *name;
     size_t len;
     text *made;
-    langtag_name_sort_variants(VARDATA(form), LEN(form), palloc(LEN(form)));
+    langtag_name_keep_language(BYTES(tag), LEN(tag), VARDATA(form));
     len = langtag_name_describe(BYTES(form), LEN(form), &none, 0);
     name = palloc(len);
     langtag_name_describe(BYTES(form), LEN(form), name, len);

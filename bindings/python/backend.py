@@ -2,7 +2,9 @@
 
 The archive of the C library is the file that LANGTAG_ARCHIVE names, or that of the sdist. In a clone, it is the proved archive if there is
 one; otherwise cargo builds it (bindings/archive). The wheel contains the C module, which is one binary for CPython 3.8 and later. For an
-interpreter without the stable ABI, such as PyPy, it is built for this interpreter."""
+interpreter without the stable ABI, such as PyPy, it is built for this interpreter.
+
+Only what an sdist needs is here. bindings/release makes the packages of other languages with these functions, too."""
 from __future__ import annotations
 
 import base64
@@ -23,10 +25,14 @@ from typing import Mapping, NamedTuple
 
 HERE = pathlib.Path(__file__).resolve().parent
 CLONE = HERE.parent if (HERE.parent / "archive").is_file() else None  # the folder bindings, if this is a clone
+if CLONE is not None:
+    sys.path.insert(0, str(CLONE))
+    ROOT, HEADER, EXAMPLES = CLONE.parent, CLONE / "include", CLONE / "examples"
+else:
+    ROOT, HEADER, EXAMPLES = HERE, HERE, HERE / "examples"
 TIME = 315532800  # the first second of 1980, the earliest that a wheel can say
-MODULE_FILES = r"\w+\.pyi?|py\.typed|(names|autonyms|help)\.txt"
-SDIST_FILES = r"pyproject\.toml|backend\.py|README\.md|PROVED\.txt|native/.*|(examples|rows)/.*"
-EXAMPLES = r"(negotiate|count_tags|catalogue)\.py"
+MODULE_FILES = r"\w+\.pyi?|py\.typed"
+SDIST_FILES = r"pyproject\.toml|backend\.py|native/.*"
 
 
 class Archive(NamedTuple):
@@ -40,50 +46,48 @@ class Archive(NamedTuple):
         return "\nproved by " in self.label
 
 
-def fail(why: str) -> SystemExit:
-    return SystemExit(f"langtag: {why}")
+class Lacking(SystemExit):
+    """Says what is missing on this machine."""
 
 
-def run(*command: object) -> str:
-    """Returns the output of a command. If it fails, ends with the last line of what it says."""
-    ran = subprocess.run([str(it) for it in command], capture_output=True, text=True, check=False)
+def run(*command: object, **more: object) -> str:
+    """Returns the output of a command. If it fails, ends with what it says. Status 3 says that something is missing."""
+    ran = subprocess.run([str(it) for it in command], capture_output=True, text=True, check=False, **more)  # type: ignore[call-overload]
+    if ran.returncode == 3:
+        raise Lacking(ran.stderr.strip())
     if ran.returncode:
-        print(ran.stderr, end="", file=sys.stderr)
-        raise fail((ran.stderr.strip().splitlines() or [f"{command[0]} failed"])[-1])
-    return ran.stdout.strip()
+        raise SystemExit(f"{ran.stderr.strip() or ran.stdout.strip()}\nlangtag: this failed with status {ran.returncode}: {' '.join(map(str, command))}")
+    return str(ran.stdout).strip()
 
 
 def label(archive: pathlib.Path) -> str:
     """Returns PROVED.txt for an archive. In an sdist it is the file there, if that has the checksum of this archive."""
     if CLONE is not None:
-        return run(sys.executable, CLONE / "labels.py", archive) + "\n"
+        from labels import label_of
+        return label_of(archive)
     text = (HERE / "PROVED.txt").read_text(encoding="utf-8")
     of_archive = f"{hashlib.sha256(archive.read_bytes()).hexdigest()}  liblangtag_c.a"
     return text if of_archive in text.splitlines() else f"langtag-verified {version(False)}\nnot proved\n{of_archive}\n\nThis is not the archive of the sdist.\n"
 
 
-def archive(folder: pathlib.Path) -> Archive:
-    """Returns the archive to build with. Cargo's files are in a folder of the clone, and the archive is in `folder`."""
+def archive() -> Archive:
+    """Returns the archive to build with. Cargo's files are in a folder of the clone."""
     named, path = os.environ.get("LANGTAG_ARCHIVE"), HERE / "liblangtag_c.a"
     if named:
         path = pathlib.Path(named).resolve()
         if not path.is_file():
-            raise fail(f"LANGTAG_ARCHIVE names no file: {named}")
+            raise Lacking(f"langtag: LANGTAG_ARCHIVE names no file: {named}")
     elif not path.is_file():
         if CLONE is None:
-            raise fail("there is no liblangtag_c.a: name one by LANGTAG_ARCHIVE")
-        path = folder / "liblangtag_c.a"
+            raise Lacking("langtag: there is no liblangtag_c.a: name one by LANGTAG_ARCHIVE")
+        path = room() / "liblangtag_c.a"
         run(CLONE / "archive", path)
     return Archive(path, label(path))
 
 
-def header() -> pathlib.Path:
-    return HERE if CLONE is None else CLONE / "include"
-
-
 def labelled_header(proved: bool) -> bytes:
     """Returns langtag.h for a package whose library is proved, or is not."""
-    return re.sub(rb"(#define LANGTAG_PROVED) .*", rb"\1 %d" % proved, (header() / "langtag.h").read_bytes())
+    return re.sub(rb"(#define LANGTAG_PROVED) .*", rb"\1 %d" % proved, (HEADER / "langtag.h").read_bytes())
 
 
 def kind() -> tuple[str, str]:
@@ -94,13 +98,14 @@ def kind() -> tuple[str, str]:
     return (f"cp{number}-cp{number}t", ending) if sysconfig.get_config_var("Py_GIL_DISABLED") else ("cp38-abi3", ".abi3.so")
 
 
-def built(library: Archive, folder: pathlib.Path) -> pathlib.Path:
-    """Builds the C module, and returns its path."""
-    if not shutil.which(os.environ.get("CC", "cc").split()[0]):
-        raise fail("there is no cc (in Debian: apt-get install gcc)")
-    module = folder / f"_native{kind()[1]}"
-    os.environ["INCLUDE"] = str(header())
-    run("sh", HERE / "native/compile", library.path, module, sys.executable)
+def built(library: Archive, folder: pathlib.Path, compiler: str | None = None) -> pathlib.Path:
+    """Builds the C module without symbols, and returns its path."""
+    compiler = compiler or os.environ.get("CC", "cc")
+    if not shutil.which(compiler.split()[0]):
+        raise Lacking(f"langtag: there is no {compiler} (in Debian: apt-get install gcc)")
+    module, flags = folder / f"_native{kind()[1]}", f"{os.environ.get('CFLAGS', '')} -s"
+    variables = {"CC": compiler, "CFLAGS": flags, "INCLUDE": str(HEADER), "PROVED": str(int(library.is_proved))}
+    run("sh", HERE / "native/compile", library.path, module, sys.executable, env={**os.environ, **variables})
     return module
 
 
@@ -112,15 +117,20 @@ def said(key: str) -> str:
 
 
 def version(proved: bool) -> str:
-    """Returns the version of the package, in the form of PEP 440. A package whose library is not proved has +cargo in it."""
-    return said("version").replace("-dev", ".dev0") + ("" if proved else "+cargo")
+    """Returns the version of packages whose library is proved, or is not."""
+    return said("version") + ("" if proved else "+cargo")
+
+
+def of_python(proved: bool) -> str:
+    """Returns the version in the form of PEP 440."""
+    return version(proved).replace("-dev", ".dev0")
 
 
 def readme() -> str:
-    if CLONE is not None:
-        return run(sys.executable, CLONE / "readmes.py", "python") + "\n"
-    path = HERE / "README.md"
-    return path.read_text(encoding="utf-8") if path.is_file() else ""
+    if CLONE is None:
+        return (HERE / "README.md").read_text(encoding="utf-8")
+    from labels import readme as of_package
+    return of_package("python")
 
 
 def summary(proved: bool) -> str:
@@ -133,37 +143,33 @@ def metadata(proved: bool) -> bytes:
     source = (HERE / "pyproject.toml").read_text(encoding="utf-8")
     lists = {key: re.findall(r'"(.*?)"', body) for key, body in re.findall(r"^(\w+) = \[(.*?)\]", source, re.M | re.S)}
     pages = re.findall(r'^(\w+) = "(.*)"', source.partition("[project.urls]\n")[2], re.M)
-    lines = ["Metadata-Version: 2.1", f"Name: {said('name')}", f"Version: {version(proved)}", f"Summary: {summary(proved)}",
+    lines = ["Metadata-Version: 2.1", f"Name: {said('name')}", f"Version: {of_python(proved)}", f"Summary: {summary(proved)}",
              *(f"Project-URL: {name}, {page}" for name, page in pages), f"Keywords: {','.join(lists['keywords'])}",
              *(f"Classifier: {it}" for it in lists["classifiers"]), f"Requires-Python: {said('requires-python')}",
              f"License: {said('license')}", "Description-Content-Type: text/markdown"]
     return ("\n".join(lines) + "\n\n" + readme()).encode()
 
 
-def tree(folder: pathlib.Path, wanted: str = ".*") -> dict[str, bytes]:
-    """Returns the files of a folder whose paths in it match a pattern."""
+def tree(folder: pathlib.Path, wanted: str = ".*", place: str = "") -> dict[str, bytes]:
+    """Returns the files of a folder whose paths in it match a pattern, for a place in a package."""
     found = {path.relative_to(folder).as_posix(): path for path in sorted(folder.rglob("*")) if path.is_file()}
-    return {name: path.read_bytes() for name, path in found.items() if re.fullmatch(wanted, name)}
+    return {place + name: path.read_bytes() for name, path in found.items() if re.fullmatch(wanted, name)}
 
 
-def module_files(proved: bool) -> dict[str, bytes]:
+def module_files() -> dict[str, bytes]:
     """Returns the files of the package langtag, without a binary."""
-    examples = HERE / "examples" if CLONE is None else CLONE / "examples"
-    files = {f"langtag/{name}": content for name, content in tree(HERE / "langtag", MODULE_FILES).items()}
-    shown = {f"langtag/examples/{name}": content for name, content in tree(examples, EXAMPLES).items()}
-    return {**files, **shown, "langtag/_proved.py": f"PROVED = {proved}\n".encode()}
+    return {**tree(HERE / "langtag", MODULE_FILES, "langtag/"), **tree(EXAMPLES, r"(negotiate|count_tags|catalogue)\.py", "langtag/examples/")}
 
 
-def notices() -> dict[str, bytes]:
-    """Returns the licences, the last of which is for CLDR's data."""
-    root = HERE if CLONE is None else CLONE.parent
-    names = ("LICENSE-APACHE", "LICENSE-MIT", "LICENSE-UNICODE")
-    return {name: (root / name).read_bytes() for name in names if (root / name).is_file()}
+def rows() -> dict[str, bytes]:
+    """Returns the rows that the tests of all languages read."""
+    return tree(ROOT / "rows", r"\w+\.(txt|md)", "rows/")
 
 
-def notes(library: Archive) -> dict[str, bytes]:
-    """Returns the files beside the metadata of a wheel: the licences, and PROVED.txt."""
-    return {**notices(), "PROVED.txt": library.label.encode()}
+def notes(label: str, page: str) -> dict[str, bytes]:
+    """Returns the files that each package has: PROVED.txt, its README, and the licences, one of which is for CLDR's data."""
+    licences = {f"LICENSE-{name}": (ROOT / f"LICENSE-{name}").read_bytes() for name in ("APACHE", "MIT", "UNICODE")}
+    return {**licences, "PROVED.txt": label.encode(), "README.md": page.encode()}
 
 
 def zipped(path: pathlib.Path, files: dict[str, bytes]) -> None:
@@ -190,21 +196,34 @@ def pack(path: pathlib.Path, top: str, files: Mapping[str, bytes | str]) -> None
         packed.write(raw.getvalue())
 
 
-def write_wheel(folder: pathlib.Path, tag: str, proved: bool, files: dict[str, bytes], more: dict[str, bytes]) -> str:
-    """Writes a wheel for the platforms of a tag, and returns its name. `more` are files beside the metadata."""
-    info, kind = f"langtag_verified-{version(proved)}.dist-info", tag.rpartition("-")[0]
-    tags = "".join(f"Tag: {kind}-{platform}\n" for platform in tag.rpartition("-")[2].split("."))
-    notes = {**more, "METADATA": metadata(proved), "WHEEL": f"Wheel-Version: 1.0\nGenerator: langtag\nRoot-Is-Purelib: false\n{tags}".encode()}
-    files = {**files, **{f"{info}/{name}": content for name, content in notes.items()}}
-    record = "".join(f"{name},sha256={base64.urlsafe_b64encode(hashlib.sha256(content).digest()).decode().rstrip('=')},{len(content)}\n"
-                     for name, content in sorted(files.items()))
-    name = f"langtag_verified-{version(proved)}-{tag}.whl"
-    zipped(folder / name, {**files, f"{info}/RECORD": f"{record}{info}/RECORD,,\n".encode()})
+def write_wheel(folder: str | pathlib.Path, library: Archive, platforms: str, files: dict[str, bytes]) -> str:
+    """Writes a wheel for some platforms, and returns its name."""
+    top = f"langtag_verified-{of_python(library.is_proved)}"
+    info, name = f"{top}.dist-info", f"{top}-{kind()[0]}-{platforms}.whl"
+    tags = "".join(f"Tag: {kind()[0]}-{it}\n" for it in platforms.split("."))
+    more = {**notes(library.label, readme()), "METADATA": metadata(library.is_proved),
+            "WHEEL": f"Wheel-Version: 1.0\nGenerator: langtag\nRoot-Is-Purelib: false\n{tags}".encode()}
+    files = {**files, **{f"{info}/{path}": content for path, content in more.items()}}
+    record = "".join(f"{path},sha256={base64.urlsafe_b64encode(hashlib.sha256(content).digest()).decode().rstrip('=')},{len(content)}\n"
+                     for path, content in sorted(files.items()))
+    zipped(pathlib.Path(folder, name), {**files, f"{info}/RECORD": f"{record}{info}/RECORD,,\n".encode()})
     return name
 
 
-def wheel_tag() -> str:
-    return f"{kind()[0]}-{re.sub('[-.]', '_', sysconfig.get_platform())}"
+def wheel(folder: str | pathlib.Path, library: Archive, platforms: str, compiler: str | None = None) -> str:
+    """Builds the C module, and writes a wheel for some platforms. Returns its name."""
+    module = built(library, room(), compiler)
+    return write_wheel(folder, library, platforms, {**module_files(), f"langtag/{module.name}": module.read_bytes()})
+
+
+def sdist(folder: str | pathlib.Path, library: Archive) -> str:
+    """Writes an sdist, and returns its name: the sources of the C module with the archive, so that it needs no cargo."""
+    examples = tree(EXAMPLES, r"(parts|negotiate|count_tags|catalogue)\.py", "examples/")
+    files = {**tree(HERE, SDIST_FILES), **module_files(), **examples, **rows(), **notes(library.label, readme()), **tree(HEADER, r"langtag_names(_data)?\.h"),
+             "liblangtag_c.a": library.path.read_bytes(), "langtag.h": labelled_header(library.is_proved), "PKG-INFO": metadata(library.is_proved)}
+    top = f"langtag_verified-{of_python(library.is_proved)}"
+    pack(pathlib.Path(folder, f"{top}.tar.gz"), top, files)
+    return f"{top}.tar.gz"
 
 
 def room() -> pathlib.Path:
@@ -212,30 +231,20 @@ def room() -> pathlib.Path:
     return HERE / "build"
 
 
+def this_platform() -> str:
+    return re.sub("[-.]", "_", sysconfig.get_platform())
+
+
 def build_wheel(wheel_directory: str, config_settings: object = None, metadata_directory: str | None = None) -> str:
-    library = archive(room())
-    module = built(library, room())
-    files = {**module_files(library.is_proved), f"langtag/{module.name}": module.read_bytes()}
-    return write_wheel(pathlib.Path(wheel_directory), wheel_tag(), library.is_proved, files, notes(library))
+    return wheel(wheel_directory, archive(), this_platform())
 
 
 def build_editable(wheel_directory: str, config_settings: object = None, metadata_directory: str | None = None) -> str:
     """Builds the C module in the folder of the sources, and a wheel that only names this folder."""
-    library = archive(room())
+    library = archive()
     built(library, HERE / "langtag")
-    (HERE / "langtag/_proved.py").write_text(f"PROVED = {library.is_proved}\n", encoding="utf-8")
-    return write_wheel(pathlib.Path(wheel_directory), wheel_tag(), library.is_proved, {"langtag_verified.pth": f"{HERE}\n".encode()}, notes(library))
-
-
-def write_sdist(folder: pathlib.Path, proved: bool, archive: bytes, more: dict[str, bytes]) -> str:
-    """Writes an sdist, and returns its name: the sources of the C module with the archive, so that it needs no cargo, and more files."""
-    files = {**tree(HERE, SDIST_FILES), **notices(), **module_files(proved), "liblangtag_c.a": archive, "README.md": readme().encode(),
-             "langtag.h": labelled_header(proved), "PKG-INFO": metadata(proved), **more}
-    top = f"langtag_verified-{version(proved)}"
-    pack(folder / f"{top}.tar.gz", top, files)
-    return f"{top}.tar.gz"
+    return write_wheel(wheel_directory, library, this_platform(), {"langtag_verified.pth": f"{HERE}\n".encode()})
 
 
 def build_sdist(sdist_directory: str, config_settings: object = None) -> str:
-    library = archive(room())
-    return write_sdist(pathlib.Path(sdist_directory), library.is_proved, library.path.read_bytes(), notes(library))
+    return sdist(sdist_directory, archive())

@@ -25,7 +25,7 @@ class Kinds(unittest.TestCase):
             self.assertIsNone(kind(text))
             with self.assertRaises(InvalidTag) as caught:
                 parse(text)
-            self.assertEqual(caught.exception.text, text)
+            self.assertEqual(caught.exception.text, text if isinstance(text, str) else "en\\xff")
             self.assertTrue(str(caught.exception).startswith("invalid language tag `"))
 
     def test_subclasses_of_texts(self):
@@ -66,15 +66,6 @@ class Values(unittest.TestCase):
         self.assertEqual({One("de"), Two("DE"), Tag("De")}, {Tag("de")})
         self.assertTrue(One("de") == Two("DE") and One("de") < Two("en") and Tag("en") > One("de"))
         self.assertNotEqual(One("de"), Range("de"))
-
-    def test_lengths(self):
-        """Forms whose lengths are near the size of the first buffer of a call."""
-        for length in (*range(180, 200), *range(500, 530), 5000):
-            rest = ("-abcdefg" * length)[:length].rstrip("-")
-            tag = Tag("iw-x" + rest)
-            self.assertEqual((str(tag.canonical()), str(tag.locale_form())), ("he-x" + rest, "he-x" + rest))
-            self.assertIsNone(Tag("x" + rest).locale_form())
-            self.assertEqual((str(tag.replace(script="Hebr")), tag.folded()), ("iw-Hebr-x" + rest, str(tag)))
 
     def test_single_letters(self):
         """A bytes object of one byte is shared in all of Python, so it must not be changed in place."""
@@ -223,11 +214,6 @@ class Negotiation(unittest.TestCase):
             for call in calls:
                 self.assertEqual(wrong_calls.told(lambda: call("de")), f"TypeError 'expected a list of {what}, got str'")
 
-    def test_extended_ranges(self):
-        """In a list of ranges, each * after a hyphen is left out, and no other *."""
-        self.assertIsNone(langtag.best_for_ranges(["de-*a"], ["dea"]))
-        self.assertEqual(langtag.best_for_ranges(["zh-*-Hant-x-" + "abcdefgh-" * 9 + "a"], ["en", "zh-Hant"]), "zh-Hant")
-
     def test_best(self):
         tags = ["en", b"zh-Hant", Tag("de")]
         for ranges, wanted in ((["fi", "", "*", "en;q=0", "de,de", "*-AT", b"de-*AT", "en-*-*-GB", "de"], "en"), ([Range("*-DE"), Range("de-*-DE")], Tag("de")),
@@ -240,6 +226,9 @@ class Negotiation(unittest.TestCase):
             many = [b"de", *["x-a"] * number, Tag("zh-x-" + "long-" * 50 + "tag")]
             self.assertIs(langtag.best_for_header("zh;q=0.5, de", many), many[0])
             self.assertIs(langtag.best_for_header("zh", tuple(many)), many[-1])
+        for most, wanted in ((-1, []), (0, []), (1, [1]), (2, [1, 0]), (sys.maxsize, [1, 0])):
+            self.assertEqual(langtag._native.suitable_for_header("de-CH", ["de", "de-CH"], most), wanted)
+            self.assertEqual(langtag._native.suitable_for_ranges(["de-CH"], ["de", "de-CH"], most), wanted)
 
 
 class Sites(unittest.TestCase):
@@ -258,10 +247,13 @@ class Sites(unittest.TestCase):
         class Own(Site):
             __slots__ = ()
 
+            def __init__(self):
+                super().__init__(["en", Tag("de")])
+
         class Found(BestMatch):
             __slots__ = ()
 
-        for value in (Own(["en", Tag("de")]), Found(1, "en", 30, "tlh")):
+        for value in (Own(), Found(1, "en", 30, "tlh")):
             again = copy.copy(value)
             self.assertEqual((type(again), repr(again)), (type(value), repr(value)))
         self.assertEqual(list(map(type, pickle.loads(pickle.dumps(Site(["en", Tag("de")]))).tags)), [str, Tag])
@@ -269,11 +261,11 @@ class Sites(unittest.TestCase):
 
 
 class Names(unittest.TestCase):
-    def test_that_each_language_of_two_letters_has_one(self):
+    def test_that_each_registered_language_has_one(self):
         letters = "abcdefghijklmnopqrstuvwxyz"
-        for text in map("".join, itertools.product(letters, letters)):
-            if text != "bh":  # a collection of languages, for which CLDR has no name
-                self.assertEqual(Tag(text).is_valid, langtag.describe(text) != text, text)
+        for text in map("".join, itertools.chain(itertools.product(letters, repeat=2), itertools.product(letters, repeat=3))):
+            if Tag(text).is_valid and not "qaa" <= text <= "qtz":  # for private use
+                self.assertNotRegex(langtag.describe(text), "^[a-z]{2,3}$")
 
 
 class Edits(unittest.TestCase):
@@ -422,7 +414,8 @@ class Threads(unittest.TestCase):
         keyed, repeated = Tag("en-u-" + "abcdefgh-" * 200_000 + "ca-roc"), Tag("de-" + "-".join(f"{number:05}" for number in range(20_000)))
         for name, call in {
             "kind": lambda: kind(text), "refused": lambda: langtag._backend.refused(text + "_"), "Tag": lambda: Tag(text), "Range": lambda: Range(text),
-            "Range of a Tag": lambda: Range(tag), "is_valid": lambda: tag.is_valid, "canonical": tag.canonical, "repeated_variant": lambda: repeated.repeated_variant,
+            "Range of a Tag": lambda: Range(tag), "is_valid": lambda: tag.is_valid, "canonical": tag.canonical, "autonym": lambda: langtag.autonym(tag),
+            "repeated_variant": lambda: repeated.repeated_variant,
             "keyword": lambda: keyed.keyword("ca"), "keywords": lambda: keyed.keywords, "matches_basic": lambda: Range("*").matches_basic(tag),
             "matches_extended": lambda: Range("*").matches_extended(text), "best_for_header": lambda: langtag.best_for_header(header, tags),
             "match_for_header": lambda: langtag.match_for_header(header, tags), "suitable_for_header": lambda: langtag.suitable_for_header(header, tags),

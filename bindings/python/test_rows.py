@@ -43,7 +43,7 @@ def outcome(call, *given, **named):
 
 def made(kind, text):
     value, error = outcome(kind, text)
-    assert error is None or (type(error) is (InvalidTag if kind is Tag else InvalidRange) and error.text == text)
+    assert error is None or (type(error) is (InvalidTag if kind is Tag else InvalidRange) and error.text == langtag._part(langtag.bytes_of(text), text))
     return value
 
 

@@ -30,11 +30,15 @@ typedef struct function {
     bool (*is)(const char *tag, size_t len);
     bool (*matches)(const char *range, size_t range_len, const char *tag, size_t tag_len);
     bool is_for_ranges; /* a choice for a list of ranges, and not for a header */
+    size_t longest;     /* the greatest length of a tag, or 0 if there is no limit */
 } function;
+
+/* The limit of calls whose time is quadratic, and that cannot be interrupted. PostgreSQL has the same limit. */
+#define LONGEST_TAG 262144
 
 /* A function with a call of its own, and a form, whose function of the library has the name that it has in SQL. */
 #define CALL(sql, count, own) {.name = sql, .arguments = count, .call = own}
-#define FORM(both) {.name = #both, .arguments = 1, .call = form, .form = both}
+#define FORM(both, limit) {.name = #both, .arguments = 1, .call = form, .form = both, .longest = limit}
 
 static const function *called(sqlite3_context *context) { return sqlite3_user_data(context); }
 
@@ -53,6 +57,16 @@ typedef struct text {
 static text text_of(sqlite3_value *value) {
     const char *at = (const char *)sqlite3_value_text(value);
     return (text){at, at ? (size_t)sqlite3_value_bytes(value) : 0};
+}
+
+/* Returns whether a tag is longer than the limit of the function, which is an error. */
+static bool is_too_long(sqlite3_context *context, text tag) {
+    const size_t longest = called(context)->longest;
+    char why[80];
+    if (longest == 0 || tag.len <= longest) return false;
+    sqlite3_snprintf(sizeof why, why, "tag is too long (%llu bytes, limit %llu)", (unsigned long long)tag.len, (unsigned long long)longest);
+    sqlite3_result_error(context, why, -1);
+    return true;
 }
 
 static void return_span(sqlite3_context *context, text of, langtag_span span) {
@@ -134,22 +148,25 @@ static bool return_written(sqlite3_context *context, const source *of) {
 
 FUNCTION(nth_parent) {
     const text tag = text_of(values[0]);
-    const sqlite3_int64 index = sqlite3_value_type(values[1]) == SQLITE_NULL ? -1 : sqlite3_value_int64(values[1]);
-    if (tag.at && index >= 0 && index < UINT32_MAX) return_written(context, &(source){.parent = (uint32_t)index + 1, .tag = tag}); /* else NULL */
+    const int type = sqlite3_value_numeric_type(values[1]);
+    const sqlite3_int64 index = sqlite3_value_int64(values[1]);
+    if (!tag.at || type == SQLITE_NULL) return; /* NULL */
+    if (type != SQLITE_INTEGER && type != SQLITE_FLOAT) sqlite3_result_error(context, "langtag_nth_parent: the index is not a number", -1);
+    else if (index >= 0 && index < UINT32_MAX) return_written(context, &(source){.parent = (uint32_t)index + 1, .tag = tag}); /* else NULL */
 }
 
 FUNCTION(form) {
     const text tag = text_of(values[0]);
-    if (tag.at) return_written(context, &(source){.form = called(context)->form, .tag = tag}); /* else NULL */
+    if (tag.at && !is_too_long(context, tag)) return_written(context, &(source){.form = called(context)->form, .tag = tag}); /* else NULL */
 }
 
-/* Returns the form of a tag whose subtags have the names, in memory to be freed, and sets `len`. As much memory is behind the form.
- * Returns NULL if the string is not a tag, or memory is short, which is an error. */
+/* Returns the form of a tag whose subtags have the names, in memory to be freed, and sets `len`. Returns NULL if the string is not a tag, or
+ * is too long, or memory is short, which are errors. */
 static char *named_form(sqlite3_context *context, text tag, size_t *len) {
     char none;
-    *len = tag.at ? langtag_name_form(tag.at, tag.len, &none, 0) : 0;
+    *len = tag.at && !is_too_long(context, tag) ? langtag_name_form(tag.at, tag.len, &none, 0) : 0;
     if (*len == 0) return NULL;
-    char *form = sqlite3_malloc64(2 * *len);
+    char *form = sqlite3_malloc64(*len);
     if (lacks(context, form)) return NULL;
     langtag_name_form(tag.at, tag.len, form, *len);
     langtag_recommend(form, *len);
@@ -157,10 +174,11 @@ static char *named_form(sqlite3_context *context, text tag, size_t *len) {
 }
 
 FUNCTION(describe) {
+    const text tag = text_of(values[0]);
     size_t len;
-    char *form = named_form(context, text_of(values[0]), &len);
+    char *form = named_form(context, tag, &len);
     if (form) { /* else NULL, or the error */
-        langtag_name_sort_variants(form, len, form + len);
+        langtag_name_keep_language(tag.at, tag.len, form);
         return_written(context, &(source){.form = langtag_name_describe, .tag = {form, len}});
     }
     sqlite3_free(form);
@@ -202,7 +220,7 @@ static bool given(sqlite3_context *context, sqlite3_value *value, text *found) {
 
 FUNCTION(is) {
     text tag;
-    if (given(context, values[0], &tag)) sqlite3_result_int(context, called(context)->is(tag.at, tag.len));
+    if (given(context, values[0], &tag) && !is_too_long(context, tag)) sqlite3_result_int(context, called(context)->is(tag.at, tag.len));
 }
 
 static bool is_well_formed(const char *tag, size_t len) { return langtag_kind(tag, len) != LANGTAG_NONE; }
@@ -290,14 +308,7 @@ typedef struct wanted {
     size_t count;
 } wanted;
 
-/* Returns the part of a string between two offsets without the spaces around it. */
-static langtag_span trimmed(const char *string, size_t start, size_t end) {
-    while (start < end && string[start] == ' ') start++;
-    while (start < end && string[end - 1] == ' ') end--;
-    return (langtag_span){start, end - start};
-}
-
-/* Reads the first argument of a choice. Returns false if the result is NULL or an error. */
+/* Reads the first argument of a choice. The library skips the blanks around a range. Returns false if the result is NULL or an error. */
 static bool is_wanted(sqlite3_context *context, int count, sqlite3_value **values, wanted *it) {
     size_t start = 0;
     if (count < 1) {
@@ -310,7 +321,7 @@ static bool is_wanted(sqlite3_context *context, int count, sqlite3_value **value
     if (lacks(context, it->ranges)) return false;
     for (size_t at = 0; at <= it->string.len; at++)
         if (at == it->string.len || it->string.at[at] == ',') {
-            it->ranges[it->count++] = trimmed(it->string.at, start, at);
+            it->ranges[it->count++] = (langtag_span){start, at - start};
             start = at + 1;
         }
     return true;
@@ -456,16 +467,17 @@ int sqlite3_sqlitelangtag_init(sqlite3 *db, char **message, const sqlite3_api_ro
     SQLITE_EXTENSION_INIT2(api);
     static function functions[] = {
         CALL("langtag_part", 2, part), CALL("langtag_keyword", 2, keyword), CALL("langtag_set_keyword", 3, set_keyword), CALL("langtag_base", 1, base),
-        CALL("langtag_nth_parent", 2, nth_parent),
-        CALL("langtag_suggestion", 1, suggestion), CALL("langtag_describe", 1, describe), CALL("langtag_autonym", 1, autonym),
+        CALL("langtag_nth_parent", 2, nth_parent), CALL("langtag_suggestion", 1, suggestion),
+        {.name = "langtag_describe", .arguments = 1, .call = describe, .longest = LONGEST_TAG},
+        {.name = "langtag_autonym", .arguments = 1, .call = autonym, .longest = LONGEST_TAG},
         CALL("langtag_unknown_modifier", 1, unknown_modifier), CALL("langtag_distance", 2, distance), CALL("langtag_version", 0, version),
         CALL("langtag_best_for_header", -1, best), CALL("langtag_match_for_header", -1, match_for_header),
         CALL("langtag_suitable_for_header", -1, suitable), CALL("langtag_proved", 0, proved),
         {.name = "langtag_best_for_ranges", .arguments = -1, .call = best, .is_for_ranges = true},
         {.name = "langtag_suitable_for_ranges", .arguments = -1, .call = suitable, .is_for_ranges = true},
-        FORM(langtag_extensions_form), FORM(langtag_locale_form), FORM(langtag_canonical), FORM(langtag_maximized), FORM(langtag_minimized),
-        FORM(langtag_parent), FORM(langtag_from_posix), FORM(langtag_to_posix),
-        {.name = "langtag_is_locale", .arguments = 1, .call = is, .is = langtag_is_locale},
+        FORM(langtag_extensions_form, LONGEST_TAG), FORM(langtag_locale_form, LONGEST_TAG), FORM(langtag_canonical, 0), FORM(langtag_maximized, 0),
+        FORM(langtag_minimized, 0), FORM(langtag_parent, 0), FORM(langtag_from_posix, 0), FORM(langtag_to_posix, 0),
+        {.name = "langtag_is_locale", .arguments = 1, .call = is, .is = langtag_is_locale, .longest = LONGEST_TAG},
         {.name = "langtag_is_well_formed", .arguments = 1, .call = is, .is = is_well_formed},
         {.name = "langtag_is_valid", .arguments = 1, .call = is, .is = is_valid},
         {.name = "langtag_is_right_to_left", .arguments = 1, .call = is, .is = langtag_is_right_to_left},

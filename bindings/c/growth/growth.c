@@ -89,4 +89,43 @@ FUNCTION(without_keyword, result = langtag_without_keyword(text, len, "zz", 2, b
 #define ENTRY(name) {#name, name},
 static const struct function functions[] = {LANGTAG_FUNCTIONS(ENTRY){"best_of_tags", best_of_tags}};
 
-int main(void) { return count(functions, sizeof functions / sizeof *functions); }
+/* The choice for a header that names one range again and again, among the first tags of a site: ten languages, each with many regions. */
+#define MOST_TAGS 1000
+static char site_text[5 * MOST_TAGS];
+static langtag_span site_spans[MOST_TAGS];
+static langtag_prepared_tag site[MOST_TAGS];
+static size_t site_count;
+
+static void write_site(void) {
+    for (size_t at = 0; at < MOST_TAGS; at++) {
+        char *tag = site_text + 5 * at;
+        memcpy(tag, "endefresptitnlsvarzh" + at % 10 * 2, 2);
+        tag[2] = '-';
+        tag[3] = (char)('A' + at / 260);
+        tag[4] = (char)('A' + at / 10 % 26);
+        site[at].tag = site_spans[at] = (langtag_span){5 * at, 5};
+        langtag_prepare(site_text, sizeof site_text, &site[at]);
+    }
+}
+
+FUNCTION(best_of_list, result = langtag_best_for_header(text, len, site_text, sizeof site_text, site_spans, site_count))
+FUNCTION(best_of_site, result = langtag_site_best_for_header(text, len, site_text, sizeof site_text, site, site_count))
+
+static void count_choices(void) {
+    static const char *const ranges[] = {"x", "und", "aaaa", "i", "xx", "cmn"};
+    write_site();
+    for (size_t range = 0; range < sizeof ranges / sizeof *ranges; range++) {
+        for (len = 0; len < 8192; len++) text[len] = ',';
+        for (size_t at = 0, size = strlen(ranges[range]); at + size < len; at += size + 1) memcpy(text + at, ranges[range], size);
+        for (site_count = 40; site_count <= MOST_TAGS; site_count *= 25) {
+            count_call((struct function){"best_of_list", best_of_list}, ranges[range], site_count);
+            count_call((struct function){"best_of_site", best_of_site}, ranges[range], site_count);
+        }
+    }
+}
+
+int main(void) {
+    count(functions, sizeof functions / sizeof *functions);
+    count_choices();
+    return 0;
+}

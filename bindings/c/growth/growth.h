@@ -87,23 +87,26 @@ static size_t write_shape(char *to, size_t shape, size_t most) {
     return at + write_keys(to + at, keys);
 }
 
-/* Calls each function with each text, and lets callgrind print the instructions. Each text is written only once, since that takes
- * longer than most calls. */
-static int count(const struct function *functions, size_t number) {
+/* Calls a function, and lets callgrind print the instructions. */
+static void count_call(struct function function, const char *shape, size_t times) {
+    char label[80];
+    snprintf(label, sizeof label, "%s %s %zu", function.name, shape, times);
+    CALLGRIND_ZERO_STATS;
+    function.call();
+    CALLGRIND_DUMP_STATS_AT(label);
+}
+
+/* Calls each function with each text. Each text is written only once, since that takes longer than most calls. */
+static void count(const struct function *functions, size_t number) {
     static char written[sizeof text];
     for (size_t shape = 0; shape < sizeof shapes / sizeof *shapes; shape++) {
         for (size_t times = 1; times <= 2; times++) {
             len = write_shape(written, shape, times * (shapes[shape].bytes ? shapes[shape].bytes : (size_t)BYTES));
             for (size_t function = 0; function < number; function++) {
-                char label[80];
                 memcpy(text, written, len);
                 memcpy(other, written, len);
-                snprintf(label, sizeof label, "%s %s %d %zu", functions[function].name, shapes[shape].name, (int)times, len);
-                CALLGRIND_ZERO_STATS;
-                functions[function].call();
-                CALLGRIND_DUMP_STATS_AT(label);
+                count_call(functions[function], shapes[shape].name, times);
             }
         }
     }
-    return 0;
 }

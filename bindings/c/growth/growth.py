@@ -1,12 +1,10 @@
 #!/usr/bin/env python3
-"""Fails if the instructions of a function grow faster than its text, or if it takes three times the instructions that LIMITS has.
+"""Fails if the instructions of a function grow faster than its text, or if a choice takes more than CHOICES says.
 
-    growth.py [--write] PROGRAM LIMITS FILE..
+    growth.py PROGRAM FILE..
 
 The program runs under valgrind. The files, such as a header, declare the functions that the program has to call. Twice the
-text may take at most MOST times the instructions, or more if SQUARES says so. LIMITS is a table of the instructions for each byte, with
-a line for each function and a column for each shape of texts. --write writes the table. Compare it with the old one before you commit
-it: a number that has doubled needs a reason."""
+text may take at most MOST times the instructions, or more if SQUARES says so."""
 from __future__ import annotations
 
 import glob
@@ -16,11 +14,9 @@ import subprocess
 import sys
 import tempfile
 from collections.abc import Iterator
-from typing import NamedTuple
 
 FEW = 5000  # instructions that a call may take for a text of any length
 MOST = 2.2
-TIMES = 3  # the factor by which a call may take more instructions for each byte than LIMITS has
 # The cases that are known and documented to be quadratic. They have more than 1,152 repeated variants, or variants, attributes of u or
 # variants of t, which are sorted. Or many ranges of a header would find a tag that a range of weight 0 excludes.
 SQUARES = {(name, shape): most for names, shapes, most in (
@@ -31,71 +27,44 @@ SQUARES = {(name, shape): most for names, shapes, most in (
     ("is_locale", "transformed", 4.4),
     ("best_for_header", "refused", 4.4),
 ) for name in names.split() for shape in shapes.split()}
+# The millions of instructions of a choice for 8 kB of a header that names one range again and again, by the number of tags.
+CHOICES = {"best_of_list": {"40": 16, "1000": 320}, "best_of_site": {"40": 10, "1000": 100}}
 # The functions that a header declares.
 DECLARED = re.compile(r'\blangtag_(\w+)\([^;{]*\);')
+# By function and shape, the instructions by the times of the text, or by the number of tags.
+Counts = dict[tuple[str, str], dict[str, int]]
 
 
-class Count(NamedTuple):
-    """The instructions for a text, and the length of the text."""
-
-    instructions: int
-    length: int
-
-    def each(self) -> int:
-        """Returns the instructions for each byte, or 0 if the whole call takes few."""
-        return -(-self.instructions // self.length) if self.instructions > FEW else 0
-
-
-def counted(program: str) -> tuple[dict[tuple[str, str], dict[str, Count]], int]:
-    """Runs the program. Returns the counts for each function and shape, and the exit status. "2" is the count of twice the text of "1"."""
-    counts: dict[tuple[str, str], dict[str, Count]] = {}
+def counted(program: str) -> tuple[Counts, int]:
+    """Runs the program. Returns its counts and its exit status."""
+    counts: Counts = {}
     with tempfile.TemporaryDirectory() as room:
         ended = subprocess.run(["valgrind", "-q", "--tool=callgrind", f"--callgrind-out-file={room}/out", program]).returncode
         for path in glob.glob(f"{room}/out*"):
             text = pathlib.Path(path).read_text(encoding="utf-8")
-            label = re.search(r"Client Request: (\w+) (\w+) (\d) (\d+)", text)
+            label = re.search(r"Client Request: (\w+) (\w+) (\d+)", text)
             total = re.search(r"(?m)^(?:summary|totals): (\d+)", text)
             if label and total:
-                counts.setdefault((label[1], label[2]), {})[label[3]] = Count(int(total[1]), int(label[4]))
+                counts.setdefault((label[1], label[2]), {})[label[3]] = int(total[1])
     return counts, ended
 
 
-def read_limits(path: pathlib.Path) -> dict[tuple[str, str], int]:
-    rows = [line.split() for line in path.read_text(encoding="utf-8").splitlines() if not line.startswith("#")]
-    return {(name, shape): int(number) for name, *numbers in rows[1:] for shape, number in zip(rows[0][1:], numbers)}
-
-
-def write_limits(path: pathlib.Path, counts: dict[tuple[str, str], dict[str, Count]]) -> None:
-    names, shapes = (list(dict.fromkeys(sorted(key[part] for key in counts))) for part in (0, 1))
-    table = [["function", *shapes]] + [[name, *(str(counts[name, shape]["2"].each()) for shape in shapes)] for name in names]
-    widths = [max(map(len, column)) for column in zip(*table)]
-    head = f"# The instructions for each byte of a text, by function and shape; 0 if the whole call takes at most {FEW}. Written by growth.py --write.\n"
-    lines = ("  ".join(word.ljust(width) for word, width in zip(row, widths)).rstrip() for row in table)
-    path.write_text(head + "\n".join(lines) + "\n", encoding="utf-8")
-
-
-def faults_of(counts: dict[tuple[str, str], dict[str, Count]], limits: dict[tuple[str, str], int]) -> Iterator[str]:
+def faults_of(counts: Counts) -> Iterator[str]:
     for (function, shape), count in sorted(counts.items()):
-        once, twice = count["1"], count["2"]
-        if twice.instructions > max(SQUARES.get((function, shape), MOST) * once.instructions, FEW):
-            yield f"{function} of {shape}: {once.instructions} instructions, and {twice.instructions} of twice the text"
-        limit = limits.get((function, shape))
-        if limit is None:
-            yield f"{function} of {shape}: LIMITS has no number"
-        elif twice.instructions > TIMES * max(limit * twice.length, FEW):
-            yield f"{function} of {shape}: {twice.each()} instructions for each byte, and {limit} before"
+        for tags, most in CHOICES.get(function, {}).items():
+            if count[tags] > most * 1_000_000:
+                yield f"{function} of {shape}: {count[tags]} instructions among {tags} tags"
+        if function not in CHOICES and count["2"] > max(SQUARES.get((function, shape), MOST) * count["1"], FEW):
+            yield f"{function} of {shape}: {count['1']} instructions, and {count['2']} of twice the text"
 
 
-def main(*words: str) -> int:
-    is_written = words[0] == "--write"
-    program, limits, *declaring = words[is_written:]
+def main(program: str, *declaring: str) -> int:
     counts, ended = counted(program)
-    if is_written:
-        write_limits(pathlib.Path(limits), counts)
     declared = {name for path in declaring for name in DECLARED.findall(pathlib.Path(path).read_text(encoding="utf-8"))}
-    faults = [f"{it} is not called" for it in sorted(declared - {function for function, _ in counts})]
+    called = {function for function, _ in counts}
+    faults = [f"{it} is not called" for it in sorted((declared | set(CHOICES)) - called)]
     faults += [f"{program} ended with {ended}"] * (ended != 0)
-    faults += faults_of(counts, read_limits(pathlib.Path(limits)))
+    faults += faults_of(counts)
     print(*faults, f"{len(counts)} pairs of counts, {len(faults)} faults", sep="\n")
     return 1 if faults else 0
 

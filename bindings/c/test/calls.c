@@ -282,6 +282,11 @@ static size_t commas_before(text header, size_t end) {
     return commas;
 }
 
+/* Whether a span begins or ends with a space or a tab. */
+static bool has_blank_end(text a, langtag_span span) {
+    return span.len > 0 && (memchr(" \t", a.at[span.start], 2) || memchr(" \t", a.at[span.start + span.len - 1], 2));
+}
+
 /* Writes the elements of a weight, and returns the next lower weight. */
 static uint32_t put_elements(text *to, text a, uint32_t of) {
     langtag_span rest = {0, a.len}, range;
@@ -301,7 +306,7 @@ OF_ONE(elements, a) {
     do answer = langtag_next_accepted(a.at, a.len, &rest, &range, &weight);
     while (answer == LANGTAG_ACCEPTED_RANGE);
     if (answer != LANGTAG_ACCEPTED_END) {
-        put_number(to, " element", commas_before(a, range.start));
+        put_number(to, has_blank_end(a, range) ? " blank element" : " element", commas_before(a, range.start));
         put_word(to, answer == LANGTAG_ACCEPTED_BAD_RANGE ? " has a bad language range |" : " has a bad weight |");
     }
     size_t before = to->len;
@@ -403,7 +408,10 @@ static void put_strictly(text *to, text header, text words) {
     }
     put_number(to, " bad", commas_before(header, bad.start)), put_number(to, "", bad.start);
     put_word(to, answer == LANGTAG_ACCEPTED_BAD_RANGE ? " range" : answer == LANGTAG_ACCEPTED_BAD_WEIGHT ? " weight" : " unknown");
-    if (index != count || memchr(header.at + bad.start, ',', bad.len) || (bad.start + bad.len < header.len && header.at[bad.start + bad.len] != ','))
+    const char *behind = header.at + bad.start + bad.len;
+    while (behind < header.at + header.len && memchr(" \t", *behind, 2)) behind++;
+    if (index != count || memchr(header.at + bad.start, ',', bad.len) || (behind < header.at + header.len && *behind != ',') ||
+        has_blank_end(header, bad))
         put_word(to, " and another element");
 }
 

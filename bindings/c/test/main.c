@@ -63,6 +63,15 @@ static void many_variants(void) {
     CHECK(langtag_repeats(tag, len, &repeated) == LANGTAG_REPEATED_VARIANT && repeated.variant.start == len - 7);
 }
 
+/* An index beyond a byte, a whole date, and that something is kept of a prepared tag: only time depends on that. */
+static void whole_numbers(void) {
+    langtag_prepared_tag site[] = {{{0, 2}, {0}}, {{3, 2}, {0}}};
+    for (size_t i = 0; i < 2; i++) langtag_prepare(TEXT("de fr"), &site[i]);
+    CHECK(memcmp(site[0].opaque, site[1].opaque, sizeof site->opaque) != 0);
+    CHECK(langtag_nth_parent(TEXT("de"), 256, NULL, 0) == 0 && langtag_nth_parent(TEXT("de"), 0, NULL, 0) == 2);
+    CHECK(langtag_registry_date() > 20000000 && langtag_registry_date() < 30000000);
+}
+
 /* A code that is longer than every code that has a suggestion. */
 static void long_codes(void) {
     char code[4200], written[3];
@@ -158,6 +167,7 @@ int main(int argc, char **argv) {
     edges();
     written_always();
     many_variants();
+    whole_numbers();
     long_codes();
     other_parts();
     overlapping_texts();

@@ -52,6 +52,13 @@ template <class Ask> static answer of_tag(Ask ask, const char *otherwise = "-") 
         return one ? shown(std::invoke(ask, *one)) : otherwise;
     };
 }
+/* The same for a view and for a tag that owns its text. */
+template <class Ask> static answer of_both(Ask ask) {
+    return [=](const strings &asked) {
+        const auto one = tag::parse(asked[0]);
+        return one ? alike(ask(*one), ask(langtag::owned_tag(*one))) : "-";
+    };
+}
 template <class Ask> static answer of_text(Ask ask) {
     return [=](const strings &asked) { return shown(ask(asked[0])); };
 }
@@ -322,6 +329,9 @@ static std::string best_of_ranges(const std::string &asked, const strings &texts
 template <class Find> static strings said_of(const std::vector<langtag::key_value> &pairs, Find find) {
     strings out;
     for (const auto &[key, value] : pairs) out.push_back(std::string(key) + "=" + std::string(value) + (find(key) == value ? "" : " which has another value"));
+    for (const auto &a : pairs)
+        for (const auto &b : pairs) /* each key is there once */
+            if ((a == b) != (&a == &b) || (a != b) == (a == b) || a == langtag::key_value{a.key, a.key}) out.push_back("and the operators disagree");
     return out;
 }
 
@@ -372,9 +382,9 @@ static const std::map<std::string, answer> answers = {
     {"best-match", of_list(best_match_of)}, {"suitable", of_list(suitable_of)}, {"with-keyword", with_keyword_of},
     {"maximized", of_tag(&tag::maximized)}, {"minimized", of_tag(&tag::minimized)}, {"right-to-left", of_tag(&tag::is_right_to_left)},
     {"extensions-form", of_tag(&tag::extensions_form)}, {"base", of_tag(&tag::base)}, {"is-locale", of_tag(&tag::is_locale, "no")},
-    {"locale-form", of_tag([](const tag &one) { return alike(one.locale_form(), langtag::owned_tag(one).locale_form()); })},
+    {"locale-form", of_both([](const auto &one) { return one.locale_form(); })},
     {"keywords", of_tag(keywords_of)}, {"attributes", of_tag(attributes_of)}, {"transform", of_tag(transform_of)},
-    {"describe", of_tag(langtag::describe)}, {"autonym", of_tag(langtag::autonym)},
+    {"describe", of_both([](const auto &one) { return langtag::describe(one); })}, {"autonym", of_both([](const auto &one) { return langtag::autonym(one); })},
     {"posix", of_text(langtag::from_posix)}, {"posix-name", of_tag(posix_name_of)},
     {"unknown-modifier", of_text([](const std::string &name) { return langtag::unknown_modifier(name); })},
     {"cldr-version", [](const strings &) { return langtag::cldr_version(); }},
@@ -389,7 +399,8 @@ static const std::map<std::string, answer> answers = {
      }},
     {"fallbacks", [](const strings &asked) {
          std::vector<std::string> out;
-         for (auto it = langtag::range::parse(asked[0]); it; it = it->fallback()) out.emplace_back(it->text());
+         for (auto it = langtag::range::parse(asked[0]); it; it = it->fallback())
+             out.push_back(std::string(it->text()) + (it->is_basic() == langtag::range::parse(it->text())->is_basic() ? "" : " of another kind"));
          return out.empty() ? "refused" : shown(out);
      }},
     {"message", of_text([](const std::string &text) {

@@ -2,7 +2,7 @@
  * A catalogue of messages, each with fallback to the parents of a tag in Unicode's CLDR: node catalogue.js TAG KEY
  *
  * A program that keeps the messages of each tag in a file of its own loads the files of `order`, and asks them in this order. So a
- * reader of pt-AO gets the messages of pt-PT and then those of pt, and a reader of zh-TW never gets zh, which is Simplified.
+ * user of pt-AO gets the messages of pt-PT and then those of pt, and a user of zh-TW never gets zh, which is Simplified.
  */
 import { LanguageTag } from "langtag-verified";
 

@@ -1,5 +1,5 @@
 /*
- * Answers each request in the language that its reader wants, by the header Accept-Language: node negotiate.js [PORT]
+ * Answers each request in the language that its user wants, by the header Accept-Language: node negotiate.js [PORT]
  *
  *     curl -H 'Accept-Language: zh-TW,zh;q=0.9,en;q=0.8' localhost:8080
  */

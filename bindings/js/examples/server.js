@@ -3,7 +3,7 @@
  *
  *     curl 'localhost:8080/?lang=sr'; curl -H 'Accept-Language: ger-CH, fr;q=0.5' localhost:8080
  *
- * The language is the reader's choice (?lang=, kept in a cookie), or else the best language for the browser's header.
+ * The language is the user's choice (?lang=, kept in a cookie), or else the best language for the browser's header.
  */
 import { createServer } from "node:http";
 import { autonym, describe, LanguageTag, Site } from "langtag-verified";
@@ -12,7 +12,7 @@ const PAGES = new Map([["en", "Hello"], ["de", "Guten Tag"], ["sr-Latn", "Dobar 
 const site = new Site(PAGES.keys()); // what the choice needs of each tag is computed once
 const SAME = 16; // from this distance on, a tag is of another language
 
-/** Returns the language that the reader picked. A language that is only near the picked one does not count: ?lang=tlh is not
+/** Returns the language that the user picked. A language that is only near the picked one does not count: ?lang=tlh is not
  *  English. */
 function picked(request) {
     const asked = new URL(request.url, "http://localhost").searchParams.get("lang");
@@ -30,7 +30,7 @@ function menu(page) {
 
 const server = createServer((request, response) => {
     const wish = picked(request);
-    const tag = wish ?? site.matchForHeader(request.headers["accept-language"])?.tag ?? "en";
+    const tag = wish ?? site.matchForHeader(request.headers["accept-language"]?.slice(0, 1000))?.tag ?? "en";
     response.writeHead(200, {
         "Content-Type": "text/html; charset=utf-8",
         "Content-Language": tag,

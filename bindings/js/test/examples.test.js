@@ -17,7 +17,7 @@ const PAGES = [
     ["?lang=tlh", "lang=ar", "de", "ar", true], ["", "a=b; lang=zh_TW", "de", "zh-Hant", true], ["?lang=", "lang=xx", "fi", "en", false],
 ];
 
-test("the site answers in the language that its reader picked", async () => {
+test("the site answers in the language that its user picked", async () => {
     const server = spawn(process.execPath, [fileURLToPath(new URL("../examples/server.js", import.meta.url)), "0"]);
     try {
         const [line] = await once(server.stdout.setEncoding("utf8"), "data");

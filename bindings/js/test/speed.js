@@ -1,4 +1,4 @@
-/* Times LanguageTag and Intl, in one run over tags that both accept: a tag with six parts, a keyword, and the form of a locale. */
+/* Times LanguageTag and Intl.Locale with six parts, in one run over tags that both accept. */
 import { LanguageTag } from "../index.js";
 
 const TAGS = ["zh-Hant-TW", "en", "de-CH-1996", "yue-Hant-HK-u-co-stroke-x-mine", "sr-Latn-RS", "fr-FR", "en-US-u-ca-gregory-nu-latn", "sl-rozaj-biske-1994"];
@@ -23,14 +23,6 @@ function time(call, count) {
     return least;
 }
 
-/** Prints the times of two calls, and returns their ratio. */
-function compared(what, ours, theirs) {
-    const [tag, locale] = [time(ours, 100_000), time(theirs, 20_000)];
-    console.log(`${what}: LanguageTag ${tag.toFixed(0)} ns, Intl ${locale.toFixed(0)} ns, ratio ${(tag / locale).toFixed(3)}`);
-    return tag / locale;
-}
-
-const ratio = compared("six parts", ours, theirs);
-compared("a keyword", (text) => LanguageTag.parse(text).keyword("nu"), (text) => new Intl.Locale(text).numberingSystem);
-compared("the form", (text) => LanguageTag.parse(text).localeForm().text, (text) => Intl.getCanonicalLocales(text)[0]);
-process.exitCode = ratio < 0.5 ? 0 : 1;
+const [tag, locale] = [time(ours, 100_000), time(theirs, 20_000)];
+console.log(`six parts: LanguageTag ${tag.toFixed(0)} ns, Intl.Locale ${locale.toFixed(0)} ns, ratio ${(tag / locale).toFixed(3)}`);
+process.exitCode = tag / locale < 0.5 ? 0 : 1;

@@ -16,6 +16,8 @@ const best: "de" | "fr" | undefined = bestForRanges([...(["fr"] as readonly stri
 const request: { headers: { "accept-language"?: string } } = { headers: {} }; // as node:http has it
 const site = new Site(["de", "fr"] as const);
 const ofSite: "de" | "fr" = site.bestForHeader(request.headers["accept-language"], "de");
+const bare: Site = new Site(["de"]);
+const ofBare: string = bare.bestForHeader("fi", "en");
 const index: number | undefined = site.matchForHeader(null)?.index;
 const ofRanges: LanguageTag | null = new Site([tag, again]).bestForRanges(["fr", LanguageRange.parse("*")], null);
 const absent = [
@@ -34,7 +36,7 @@ try {
     if (error instanceof InvalidTag) console.log(error.text, error.offset, error.viableLength, error.message);
     if (error instanceof EditError) console.log(error.part === "script" || error.part === "key");
 }
-console.log(ofSite, index, ofRanges, script, subtags, form, identifier, fault, found, none, best, absent, weights, sorted, kinds, either, REGISTRY_DATE.length, tag.fnv1a() > 0n, tag.equals("ZH"));
+console.log(ofSite, ofBare, index, ofRanges, script, subtags, form, identifier, fault, found, none, best, absent, weights, sorted, kinds, either, REGISTRY_DATE.length, tag.fnv1a() > 0n, tag.equals("ZH"));
 
 // @ts-expect-error a number is not a text
 LanguageTag.parse(5);

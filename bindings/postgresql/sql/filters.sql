@@ -19,7 +19,13 @@ EXPLAIN (COSTS OFF) SELECT * FROM texts WHERE tag <@ 'de-CH' ORDER BY tag;
 SELECT array_agg(tag ORDER BY tag) FROM texts WHERE tag <@ 'DE';
 EXPLAIN (COSTS OFF) SELECT * FROM texts WHERE tag ~ 'de-CH' ORDER BY tag;
 SELECT array_agg(tag ORDER BY tag) FROM texts WHERE tag ~ 'de-CH';
+-- The functions take the tag and the range in either order. Of two tags, or of two literals, it is not clear which is the range
 EXPLAIN (COSTS OFF) SELECT * FROM texts WHERE matches_basic(tag, 'de');
+EXPLAIN (COSTS OFF) SELECT * FROM texts WHERE matches_basic('de', tag);
+EXPLAIN (COSTS OFF) SELECT * FROM texts WHERE matches_extended(tag, 'de');
+EXPLAIN (COSTS OFF) SELECT * FROM texts WHERE matches_extended('de', tag);
+SELECT matches_basic('de', 'de-CH');
+SELECT matches_extended(a.tag, b.tag) FROM texts a, texts b;
 RESET enable_indexonlyscan;
 EXPLAIN (COSTS OFF) SELECT tag FROM texts WHERE 'zh-hant' @> tag;
 SELECT array_agg(tag ORDER BY tag) FROM texts WHERE 'zh-hant' @> tag;

@@ -11,10 +11,6 @@ CREATE TABLE t (tag langtag, form langtag GENERATED ALWAYS AS (canonical(tag)) S
 CREATE INDEX ON t (form); INSERT INTO t VALUES ('IW-hebr'); SELECT * FROM t WHERE form = 'he-Hebr';
 INSERT INTO t VALUES ('de-FQ');
 DROP TABLE t;
--- Accept-Language
-SELECT tag_for_header_lenient('{en,de-CH,fr}', 'fr;q=0.3, DE-ch-1996;q=0.9'), tag_for_header_lenient('{en,NULL}', 'ja, *;q=0.1'), tag_for_header_lenient('{}', 'de'),
-    tag_for_header_lenient('{de,fr}', 'fr_FR, de;q=0.1'), tag_for_header_lenient('{de}', 'fr;q=2, DE'), tag_for_header_lenient('{NULL,DE,de}', 'de'), tag_for_header_lenient('{de}', ''),
-    tag_for_header_lenient('{de,fr}', 'fr;q=0.5, de;q=0.5');
 -- Texts in place of tags: the text is returned as it was given. A literal is read as an array of tags
 SELECT best_for_header(ARRAY['EN', 'zh-HANT', NULL], 'zh-TW'), pg_typeof(best_for_header(ARRAY['en'], 'en')), best_for_header('{EN,DE}', 'de'), pg_typeof(best_for_header('{en}', 'en')),
     best_for_header('{EN,DE}', t), best_for_header(a, 'de'), best_for_header(a::langtag[], t), best_for_header(NULL::text[], t) FROM (VALUES (text 'de-CH', '{EN,DE}'::text[])) AS v(t, a);

@@ -53,7 +53,6 @@ STATEMENTS = [
         "text": "SELECT count(*) FROM tx WHERE tag ~* '^de(-[a-z0-9]{2,8})*-DE(-|$)'",
         "citext": "SELECT count(*) FROM ci WHERE tag ~ '^de(-[a-z0-9]{2,8})*-DE(-|$)'"}),
     ("COPY", "", of_kinds("COPY bench_{table} FROM '{file}'", ("langtag", "text", "citext"))),
-    ("count of the column", SCAN, of_kinds("SELECT count({tag}) FROM {table}", ("langtag", "text"))),
 ]
 
 
@@ -101,8 +100,6 @@ def main(rows, rounds):
         write_tags(file, rows)
         os.chmod(file.name, 0o644)
         prepare(file.name)
-        for name in ("lt_tag", "tx_tag", "tx_lower", "ci_tag"):
-            print(name, *server.lines(f"SELECT pg_size_pretty(pg_relation_size({server.quoted(name)}))", "bench"))
         for name, setting, kinds in STATEMENTS:
             times = {kind: [] for kind in kinds}
             for _ in range(rounds):

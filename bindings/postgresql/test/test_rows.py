@@ -126,7 +126,8 @@ QUERIES = {
     "range-message": lambda given: f"SELECT message_of('langtag_range', {text(given)})",
     "viable": lambda given: f"SELECT langtag_viable_len({text(given)})::text",
     "range": lambda given: f"SELECT 'range ' || ({text(given)}::langtag_range::text = {text(given)})",
-    "match": lambda range, tag: f"SELECT concat_ws(' ', t <@ r, t ~ r) FROM (SELECT {text(tag)}::langtag AS t, {text(range)}::langtag_range AS r) s",
+    "match": lambda range, tag: f"SELECT CASE WHEN (t <@ r, t ~ r) = ALL (VALUES (matches_basic(t, r), matches_extended(t, r)), (matches_basic(r, t), "
+                                f"matches_extended(r, t))) THEN concat_ws(' ', t <@ r, t ~ r) ELSE 'differ' END FROM (SELECT {text(tag)}::langtag AS t, {text(range)}::langtag_range AS r) s",
     "order": lambda a, b: f"SELECT langtag_cmp({text(a)}::langtag, {text(b)}::langtag)::text",
     "keyword": lambda tag, key: f"SELECT CASE keyword(t, k) WHEN '' THEN repeat(chr(39), 2) ELSE keyword(t, k) END FROM "
                                 f"(SELECT {text(tag)}::langtag AS t, {text(key)} AS k) s",

@@ -696,10 +696,11 @@ static PyObject *suitable_for_header(PyObject *module, PyObject *arguments) {
     Py_ssize_t most;
     if (!PyArg_ParseTuple(arguments, "OOn", &header_from, &tags_from, &most)) return NULL;
     if (!lt_text(header_from, &header) && !lt_tags(tags_from, &tags)) {
-        size_t *found = PyMem_Malloc(((size_t)most + 1) * sizeof *found);
+        size_t room = most < 0 ? 0 : (size_t)most < tags.count ? (size_t)most : tags.count;
+        size_t *found = PyMem_Malloc((room + 1) * sizeof *found);
         if (found) {
             LET_GO(header.len + tags.len);
-            size_t count = langtag_suitable_for_header(header.data, header.len, tags.text, tags.len, tags.spans, tags.count, found, (size_t)most);
+            size_t count = langtag_suitable_for_header(header.data, header.len, tags.text, tags.len, tags.spans, tags.count, found, room);
             TAKE_BACK();
             answer = lt_numbers(found, count);
         } else PyErr_NoMemory();
@@ -719,10 +720,11 @@ static PyObject *suitable_for_ranges(PyObject *module, PyObject *arguments) {
     Py_ssize_t most;
     if (!PyArg_ParseTuple(arguments, "OOn", &ranges_from, &tags_from, &most)) return NULL;
     if (!lt_ranges(ranges_from, &ranges) && !lt_tags(tags_from, &tags)) {
-        size_t *found = PyMem_Malloc(((size_t)most + 1) * sizeof *found);
+        size_t room = most < 0 ? 0 : (size_t)most < tags.count ? (size_t)most : tags.count;
+        size_t *found = PyMem_Malloc((room + 1) * sizeof *found);
         if (found) {
             LET_GO(ranges.len + tags.len);
-            size_t count = langtag_suitable_for_ranges(ranges.text, ranges.len, ranges.spans, ranges.count, tags.text, tags.len, tags.spans, tags.count, found, (size_t)most);
+            size_t count = langtag_suitable_for_ranges(ranges.text, ranges.len, ranges.spans, ranges.count, tags.text, tags.len, tags.spans, tags.count, found, room);
             TAKE_BACK();
             answer = lt_numbers(found, count);
         } else PyErr_NoMemory();
@@ -1021,4 +1023,6 @@ PyMethodDef lt_functions[] = {
     {"tag_for_header", tag_for_header, METH_VARARGS, NULL},
     {"tag_for_header_lenient", tag_for_header_lenient, METH_VARARGS, NULL},
     {"prepare", lt_prepare, METH_O, NULL},
+    {"describe", lt_describe, METH_O, NULL},
+    {"autonym", lt_autonym, METH_O, NULL},
     {NULL, NULL, 0, NULL}};

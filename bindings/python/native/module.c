@@ -3,6 +3,13 @@
 int lt_tag_init(PyObject *self, PyObject *arguments, PyObject *named) { return lt_init(self, arguments, named, 1); }
 static int range_init(PyObject *self, PyObject *arguments, PyObject *named) { return lt_init(self, arguments, named, 0); }
 
+/* Adds an object to the module, which gets its only reference. */
+static int add(PyObject *module, const char *name, PyObject *object) {
+    if (object && !PyModule_AddObject(module, name, object)) return 0;
+    Py_XDECREF(object);
+    return -1;
+}
+
 /* Adds a class to the module, with the slots that Tag and Range share and with its own slots. */
 static int add_class(PyObject *module, const char *name, const char *full, initproc init, PyMethodDef *methods,
                      PyGetSetDef *members) {
@@ -14,16 +21,13 @@ static int add_class(PyObject *module, const char *name, const char *full, initp
     slots[count++] = (PyType_Slot){Py_tp_getset, members};
     slots[count] = (PyType_Slot){0, NULL};
     PyType_Spec spec = {full, sizeof(Value), 0, Py_TPFLAGS_DEFAULT | Py_TPFLAGS_BASETYPE, slots};
-    PyObject *type = PyType_FromSpec(&spec);
-    if (!type) return -1;
-    if (!PyModule_AddObject(module, name, type)) return 0;
-    Py_DECREF(type);
-    return -1;
+    return add(module, name, PyType_FromSpec(&spec));
 }
 
 static int fill(PyObject *module) {
     static PyMethodDef none[] = {{NULL, NULL, 0, NULL}};
-    return add_class(module, "TagBase", "langtag._native.TagBase", lt_tag_init, none, lt_tag_members) ||
+    return add(module, "PROVED", PyBool_FromLong(LANGTAG_PROVED)) ||
+           add_class(module, "TagBase", "langtag._native.TagBase", lt_tag_init, none, lt_tag_members) ||
            add_class(module, "RangeBase", "langtag._native.RangeBase", range_init, lt_range_methods, lt_range_members) ? -1 : 0;
 }
 

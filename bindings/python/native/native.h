@@ -63,6 +63,8 @@ int lt_ranges(PyObject *from, List *list);
 void lt_close(List *list);
 int lt_site(PyObject *from, Site *site);
 PyObject *lt_prepare(PyObject *module, PyObject *from);
+PyObject *lt_describe(PyObject *module, PyObject *from); /* of a text; names are bytes */
+PyObject *lt_autonym(PyObject *module, PyObject *from);
 
 /* Raises an error by a function of langtag._texts, which has the words of the errors. `expected` is its second argument, or NULL. */
 void lt_raise(const char *function, PyObject *value, const char *expected);
