@@ -1,208 +1,158 @@
-/*
- * Calls of the C library that are timed, and ICU's calls for the same, on what `bench FOLDER` writes. ICU's LocaleMatcher is made once.
- * ICU's keyword is also read from a locale that was made before.
+/* Calls of the C library that are measured, and ICU's calls for the same, each for all lines of a file, as in main.rs:
  *
- *     calls FOLDER list           prints the name of each case, GROUP/CALL, and the number of its calls
- *     calls FOLDER time GROUP     prints the least nanoseconds for a call of each case
- *     calls FOLDER CASE ROUNDS    makes the calls of a case so many times, for a tool that counts instructions
+ *     calls time KIND LINES SITE     prints the least nanoseconds of a call of each function of a kind
+ *     calls count KIND LINES SITE    calls each once a line, for a tool that counts the instructions of the functions `entry_*`
  */
 #include <langtag.h>
-
-#include <algorithm>
-#include <chrono>
-#include <cstdio>
-#include <cstdlib>
-#include <cstring>
-#include <fstream>
-#include <functional>
-#include <memory>
-#include <string>
-#include <string_view>
-#include <vector>
 #ifdef WITH_ICU
 #include <unicode/localematcher.h>
 #include <unicode/locid.h>
 #endif
 
-static const char *const tags[] = {"en", "en-GB", "fr", "fr-CA", "de", "de-CH", "es", "es-419", "pt-BR", "pt-PT",
-                                   "it", "nl", "sv", "pl", "ru", "ja", "ko", "zh-Hans", "zh-Hant", "ar"};
+#include <algorithm>
+#include <chrono>
+#include <cstdio>
+#include <fstream>
+#include <memory>
+#include <string>
+#include <vector>
 
-struct site {
+using Lines = std::vector<std::string>;
+
+/* The tags of a site, in one string. ICU's matcher for them is made once. */
+struct Site {
     std::string text;
-    std::vector<langtag_span> spans;
-    site() {
-        for (const std::string_view tag : tags) {
-            spans.push_back({text.size(), tag.size()});
-            text += tag;
-        }
-    }
+    std::vector<langtag_span> tags;
+    std::vector<langtag_prepared_tag> prepared;
+#ifdef WITH_ICU
+    std::unique_ptr<icu::LocaleMatcher> matcher;
+#endif
 };
-static const site here;
-
-static size_t written(size_t (*write)(const char *, size_t, char *, size_t), std::string_view text) {
-    char buffer[128];
-    return write(text.data(), text.size(), buffer, sizeof buffer);
-}
-
-static size_t choice(std::string_view header) {
-    return langtag_best_for_header(header.data(), header.size(), here.text.data(), here.text.size(), here.spans.data(),
-                                   here.spans.size());
-}
-static size_t call_parse(std::string_view text) {
-    langtag_parts parts;
-    return langtag_parse(text.data(), text.size(), &parts);
-}
-static size_t call_canonical(std::string_view text) { return written(langtag_canonical, text); }
-static size_t call_maximized(std::string_view text) { return written(langtag_maximized, text); }
-static size_t call_minimized(std::string_view text) { return written(langtag_minimized, text); }
-static size_t call_distance(std::string_view text) { return langtag_distance(text.data(), text.size(), "en-GB", 5); }
-static size_t keyword(std::string_view text) {
-    langtag_span value;
-    return langtag_keyword(text.data(), text.size(), "nu", 2, &value) ? value.len : 0;
-}
-static size_t extensions(std::string_view text) { return written(langtag_extensions_form, text); }
-static size_t locale(std::string_view text) { return written(langtag_locale_form, text); }
 
 #ifdef WITH_ICU
-/* A status for each call, since ICU does nothing after an error. */
-#define STATUS UErrorCode status = U_ZERO_ERROR
-
-static icu::Locale locale_of(std::string_view text) {
-    STATUS;
+static icu::Locale locale_of(const std::string &text) {
+    UErrorCode status = U_ZERO_ERROR;
     return icu::Locale::forLanguageTag(text, status);
 }
-static size_t number_of(const icu::Locale &locale) {
-    STATUS;
-    return locale.getUnicodeKeywordValue<std::string>("nu", status).size();
-}
-static size_t tag_of(const icu::Locale &locale) {
-    STATUS;
-    return locale.toLanguageTag<std::string>(status).size();
-}
-template <class Tags> static icu::LocaleMatcher matcher_of(const Tags &tags) {
-    STATUS;
-    icu::LocaleMatcher::Builder builder;
-    for (const auto &tag : tags) builder.addSupportedLocale(locale_of(tag));
-    builder.setNoDefaultLocale();
-    return builder.build(status);
-}
-
-static size_t icu_parse(std::string_view text) {
-    STATUS;
-    const icu::Locale locale = icu::Locale::forLanguageTag(text, status);
-    if (U_FAILURE(status)) return 0;
-    size_t sum = 1;
-    for (const char *part : {locale.getLanguage(), locale.getScript(), locale.getCountry(), locale.getVariant()})
-        sum += std::strlen(part);
+static size_t icu_parse(const std::string &text) {
+    const icu::Locale locale = locale_of(text);
+    size_t sum = 0;
+    for (const char *part : {locale.getLanguage(), locale.getScript(), locale.getCountry(), locale.getVariant()}) sum += std::char_traits<char>::length(part);
     return sum;
 }
-static size_t icu_choice(std::string_view header) {
-    static const icu::LocaleMatcher matcher = matcher_of(tags);
-    STATUS;
-    return matcher.getBestMatchForListString(header, status) != nullptr;
+static size_t icu_number(const icu::Locale &locale) {
+    UErrorCode status = U_ZERO_ERROR;
+    return locale.getUnicodeKeywordValue<std::string>("nu", status).size();
 }
-static size_t icu_keyword(std::string_view text) { return number_of(locale_of(text)); }
-static size_t icu_keyword_of_a_locale(std::string_view text) {
-    static icu::Locale locale;
-    static std::string_view last;
-    if (last != text) locale = locale_of(last = text);
-    return number_of(locale);
+/* Reads the keyword from a locale that was made before. All lines are the same. */
+static size_t icu_number_again(const std::string &text) {
+    static const icu::Locale locale = locale_of(text);
+    return icu_number(locale);
 }
-static size_t icu_extensions(std::string_view text) { return tag_of(locale_of(text)); }
-static size_t icu_locale(std::string_view text) {
-    STATUS;
-    icu::Locale locale = locale_of(text);
-    locale.canonicalize(status);
-    return tag_of(locale);
+static size_t icu_best(const Site &site, const std::string &header) {
+    UErrorCode status = U_ZERO_ERROR;
+    return site.matcher->getBestMatchForListString(header, status) != nullptr;
 }
-#define ICU(...) __VA_ARGS__,
+#define ICU_CALLS(call)                           \
+    call(parse, icu, icu_parse(text))             \
+    call(headers, icu_best, icu_best(site, text)) \
+    call(keyword, icu_keyword, icu_number(locale_of(text))) \
+    call(keyword, icu_keyword_of_a_locale, icu_number_again(text))
 #else
-#define ICU(...)
+#define ICU_CALLS(call)
 #endif
 
-using strings = std::vector<std::string>;
-using function = std::function<size_t(std::string_view)>;
+/* Each call: its kind, its name, and the call. */
+#define CALLS(call)                                                                                                        \
+    call(parse, langtag_parse, langtag_parse(line, len, &parts))                                                           \
+    call(keyword, langtag_keyword, langtag_keyword(line, len, "nu", 2, &span))                                             \
+    call(headers, best, langtag_best_for_header(line, len, site.text.data(), site.text.size(), site.tags.data(), count))   \
+    call(headers, site, langtag_site_best_for_header(line, len, site.text.data(), site.text.size(), site.prepared.data(), count)) \
+    call(tags, parse, langtag_parse(line, len, &parts))                                                                    \
+    call(tags, hash, langtag_hash(LANGTAG_HASH, line, len))                                                                \
+    call(tags, validity, langtag_validity(line, len, &span))                                                               \
+    call(tags, canonical, langtag_canonical(line, len, buffer, sizeof buffer))                                             \
+    call(tags, maximized, langtag_maximized(line, len, buffer, sizeof buffer))                                             \
+    call(tags, minimized, langtag_minimized(line, len, buffer, sizeof buffer))                                             \
+    call(tags, parent, langtag_parent(line, len, buffer, sizeof buffer))                                                   \
+    call(keywords, extensions_form, langtag_extensions_form(line, len, buffer, sizeof buffer))                             \
+    call(keywords, locale_form, langtag_locale_form(line, len, buffer, sizeof buffer))                                     \
+    ICU_CALLS(call)
 
-/* A call that is timed with each of some strings. */
-struct entry {
-    std::string name;
-    std::shared_ptr<const strings> texts;
-    function call;
+#define DEFINED(kind, name, expression)                                                                   \
+    extern "C" __attribute__((noinline)) size_t entry_##name(const Site &site, const std::string &text) { \
+        char buffer[256];                                                                                 \
+        langtag_span span;                                                                                \
+        langtag_parts parts;                                                                              \
+        const char *line = text.data();                                                                   \
+        const size_t len = text.size(), count = site.tags.size();                                         \
+        (void)buffer, (void)span, (void)parts, (void)line, (void)len, (void)count;                        \
+        return static_cast<size_t>(expression);                                                           \
+    }
+CALLS(DEFINED)
+
+struct Call {
+    std::string kind;
+    const char *name;
+    size_t (*entry)(const Site &, const std::string &);
+    double least = 1e9;
 };
 
-static strings lines_of(const std::string &path) {
-    strings lines;
+/* The results of the calls are stored here, so that the compiler keeps all calls. */
+static volatile size_t result;
+
+static void call_each(const Call &call, const Site &site, const Lines &lines) {
+    for (const std::string &line : lines) result = call.entry(site, line);
+}
+
+/* Prints the least nanoseconds of each call over many passes, in which the calls take turns. */
+static void time_all(std::vector<Call> &calls, const Site &site, const Lines &lines) {
+    for (size_t turn = 0; turn < 101 * calls.size(); turn++) {
+        Call &call = calls[turn % calls.size()];
+        const auto start = std::chrono::steady_clock::now();
+        call_each(call, site, lines);
+        const std::chrono::duration<double, std::nano> taken = std::chrono::steady_clock::now() - start;
+        call.least = std::min(call.least, taken.count() / static_cast<double>(lines.size()));
+    }
+    for (const Call &call : calls) std::printf("%s %.1f\n", call.name, call.least);
+}
+
+static Lines lines_of(const char *path) {
     std::ifstream file(path);
+    Lines lines;
     for (std::string line; std::getline(file, line);) lines.push_back(line);
     return lines;
 }
 
-static std::vector<entry> cases(const std::string &folder) {
-    std::vector<entry> found;
-    const auto add = [&](const std::string &group, const strings &texts, std::vector<std::pair<const char *, function>> calls) {
-        const auto kept = std::make_shared<const strings>(texts);
-        for (const auto &call : calls) found.push_back({group + "/" + call.first, kept, call.second});
-    };
-    for (const char *list : {"shapes", "middle", "plain", "nine"})
-        add(list, lines_of(folder + "/" + list + ".txt"),
-            {{"langtag_parse", call_parse}, ICU({"icu", icu_parse}) {"langtag_canonical", call_canonical}, {"langtag_maximized", call_maximized},
-             {"langtag_minimized", call_minimized}, {"langtag_distance", call_distance}});
-    /* The range that is served: the first, with a tag nearer than 16; the last, with such a tag; the last, by lookup; the last, after one
-     * of weight 0; none. */
-    const std::pair<const char *, const char *> headers[] = {
-        {"first", "fr-CH, fr;q=0.9, en;q=0.8, de;q=0.7, *;q=0.5"}, {"last", "th-TH, vi;q=0.9, el;q=0.8, hu;q=0.7, de-AT;q=0.6"},
-        {"lookup", "th-TH, vi;q=0.9, el;q=0.8, hu;q=0.7, nl-Cyrl;q=0.6"}, {"zero", "th-TH, vi;q=0.9, el;q=0.8, hu;q=0, de-AT;q=0.6"},
-        {"none", "th-TH, vi;q=0.9, el;q=0.8, hu;q=0.7, fi;q=0.6"}};
-    for (const auto &header : headers) add(std::string("choice-") + header.first, {header.second}, {{"langtag_best_for_header", choice}, ICU({"icu", icu_choice})});
-    /* The first tag is its own form, the second has another, and the third is short. */
-    for (const char *tag : {"de-DE-u-ca-gregory-co-phonebk-nu-latn", "ger-UK-u-nu-thai-ca-islamicc-kn-true", "pt-BR"}) {
-        const std::string name = tag;
-        add("keyword-" + name, {tag}, {{"langtag_keyword", keyword}, ICU({"icu_of_a_locale", icu_keyword_of_a_locale}) ICU({"icu", icu_keyword})});
-        add("extensions-" + name, {tag}, {{"langtag_extensions_form", extensions}, ICU({"icu", icu_extensions})});
-        add("locale-" + name, {tag}, {{"langtag_locale_form", locale}, ICU({"icu", icu_locale})});
+static Site site_of(const Lines &tags) {
+    Site site;
+    for (const std::string &tag : tags) {
+        const langtag_span span = {site.text.size(), tag.size()};
+        site.text += tag;
+        site.tags.push_back(span);
+        site.prepared.push_back({span, {0, 0}});
     }
+    for (langtag_prepared_tag &tag : site.prepared) langtag_prepare(site.text.data(), site.text.size(), &tag);
 #ifdef WITH_ICU
-    for (const char *count : {"40", "100", "1000"}) {
-        const std::string site = std::string("site-") + count;
-        const auto matcher = std::make_shared<icu::LocaleMatcher>(matcher_of(lines_of(folder + "/" + site + ".txt")));
-        add(site, lines_of(folder + "/browsers.txt"), {{"icu", [matcher](std::string_view header) {
-            STATUS;
-            return matcher->getBestMatchForListString(header, status) != nullptr;
-        }}});
-    }
+    UErrorCode status = U_ZERO_ERROR;
+    icu::LocaleMatcher::Builder builder;
+    for (const std::string &tag : tags) builder.addSupportedLocale(locale_of(tag));
+    site.matcher = std::make_unique<icu::LocaleMatcher>(builder.setNoDefaultLocale().build(status));
 #endif
-    return found;
+    return site;
 }
 
-/* The results of the calls are stored here, so that the compiler keeps all calls. */
-static volatile size_t kept;
-
-static void call_all(const entry &it) {
-    for (const std::string &text : *it.texts) kept = it.call(text);
-}
-
-/* Prints the least nanoseconds of each case of a group, over many passes, in which the cases take turns. */
-static void time_all(const std::vector<entry> &cases, const std::string &group) {
-    std::vector<entry> some;
-    for (const entry &it : cases)
-        if (it.name.compare(0, group.size() + 1, group + "/") == 0) some.push_back(it);
-    std::vector<double> least(some.size(), 1e9);
-    for (size_t turn = 0; turn < 301 * some.size(); turn++) {
-        const size_t k = turn % some.size();
-        const auto start = std::chrono::steady_clock::now();
-        call_all(some[k]);
-        const std::chrono::duration<double, std::nano> taken = std::chrono::steady_clock::now() - start;
-        least[k] = std::min(least[k], taken.count() / static_cast<double>(some[k].texts->size()));
-    }
-    for (size_t k = 0; k < some.size(); k++) std::printf("%s %.1f\n", some[k].name.c_str(), least[k]);
-}
-
-int main(int argc, char **argv) {
-    const std::string wanted = argc > 2 ? argv[2] : "";
-    const auto all = cases(argc > 1 ? argv[1] : ".");
-    if (wanted == "time" && argc == 4) return time_all(all, argv[3]), 0;
-    for (const entry &it : all) {
-        if (wanted == "list") std::printf("%s %zu\n", it.name.c_str(), it.texts->size());
-        for (long left = argc == 4 && wanted == it.name ? std::atol(argv[3]) : 0; left > 0; left--) call_all(it);
+int main(int argc, char **args) {
+    if (argc != 5) return std::fprintf(stderr, "usage: calls time|count KIND LINES SITE\n"), 2;
+    const Lines lines = lines_of(args[3]);
+    const Site site = site_of(lines_of(args[4]));
+    std::vector<Call> calls;
+#define LISTED(kind, name, expression) calls.push_back({#kind, #name, entry_##name});
+    CALLS(LISTED)
+    calls.erase(std::remove_if(calls.begin(), calls.end(), [&](const Call &it) { return it.kind != args[2]; }), calls.end());
+    if (args[1] == std::string("time")) return time_all(calls, site, lines), 0;
+    for (const Call &call : calls) {
+        call_each(call, site, lines);
+        std::printf("%s %zu\n", call.name, lines.size());
     }
 }
