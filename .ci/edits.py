@@ -2,11 +2,12 @@
 
 A line of the record has the name of a wrong body, then a hash and how the prover refused the body, then a hash and what shows that the body is wrong.
 Each hash covers what the result depends on. A wrong body is tried again if a hash differs, or if the commit chooses it: a false line of the
-record is found by one run in 20.
+refusal is found by one run in 20.
 """
 import functools
 import hashlib
 import re
+import shutil
 import subprocess
 import sys
 from pathlib import Path
@@ -16,9 +17,9 @@ from programs import load
 ROOT = Path(__file__).resolve().parent.parent
 CRATES, RECORD, SHOWN = ROOT / "crates", ROOT / ".ci/wrong_bodies.txt", ROOT / ".ci/shown.txt"
 HEAD = """# A line for each wrong body: its name | a hash, and how it was refused | a hash, and what shows that it is wrong (.ci/edits.py).
-# .ci/wrong-bodies and .ci/shown write it.
+# .ci/wrong-bodies and .ci/shown write it. They were refused by the prover with the logic {}.
 """
-SHARE = 20
+SHARES = 20, 200  # of how many commits one tries a result that is known: of a refusal, which is cheap in a batch, and of a test
 PAGE = re.compile(r"\bRattle\.(langtag\w*)\.specs\.(declared\.)?(\w+)")
 twins = load(ROOT / ".ci/twins")
 
@@ -33,7 +34,9 @@ class Edit:
     def __init__(self, path, calls=()):
         self.path, self.crate, self.name = path, path.parts[-3], f"{path.parts[-3]}/{path.stem}"
         self.call = dict(calls).get(self.name, "")
-        self.lines = [line for line in path.read_text().split("\n") if line.startswith(("file: ", "old: ", "new:"))]
+        lines = path.read_text().split("\n")
+        self.lines = [line for line in lines if line.startswith(("file: ", "old: ", "new:"))]
+        self.places = [line.removeprefix("# at: ") for line in lines if line.startswith("# at: ")]
 
     @functools.cached_property
     def texts(self):
@@ -64,15 +67,33 @@ class Edit:
                 found += [(name, old.get(key), new.get(key)) for key in {**old, **new} if words_of(old.get(key)) != words_of(new.get(key))]
         return found
 
-    def of_refusal(self):
-        """Returns a hash of what its refusal depends on: the edit, the items that it changes, their traits, and the definitions below them."""
+    def of_refusal(self, how):
+        """Returns a hash of what its refusal depends on: the edit, the items that it changes, their traits, and the definitions below them. What
+        an answer refused depends on the proofs of these items, too."""
         try:
             items = [old for _, old, _ in self.changes if old]
         except ValueError:  # .ci/twins cannot read a file
             return digest(*self.lines, *((CRATES / self.crate / name).read_text() for name in self.texts))
-        return digest(*self.lines, *(word for item in items for word in (*words_of(item), *trait_of(item))), *definitions(items))
+        items += self.refusing(items)
+        proofs = [path.read_text() for item in items for path in proofs_of(item)] if how == "answer" else []
+        return digest(*self.lines, *(word for item in items for word in (*words_of(item), *trait_of(item))), *definitions(items), *proofs)
 
-    def of_shown(self):
+    def refusing(self, items):
+        """Returns the functions at which it is refused, `# at: found::Found::irregular`, if it changes only a type or a constant. These have
+        no contract: it depends on the contract of the function."""
+        if any(piece.ghost for item in items if item.kind == "function" for piece in item.pieces):
+            return []
+        if not self.places:
+            sys.exit(f"{self.path}: it changes no contract's function, so a line `# at: FILE::FUNCTION` has to say where it is refused")
+        found = []
+        for place in self.places:
+            file, _, key = place.partition("::")
+            all_items = items_of(next((CRATES / self.crate / "src").glob(f"**/{file}.rt")))
+            found += [item for name, item in all_items.items() if name in (key, f"{key.rpartition('::')[2]}")] or \
+                [item for name, item in all_items.items() if " for " in name and re.sub(r"<.*?>", "", "".join(reversed(name.split(" for ")))) == key.rpartition("::")[0]]
+        return found or sys.exit(f"{self.path}: there is no {' or '.join(self.places)}")
+
+    def of_shown(self, _):
         """Returns a hash of what shows that it is wrong: the edit, and its call in shown.txt."""
         return digest(*self.lines, self.call)
 
@@ -100,14 +121,22 @@ def trait_of(item):
     return next((traits()[word] for word in head if word in traits()), []) if "impl" in head[:1] else []
 
 
+def proofs_of(item):
+    """Returns the pages in an item's folder of proofs."""
+    trait, _, owner = item.key.partition(" for ")
+    name = owner + re.sub(r"<.*", "", trait) if owner else item.key.replace("::", "/")
+    crate = CRATES / item.file.crate
+    return sorted((crate / "proofs" / item.file.path.relative_to(crate / "src").with_suffix("") / name).glob("**/*.antt"))
+
+
 def definitions(items):
-    """Returns a hash of each page with definitions that items name, and of each page below these."""
-    named = {item.imports[ghost].get(word, "") for item in items for ghost in (False, True) for word in words_of(item)}
+    """Returns what items import, and a hash of each page with definitions that they name, and of each page below these."""
+    named = sorted({item.imports[ghost].get(word, "") for item in items for ghost in (False, True) for word in words_of(item)})
     pages, more = set(), set(PAGE.findall(" ".join(named)))
     while more:
         pages |= more
         more = {below for page in more for below in PAGE.findall(text_of(*page))} - pages
-    return [defined_by(*page) for page in sorted(pages)]
+    return [*named, *(defined_by(*page) for page in sorted(pages))]
 
 
 @functools.cache
@@ -123,8 +152,17 @@ def defined_by(crate, declared, name):
     text = text_of(crate, declared, name)
     if declared:
         file = twins.File(CRATES / crate / "src" / f"{name}.rt", text)
-        return digest(*(word for item in file.items.values() if item.kind == "type" for word in words_of(item)))
-    return digest(*twins.words_of(re.sub(r"(?m)^(?:unfoldable |pub )*use .*", "", text), "--"))
+        return digest(*(word for item in file.items.values() if item.kind == "type" or item.pieces[-1].name == "value" for word in words_of(item)))
+    words = twins.words_of(re.sub(r"(?m)^(?:unfoldable |pub )*use .*", "", text), "--")
+    # A name can mean another definition without a change of these words.
+    return digest(*words, *sorted(f"{name} {origin}" for name, origin in origins(text) if name in words))
+
+
+def origins(text):
+    """Returns each name that a page imports, with where it comes from. An alias is the name."""
+    for page, names in re.findall(r"(?m)^(?:unfoldable |pub )*use ([\w.]+?)(?:\.\{(.*)\})?$", text):
+        for path, _, alias in (name.partition(" as ") for name in names.split(", ") if name):
+            yield alias or path, f"{page}.{path}"
 
 
 def edits_of(names=()):
@@ -138,44 +176,57 @@ def edits_of(names=()):
     return found or sys.exit("there is no such edit")
 
 
+def logic():
+    """Returns the checksum of the logic of `rt`, or an empty text if there is no `rt`."""
+    ran = shutil.which("rt") and subprocess.run(["rt", "version"], capture_output=True, text=True, check=True).stdout
+    return ran.split()[-1] if ran else ""
+
+
+HASHES = (Edit.of_refusal, Edit.of_shown)
+
+
 class Record:
-    """The record: by the name of a wrong body, `of_refusal`'s hash, how it was refused, `of_shown`'s hash, and what shows it."""
+    """The record: by the name of a wrong body, `of_refusal`'s hash, how it was refused, `of_shown`'s hash, and what shows it. What another
+    prover refused does not count."""
 
     def __init__(self):
         lines = RECORD.read_text().splitlines() if RECORD.is_file() else []
+        self.logic = next((line.rstrip(".").split()[-1] for line in lines if " the logic " in line), "")
         rows = [re.split(r" \| ", line, maxsplit=2) for line in lines if not line.startswith("#")]
         self.seen = {name: [(it.split(" ", 1) + [""])[:2] for it in results] for name, *results in rows}
+        if (now := logic()) and now != self.logic:
+            self.logic = now
+            for results in self.seen.values():
+                results[0] = ["", ""]
 
-    def result(self, edit, which, wanted):
-        """Returns how an edit was refused (`which` is 0) or shown (1), or an empty text if no result has the wanted hash."""
+    def result(self, edit, which):
+        """Returns how an edit was refused (`which` is 0) or shown (1), or an empty text if no result has the hash of what stands."""
         found, result = self.seen.get(edit.name, [["", ""], ["", ""]])[which]
-        return result if found == wanted else ""
+        return result if found and found == HASHES[which](edit, result) else ""
 
     def write(self, all_edits, which, results):
         """Writes new results, and leaves out the lines of wrong bodies that are gone."""
         for edit, result in results.items():
-            hashes = (edit.of_refusal(), edit.of_shown())
-            self.seen.setdefault(edit.name, [["", ""], ["", ""]])[which] = [hashes[which], result] if result else ["", ""]
+            self.seen.setdefault(edit.name, [["", ""], ["", ""]])[which] = [HASHES[which](edit, result), result] if result else ["", ""]
         kept = {it.name for it in all_edits} & self.seen.keys()
-        RECORD.write_text(HEAD + "".join(f"{name} | {' | '.join(' '.join(it).strip() for it in self.seen[name])}\n" for name in sorted(kept)))
+        RECORD.write_text(HEAD.format(self.logic) + "".join(f"{name} | {' | '.join(' '.join(it).strip() for it in self.seen[name])}\n" for name in sorted(kept)))
 
 
-def turn():
+def turn(shares):
     """Returns which of the shares the commit chooses."""
     ran = subprocess.run(["git", "rev-parse", "HEAD"], cwd=ROOT, capture_output=True, text=True)
-    return int(ran.stdout.strip() or "0", 16) % SHARE
+    return int(ran.stdout.strip() or "0", 16) % shares
 
 
-def share(edits):
-    """Returns one of 20 shares of some edits, which stand together, so that few crates are proved for them."""
-    chosen = turn()
-    return edits[len(edits) * chosen // SHARE : len(edits) * (chosen + 1) // SHARE]
+def share(edits, shares):
+    """Returns one of the shares of some edits, which stand together, so that few crates are proved for them."""
+    chosen = turn(shares)
+    return edits[len(edits) * chosen // shares : len(edits) * (chosen + 1) // shares]
 
 
 def left_to_try(edits, which, again=False):
     """Returns the edits that have to be tried: all that have changed, and a share of the others."""
     record = Record()
-    hashes = {it: (it.of_shown if which else it.of_refusal)() for it in edits}
-    others = [it for it in edits if record.result(it, which, hashes[it])]
-    tried = {*edits} - {*others} | {*(others if again else share(others))}
+    others = [it for it in edits if record.result(it, which)]
+    tried = {*edits} - {*others} | {*(others if again else share(others, SHARES[which]))}
     return [it for it in edits if it in tried]

@@ -43,8 +43,8 @@ def arrow(points: str, tip: str) -> str:
 
 def anatomy() -> str:
     """Returns the picture of the parts of a tag."""
-    parts = [("sl", "language", "Slovenian"), ("Latn", "script", "Latin"), ("IT", "region", "Italy"), ("rozaj", "variant", "Resian dialect"),
-             ("u-co-phonebk", "extension", "sort like a phone book"), ("x-mine", "private use", "agreed with you")]
+    parts = [("de", "language", "German"), ("Latn", "script", "Latin"), ("AT", "region", "Austria"), ("1996", "variant", "spelling of 1996"),
+             ("u-co-phonebk", "extension", "sort like a phone book"), ("x-mine", "private use", "by private agreement")]
     unit, x, y = 14.5, 36.0, 46
     body: list[str] = []
     for number, (subtags, name, meaning) in enumerate(parts):
@@ -76,7 +76,8 @@ def choice() -> str:
             body += [arrow(f"M455 {y - 16}V{y - 6}", f"M455 {y}l-4 -8h8z"), text(463, y - 4, "no", "quiet small")]
     body += box(640, 46, 132, 46, [("answer", "quiet small"), ("de", "ink code")])
     body += [arrow("M138 102V126", "M138 132l-4 -8h8z"), arrow("M260 160H296V69H324", "M330 69l-8 -4v8z"), '<path class="line" d="M260 246H296V160"/>',
-             arrow("M580 69H634", "M640 69l-8 -4v8z"), text(640, 124, "nl has weight 0:", "quiet small"), text(640, 140, "never chosen", "quiet small"),
+             arrow("M580 69H634", "M640 69l-8 -4v8z"), *(f'<path class="line" d="M580 {y}H610"/>' for y in (131, 193, 255)), '<path class="line" d="M610 255V69"/>',
+             *(text(584, y, "yes", "quiet small") for y in (63, 125, 187)), text(640, 124, "nl has weight 0:", "quiet small"), text(640, 140, "never chosen", "quiet small"),
              text(LEFT, 304, "Distances are those of Unicode's CLDR. Each step tries all ranges, in order of weight, before the next step begins.", "quiet small")]
     title = "a tag at a distance below 16, else below 50, else found by lookup, else your default"
     return svg(WIDTH, 318, f"How best_for_header chooses a tag. It tries the ranges in order of weight: {title}", body)
@@ -90,7 +91,7 @@ def layers(root: pathlib.Path) -> list[tuple[str, list[tuple[str, str]]]]:
 
 def crates(root: pathlib.Path) -> str:
     """Returns the picture of the crates, with the layers that use others above those."""
-    body, y, columns, height = [text(LEFT, 28, "The crates in layers. A crate uses only crates of its layer and of the layers below.", "ink head")], 54, 5, 60
+    body, y, columns = [text(LEFT, 28, "The crates in layers. A crate uses only crates of its layer and of the layers below.", "ink head")], 54, 5
     for heading, named in reversed(layers(root)):
         body.append(text(LEFT, y, heading, "quiet"))
         y += 8
@@ -98,9 +99,10 @@ def crates(root: pathlib.Path) -> str:
         wide = -(-len(named) // lines)
         for at in range(0, len(named), wide):
             width = (WIDTH - 2 * LEFT - GAP * (wide - 1)) // wide
-            for number, (name, words) in enumerate(named[at : at + wide]):
-                said = [(line, "quiet small") for line in textwrap.wrap(words, width // 7, break_on_hyphens=False)]
-                body += box(LEFT + number * (width + GAP), y, width, height, [(name, "ink code"), *said], step=15)
+            said = [(name, textwrap.wrap(words, width // 7, break_on_hyphens=False)) for name, words in named[at : at + wide]]
+            height = 28 + 15 * max(len(lines) for _, lines in said)
+            for number, (name, lines) in enumerate(said):
+                body += box(LEFT + number * (width + GAP), y, width, height, [(name, "ink code"), *((it, "quiet small") for it in lines)], step=15)
             y += height + GAP
         y += 16
     return svg(WIDTH, y - 12, "The crates in layers, from the top: " + ", ".join(heading for heading, _ in reversed(layers(root))), body)

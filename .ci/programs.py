@@ -1,4 +1,4 @@
-"""What several programs share. It loads programs as modules, although their files have no suffix."""
+"""What several programs share. It loads programs as modules, although their files have no suffix, and reads pages and the roots of crates."""
 import os
 import re
 import sys
@@ -31,3 +31,10 @@ def parts_of(text):
             block.append(line)
         else:
             yield (number, "text", line.strip()) if indented else (number, None, line)
+
+
+def lent_by(folder):
+    """Returns the names below the line `// For CRATE..` of a crate's lib.rt, which are `pub` only for these crates."""
+    root = folder / "src/lib.rt"
+    _, _, uses = root.read_text(encoding="utf-8").partition("\n// For ") if root.is_file() else ("", "", "")
+    return set(re.findall(r"(\w+)[,;}]", uses))
