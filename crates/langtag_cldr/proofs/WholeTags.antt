@@ -59,6 +59,10 @@ none_listed test (e ∷ list) text all is =
 abbrev is_free : ℕ → List ℕ → Bool
 is_free k text = not (get_or text k 0 == 45)
 
+-- at most two bytes are all
+abbrev is_little : List ℕ → Bool
+is_little text = nat_le (length text) 2
+
 -- the first two bytes begin no replaced tag
 abbrev begins_other : List ℕ → Bool
 begins_other text = is_free 0 text && (is_free 1 text && not (begins_replaced (get_or text 0 0) (get_or text 1 0)))
@@ -75,6 +79,10 @@ begins_with_other text =
 -- the first subtag has more than three bytes
 abbrev begins_long : List ℕ → Bool
 begins_long text = is_free 0 text && (is_free 1 text && (is_free 2 text && is_free 3 text))
+
+listed_little : list_all (λ e. not (is_little (fold_text e.subtag))) tag_preferred ≡ true
+unfolding tag_preferred fold_byte
+listed_little = refl
 
 listed_begin : list_all (λ e. not (begins_other (fold_text e.subtag))) tag_preferred ≡ true
 unfolding tag_preferred fold_byte
@@ -158,6 +166,13 @@ module _ (x y z : ℕ) (text : List ℕ) (long : 3 ≤ length (before_first is_s
 
   three_alone : length (before_first is_separator (x ∷ y ∷ z ∷ text)) ≡ 3 → before_first is_separator (x ∷ y ∷ z ∷ text) ≡ x ∷ y ∷ z ∷ []
   three_alone three = grind (arith, common_steps, z_off)
+
+pub not_by_little : (text : List ℕ) → length (before_first is_separator text) ≤ 1 → length (after_first is_separator text) ≡ 0 → preferred_tag (basic_text text) ≡ None
+unfolding preferred_tag
+not_by_little text first rest = none_listed is_little tag_preferred (basic_text text) listed_little (grind (arith, common_steps, nat_tests, length_read text, length-fold (basic_text text), few text first rest))
+  where
+    few : (text : List ℕ) → length (before_first is_separator text) ≤ 1 → length (after_first is_separator text) ≡ 0 → length text ≤ 2
+    few text first rest = grind (arith, common_steps, length-take)
 
 pub not_by_two :
     (text : List ℕ) → length (before_first is_separator text) ≡ 2 →

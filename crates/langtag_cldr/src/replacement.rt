@@ -50,13 +50,13 @@ fn first_alike(
 }
 
 /// Returns `false` only if the first subtag of a string, and the rest, show that the string is not replaced as a whole.
-#[tactic(auto, using(crate::proofs::WholeTags::not_by_two, crate::proofs::WholeTags::not_by_follow, crate::proofs::WholeTags::not_by_three, crate::proofs::WholeTags::not_by_more))]
+#[tactic(auto, using(crate::proofs::WholeTags::not_by_little, crate::proofs::WholeTags::not_by_two, crate::proofs::WholeTags::not_by_follow, crate::proofs::WholeTags::not_by_three, crate::proofs::WholeTags::not_by_more))]
 #[inline(always)]
 fn may_be_replaced(first: &[u8], rest: &[u8]) -> bool
     ensures { result ≡ false → (text : List ℕ) → first.now ≡ before_first is_separator text → rest.now ≡ after_first is_separator text → preferred_tag (basic_text text) ≡ None }
 {
     match first {
-        [] | [_] => true,
+        [] | [_] => !rest.is_empty(),
         [first, second] => may_change_language(rest) && begins_replaced(*first, *second),
         [_, _, _] => case_insensitive_eq(first, b"sgn") || case_insensitive_eq(first, b"art"),
         _ => false,

@@ -2,7 +2,7 @@
 use Rattle.langtag_scan.proofs.Prelude.{◌≡◌, ℕ, ◌+◌, Bool, List, [], ◌∷◌, map, reverse, refl, arith, ◌<◌, eqb, ap, true, cond, Option, None, Some, option_map, sym, ◌∙◌, list_any, slice_split, before_first, after_first, position_or_len, list_all, take-map, drop-map, map-append, reverse-append, length-map, common_steps, nat_tests, eqb_tells, and_parts}
 use Rattle.langtag_scan.specs.Grammar.{fold_byte, fold_text, is_letter, is_private_subtag, are_digits, is_digit, subtags, Classes}
 use Rattle.langtag_scan.proofs.CaseLaw.{all-fold, is_letter-fold, length-fold, classes-fold, is_digit-fold, subtags-fold}
-use Rattle.langtag_range.specs.Definitions.{from_first, trimmed, Element, is_comma, is_semicolon, items, is_star, is_first_subtag, is_basic_range, hyphened, wanted_text, number_weight, value_weight, is_equals, is_q_name, is_q_parameter, wanted_weight, parameters, wanted, digits_behind, wanted_items, wanted_elements, folded, ElementsIgnoreCase, ends_locale, front_of, is_hash, place_before, locale_place, without_mark}
+use Rattle.langtag_range.specs.Definitions.{from_first, trimmed, Element, is_comma, is_semicolon, items, is_star, is_first_subtag, is_basic_range, hyphened, wanted_text, number_weight, value_weight, is_equals, is_q_name, is_q_parameter, wanted_weight, parameters, written, digits_behind, written_items, written_elements, hyphened_element, wanted_elements, folded, ElementsIgnoreCase, ends_locale, front_of, is_hash, place_before, locale_place, without_mark}
 use Rattle.std.proofs.Math.ListN.{get_or-map}
 
 module _ (p : ℕ → Bool) (same : (b : ℕ) → p (fold_byte b) ≡ p b) where
@@ -86,8 +86,8 @@ locale_place-fold : (name : List ℕ) → locale_place (fold_text name) ≡ fold
 locale_place-fold name = rw (before_first-fold ends_locale ends_locale-fold name) (place_before-fold (front_of name))
 
 -- what is to be the range of an item
-wanted_range-fold : (item : List ℕ) → hyphened (wanted_text (fold_text item)) ≡ fold_text (hyphened (wanted_text item))
-wanted_range-fold item = grind (arith, common_steps, before_first-fold, mark-fold, trimmed-fold, locale_place-fold, hyphened-fold)
+wanted_text-fold : (item : List ℕ) → wanted_text (fold_text item) ≡ fold_text (wanted_text item)
+wanted_text-fold item = grind (arith, common_steps, before_first-fold, mark-fold, trimmed-fold, locale_place-fold)
 
 parameters-fold : (item : List ℕ) → parameters (fold_text item) ≡ map fold_text (parameters item)
 parameters-fold item = grind (arith, nat_tests, after_first-fold is_semicolon, mark-fold 59, slice_split-fold is_semicolon)
@@ -121,24 +121,31 @@ wanted_weight-fold (parameter ∷ parameters) behind =
 
 -- ---- elements
 
--- the element of a range and a weight: none where the range is none
+-- the element of a range as it is written, and a weight: none where the range is none
 abbrev element_of : List ℕ → ℕ → Option Element
-element_of range weight = cond (is_basic_range range) (Some (record { range = range; weight = weight })) None
+element_of range weight = cond (is_basic_range (hyphened range)) (Some (record { range = range; weight = weight })) None
 
 element_of-fold : (range : List ℕ) (weight : ℕ) → element_of (fold_text range) weight ≡ option_map folded (element_of range weight)
-element_of-fold range weight = grind (arith, common_steps, is_basic_range-fold)
+element_of-fold range weight = grind (arith, common_steps, hyphened-fold range, is_basic_range-fold (hyphened range))
 
-wanted-fold : (item behind : List ℕ) → wanted (fold_text item) (fold_text behind) ≡ option_map folded (wanted item behind)
-unfolding wanted
-wanted-fold item behind = grind (arith, common_steps, wanted_range-fold, parameters-fold, wanted_weight-fold, element_of-fold)
+written-fold : (item behind : List ℕ) → written (fold_text item) (fold_text behind) ≡ option_map folded (written item behind)
+unfolding written
+written-fold item behind = grind (arith, common_steps, wanted_text-fold, parameters-fold, wanted_weight-fold, element_of-fold)
 
-wanted_items-fold : (items : List (List ℕ)) → wanted_items (map fold_text items) ≡ map folded (wanted_items items)
-wanted_items-fold [] = refl
-wanted_items-fold (item ∷ items) = grind (arith, common_steps, wanted-fold item (digits_behind items), wanted_items-fold items, all-fold is_digit is_digit-fold)
+written_items-fold : (items : List (List ℕ)) → written_items (map fold_text items) ≡ map folded (written_items items)
+written_items-fold [] = refl
+written_items-fold (item ∷ items) = grind (arith, common_steps, written-fold item (digits_behind items), written_items-fold items, all-fold is_digit is_digit-fold)
 
 -- those of a header in small letters are those of the header, in small letters
+written_elements-fold : (header : List ℕ) → written_elements (fold_text header) ≡ map folded (written_elements header)
+written_elements-fold header = ap written_items (slice_split-fold is_comma (mark-fold 44 (omega arith)) header) ∙ written_items-fold (items header)
+
+hyphened_elements-fold : (elements : List Element) → map hyphened_element (map folded elements) ≡ map folded (map hyphened_element elements)
+hyphened_elements-fold [] = refl
+hyphened_elements-fold (element ∷ elements) = grind (arith, common_steps, hyphened-fold element.range, hyphened_elements-fold elements)
+
 wanted_elements-fold : (header : List ℕ) → wanted_elements (fold_text header) ≡ map folded (wanted_elements header)
-wanted_elements-fold header = ap wanted_items (slice_split-fold is_comma (mark-fold 44 (omega arith)) header) ∙ wanted_items-fold (items header)
+wanted_elements-fold header = ap (map hyphened_element) (written_elements-fold header) ∙ hyphened_elements-fold (written_elements header)
 
 pub alike_headers : (header : List ℕ) → ElementsIgnoreCase header (wanted_elements header)
 alike_headers header other alike = sym (wanted_elements-fold other) ∙ ap wanted_elements (sym alike) ∙ wanted_elements-fold header

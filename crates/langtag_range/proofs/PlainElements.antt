@@ -4,8 +4,8 @@ use Rattle.langtag_scan.specs.Grammar.{is_letter, is_digit, is_alphanumeric, is_
 use Rattle.std.specs.Int.{is_in_range}
 use Rattle.std.proofs.lemmas.List.{reverse-reverse}
 use Rattle.std.proofs.lemmas.List.Folds.{list_any-append}
-use Rattle.langtag_range.specs.Definitions.{from_first, is_space, items, is_comma, is_semicolon, trimmed, are_basic_range, are_basic_subtags, is_basic_range, hyphened, hyphened_byte, is_separator, wanted_weight, parameters, wanted, digits_behind, wanted_elements}
-use Rattle.langtag_range.proofs.WantedTexts.{cut_or_whole, elements_at, nothing_wanted}
+use Rattle.langtag_range.specs.Definitions.{from_first, is_space, items, is_comma, is_semicolon, trimmed, are_basic_range, are_basic_subtags, is_basic_range, hyphened, hyphened_byte, is_separator, wanted_weight, parameters, written, digits_behind, written_elements}
+use Rattle.langtag_range.proofs.WantedTexts.{cut_or_whole, elements_at, nothing_written}
 use Rattle.langtag_range.proofs.BasicForms.{is_language_range-from_basic, none_in, range_bytes, range_place, whole_before, is_range_byte}
 
 -- ---- a text before and after a mark
@@ -102,20 +102,20 @@ trimmed-plain text free = rw (from_first-plain text free, from_first-plain (reve
 
 -- ---- a space before an element
 
-wanted-space : (item behind : List ℕ) → wanted (32 ∷ item) behind ≡ wanted item behind
-unfolding wanted
-wanted-space item behind = rw (before_rest is_semicolon (32 ∷ []) item refl, after_rest is_semicolon (32 ∷ []) item refl) refl
+written-space : (item behind : List ℕ) → written (32 ∷ item) behind ≡ written item behind
+unfolding written
+written-space item behind = rw (before_rest is_semicolon (32 ∷ []) item refl, after_rest is_semicolon (32 ∷ []) item refl) refl
 
-pub space_before : (text : List ℕ) → wanted_elements (32 ∷ text) ≡ wanted_elements text
+pub space_before : (text : List ℕ) → written_elements (32 ∷ text) ≡ written_elements text
 space_before text =
     elements_at (32 ∷ text)
-    ∙ rw (before_rest is_comma (32 ∷ []) text refl, after_rest is_comma (32 ∷ []) text refl, wanted-space (before_first is_comma text) (digits_behind (items (after_first is_comma text)))) (sym (elements_at text))
+    ∙ rw (before_rest is_comma (32 ∷ []) text refl, after_rest is_comma (32 ∷ []) text refl, written-space (before_first is_comma text) (digits_behind (items (after_first is_comma text)))) (sym (elements_at text))
 
 -- ---- an element, by its range and the text after the range
 
 module _ (range : List ℕ) (is : is_basic_range (hyphened range) ≡ true) where
-  wanted_with : (tail behind : List ℕ) → before_first is_semicolon (range ++ tail) ≡ range → wanted (range ++ tail) behind ≡ Some (record { range = hyphened range; weight = wanted_weight (parameters (range ++ tail)) behind })
-  unfolding wanted
+  wanted_with : (tail behind : List ℕ) → before_first is_semicolon (range ++ tail) ≡ range → written (range ++ tail) behind ≡ Some (record { range = range; weight = wanted_weight (parameters (range ++ tail)) behind })
+  unfolding written
   wanted_with tail behind before = rw (before, trimmed-plain range (unmarked is_space no_space range is), range_place range is, is) refl
 
   -- the text after the range, and the text of its parameters
@@ -123,22 +123,22 @@ module _ (range : List ℕ) (is : is_basic_range (hyphened range) ≡ true) wher
     free : list_any is_comma (range ++ tail) ≡ false
     free = grind (arith, common_steps, list_any-append, unmarked is_comma no_comma range is)
 
-    element_with : (behind : List ℕ) → wanted (range ++ tail) behind ≡ Some (record { range = hyphened range; weight = wanted_weight (slice_split is_semicolon (after_first is_semicolon tail)) behind })
+    element_with : (behind : List ℕ) → written (range ++ tail) behind ≡ Some (record { range = range; weight = wanted_weight (slice_split is_semicolon (after_first is_semicolon tail)) behind })
     element_with behind = grind (arith, common_steps, wanted_with tail behind, before_rest is_semicolon range tail, after_rest is_semicolon range tail, unmarked is_semicolon no_semicolon range is, append-nil)
 
-    last_with : wanted_elements (range ++ tail) ≡ record { range = hyphened range; weight = wanted_weight (slice_split is_semicolon (after_first is_semicolon tail)) [] } ∷ wanted_elements []
-    last_with = grind (arith, common_steps, elements_at (range ++ tail), whole_before is_comma, after_none, free, element_with [], nothing_wanted)
+    last_with : written_elements (range ++ tail) ≡ record { range = range; weight = wanted_weight (slice_split is_semicolon (after_first is_semicolon tail)) [] } ∷ written_elements []
+    last_with = grind (arith, common_steps, elements_at (range ++ tail), whole_before is_comma, after_none, free, element_with [], nothing_written)
 
-    next_with : (rest : List ℕ) → wanted_elements (range ++ tail ++ 44 ∷ rest) ≡ record { range = hyphened range; weight = wanted_weight (slice_split is_semicolon (after_first is_semicolon tail)) (digits_behind (items rest)) } ∷ wanted_elements rest
+    next_with : (rest : List ℕ) → written_elements (range ++ tail ++ 44 ∷ rest) ≡ record { range = range; weight = wanted_weight (slice_split is_semicolon (after_first is_semicolon tail)) (digits_behind (items rest)) } ∷ written_elements rest
     next_with rest =
         elements_at ((range ++ tail) ++ 44 ∷ rest)
         ∙ rw (before_rest is_comma (range ++ tail) (44 ∷ rest) free, after_rest is_comma (range ++ tail) (44 ∷ rest) free, append-nil (range ++ tail), element_with (digits_behind (items rest))) refl
 
   -- the text after the range has no weight
   pub read_unweighted :
-      (text rest : List ℕ) → ((text ≡ []) × (rest ≡ [])) ⊎ (text ≡ 44 ∷ rest) → wanted_elements (range ++ text) ≡ record { range = hyphened range; weight = 1000 } ∷ wanted_elements rest
+      (text rest : List ℕ) → ((text ≡ []) × (rest ≡ [])) ⊎ (text ≡ 44 ∷ rest) → written_elements (range ++ text) ≡ record { range = range; weight = 1000 } ∷ written_elements rest
   read_unweighted text rest (inl last) = rw (last.0, last.1) (last_with [] refl refl)
-  read_unweighted text rest (inr more) = rw more (ap (λ t. wanted_elements (t ++ 44 ∷ rest)) (sym (append-nil range)) ∙ next_with [] refl refl rest)
+  read_unweighted text rest (inr more) = rw more (ap (λ t. written_elements (t ++ 44 ∷ rest)) (sym (append-nil range)) ∙ next_with [] refl refl rest)
 
   -- the text begins with `;q=0.` and a digit
   module _ (digit : ℕ) (least : 48 ≤ digit) (most : digit ≤ 57) where
@@ -151,11 +151,11 @@ module _ (range : List ℕ) (is : is_basic_range (hyphened range) ≡ true) wher
 
     pub read_tenths :
         (left rest : List ℕ) → ((left ≡ []) × (rest ≡ [])) ⊎ (left ≡ 44 ∷ rest) →
-        wanted_elements (range ++ 59 ∷ 113 ∷ 61 ∷ 48 ∷ 46 ∷ digit ∷ left) ≡ record { range = hyphened range; weight = 100 * (digit - 48) } ∷ wanted_elements rest
+        written_elements (range ++ 59 ∷ 113 ∷ 61 ∷ 48 ∷ 46 ∷ digit ∷ left) ≡ record { range = range; weight = 100 * (digit - 48) } ∷ written_elements rest
     read_tenths left rest (inl last) = rw (last.0, last.1) (last_with (59 ∷ 113 ∷ 61 ∷ 48 ∷ 46 ∷ digit ∷ []) no_comma_in refl ∙ rw (tenths []) refl)
     read_tenths left rest (inr more) =
         rw more
-        (ap wanted_elements (sym (append_assoc range (59 ∷ 113 ∷ 61 ∷ 48 ∷ 46 ∷ digit ∷ []) (44 ∷ rest)))
+        (ap written_elements (sym (append_assoc range (59 ∷ 113 ∷ 61 ∷ 48 ∷ 46 ∷ digit ∷ []) (44 ∷ rest)))
         ∙ next_with (59 ∷ 113 ∷ 61 ∷ 48 ∷ 46 ∷ digit ∷ []) no_comma_in refl rest
         ∙ rw (tenths (digits_behind (items rest))) refl)
 

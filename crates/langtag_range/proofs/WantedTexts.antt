@@ -1,7 +1,7 @@
 -- Ranges in which "_" is read as "-", white space around them, their weights, and the parts of a list that is cut one after the other.
 use Rattle.langtag_scan.proofs.Prelude.{◌≡◌, ℕ, ◌+◌, ◌-◌, ◌<◌, ◌≤◌, true, false, IsTrue, List, [], ◌∷◌, length, take, drop, reverse, get_or, refl, ap, sym, ◌∙◌, arith, ◌*◌, ◌⊎◌, not, cond, Bool, ◌&&◌, ◌||◌, Some, None, rules, take_more, drop_more, drop_all, reverse-append, length-take-le, take_all, list_all-append, common_steps, and_parts, or_cases, leb-true, cases_lt, or_right, list_any, slice_split, before_first, after_first, position, position_or_len, cons_option, nat_tests, eqb_tells, length-slice_split, slice_split_first, slice_split_none, count_by-le-length, prefix_len-le-length, fails_before_first, length-drop}
 use Rattle.std.proofs.lemmas.List.{reverse-reverse}
-use Rattle.langtag_range.specs.Definitions.{from_first, is_ows, is_space, items, is_comma, is_semicolon, trimmed, is_hash, is_star, is_first_subtag, is_range_subtag, are_basic_range, are_extended_range, are_range_subtags, is_basic_range, is_language_range, hyphened, is_separator, is_q_name, is_q_parameter, is_equals, is_point, number_weight, value_weight, wanted_weight, wanted, digits_behind, wanted_items, wanted_elements}
+use Rattle.langtag_range.specs.Definitions.{from_first, is_ows, is_space, items, is_comma, is_semicolon, trimmed, is_hash, is_star, is_first_subtag, is_range_subtag, are_basic_range, are_extended_range, are_range_subtags, is_basic_range, is_language_range, hyphened, is_separator, is_q_name, is_q_parameter, is_equals, is_point, number_weight, value_weight, wanted_weight, written, digits_behind, written_items, written_elements}
 use Rattle.langtag_range.specs.Weight.{is_qvalue, thousandths}
 use Rattle.langtag_scan.specs.Grammar.{has_length, are_digits, are_letters, is_private_subtag, segments, subtags}
 use Rattle.langtag_scan.proofs.SubtagFacts.{letters_alphanumeric}
@@ -100,8 +100,8 @@ extended_read = seen_parts are_extended_range (λ first parts. (is_star first ||
 
 pub elements_at :
     (header : List ℕ) →
-    wanted_elements header ≡ cons_option (wanted (before_first is_comma header) (digits_behind (items (after_first is_comma header)))) (wanted_elements (after_first is_comma header))
-unfolding wanted
+    written_elements header ≡ cons_option (written (before_first is_comma header) (digits_behind (items (after_first is_comma header)))) (written_elements (after_first is_comma header))
+unfolding written
 elements_at header = grind (arith, common_steps, cut_or_whole is_comma header)
 
 -- the digits that a text begins with, if they are its first item
@@ -135,12 +135,12 @@ pub value_with_point :
 value_with_point value behind cut = rw (any_at_first is_point value (omega (arith, cut_at is_point value, cut))) refl
 
 -- no more ranges than bytes, and one
-length-wanted_items : (items : List (List ℕ)) → length (wanted_items items) ≤ length items
-length-wanted_items [] = omega arith
-length-wanted_items (item ∷ items) = grind (arith, common_steps, length-wanted_items items)
+length-written_items : (items : List (List ℕ)) → length (written_items items) ≤ length items
+length-written_items [] = omega arith
+length-written_items (item ∷ items) = grind (arith, common_steps, length-written_items items)
 
-pub few_wanted : (header : List ℕ) → length (wanted_elements header) ≤ length header + 1
-few_wanted header = omega (arith, length-wanted_items (items header), length-slice_split is_comma header, count_by-le-length is_comma header)
+pub few_written : (header : List ℕ) → length (written_elements header) ≤ length header + 1
+few_written header = omega (arith, length-written_items (items header), length-slice_split is_comma header, count_by-le-length is_comma header)
 
 -- ---- a parameter without a "=", and one with it
 
@@ -152,6 +152,6 @@ pub some_equals :
     (place < length parameter) × (place ≡ position_or_len is_equals parameter) × (is_q_parameter parameter ≡ is_q_name (trimmed (take place parameter)))
 some_equals parameter place some = grind (arith, common_steps, nat_tests, any_at_first)
 
-pub nothing_wanted : wanted_elements [] ≡ []
-unfolding wanted
-nothing_wanted = refl
+pub nothing_written : written_elements [] ≡ []
+unfolding written
+nothing_written = refl

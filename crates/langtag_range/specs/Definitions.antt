@@ -9,5 +9,5 @@ pub use Rattle.langtag_range.specs.Listed.{listed_element}
 unfoldable pub use Rattle.langtag_range.specs.Listed.{listed, basic_text}
 pub use Rattle.langtag_range.specs.Locale.{locale_place, is_hash, ends_locale, place_before, without_mark, front_of}
 pub use Rattle.langtag_range.specs.Range.{is_star, is_language_range, is_basic_range, are_extended_range, is_range_subtag, is_first_subtag, are_basic_range, are_basic_subtags, are_range_subtags}
-pub use Rattle.langtag_range.specs.Wanted.{wanted_elements, hyphened, is_separator, hyphened_byte, digits_behind, wanted_weight, wanted_items, folded, is_point, number_weight, value_weight, is_equals, is_q_name, is_q_parameter, wanted_text, parameters, ElementsIgnoreCase, wanted_element}
-unfoldable pub use Rattle.langtag_range.specs.Wanted.{wanted}
+pub use Rattle.langtag_range.specs.Wanted.{wanted_elements, written_elements, written_items, hyphened_element, hyphened, is_separator, hyphened_byte, digits_behind, wanted_weight, folded, is_point, number_weight, value_weight, is_equals, is_q_name, is_q_parameter, wanted_text, parameters, ElementsIgnoreCase, written_element}
+unfoldable pub use Rattle.langtag_range.specs.Wanted.{written}

@@ -86,12 +86,11 @@ parameters item = slice_split is_semicolon (after_first is_semicolon item)
 
 -- ---- the elements
 
--- the element that an item is read as, or none if the part before its ";" is not a basic range, where "_" is read as
--- "-"
-unfoldable pub wanted : List ℕ → List ℕ → Option Element
-wanted item behind =
-    if is_basic_range (hyphened (wanted_text item)) then
-    Some (record { range = hyphened (wanted_text item); weight = wanted_weight (parameters item) behind })
+-- the element of an item, with its range as it is written, or none if the part before its ";" is not a basic range, where
+-- "_" is read as "-"
+unfoldable pub written : List ℕ → List ℕ → Option Element
+written item behind =
+    if is_basic_range (hyphened (wanted_text item)) then Some (record { range = wanted_text item; weight = wanted_weight (parameters item) behind })
     else None
 
 -- the next item if it has only digits, since it is then the fraction of a number with a decimal comma, as in
@@ -101,13 +100,21 @@ digits_behind [] = []
 digits_behind (item ∷ items) = if are_digits item then item else []
 
 -- the elements of the items, in order
-abbrev pub wanted_items : List (List ℕ) → List Element
-wanted_items [] = []
-wanted_items (item ∷ items) = cons_option (wanted item (digits_behind items)) (wanted_items items)
+abbrev pub written_items : List (List ℕ) → List Element
+written_items [] = []
+written_items (item ∷ items) = cons_option (written item (digits_behind items)) (written_items items)
 
--- the elements of a header, including elements of weight 0
+-- the elements of a header as they are written, including elements of weight 0
+abbrev pub written_elements : List ℕ → List Element
+written_elements header = written_items (items header)
+
+-- the element with each "_" in its range read as "-"
+abbrev pub hyphened_element : Element → Element
+hyphened_element element = record { range = hyphened element.range; weight = element.weight }
+
+-- the elements of a header as they are read
 abbrev pub wanted_elements : List ℕ → List Element
-wanted_elements header = wanted_items (items header)
+wanted_elements header = map hyphened_element (written_elements header)
 
 -- ---- the case of letters
 
@@ -121,10 +128,10 @@ ElementsIgnoreCase header elements = (other : List ℕ) → Alike header other �
 
 -- ---- the values of the code
 
--- the element that a range represents: its bytes with each "_" read as "-", and its weight
-abbrev pub wanted_element : WantedRange → Element
-wanted_element found = record { range = hyphened found.bytes.now; weight = found.weight }
+-- the element that a range represents: its bytes and its weight
+abbrev pub written_element : WantedRange → Element
+written_element found = record { range = found.bytes.now; weight = found.weight }
 
 -- the elements that the iterator will still return
-abbrev pub wanted_left : WantedRanges → List Element
-wanted_left walk = wanted_elements walk.rest.now
+abbrev pub written_left : WantedRanges → List Element
+written_left walk = written_elements walk.rest.now

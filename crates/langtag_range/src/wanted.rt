@@ -1,5 +1,5 @@
 //! The language ranges of a header, read leniently.
-ghost use Rattle.std.specs.Prelude.{◌≡◌, ◌<◌, ◌^◌, ◌∷◌, [], IfSome, IsTrue, length};
+ghost use Rattle.std.specs.Prelude.{◌≡◌, ◌<◌, ◌^◌, ◌∷◌, [], IfSome, IsTrue, length, map};
 ghost use Rattle.langtag_scan.specs.Prelude.{YieldsFirstBy, item_count, option_map_or};
 ghost use Rattle.langtag_range.specs.Range.{is_basic_range};
 ghost use Rattle.langtag_range.specs.Wanted as spec;
@@ -52,12 +52,12 @@ pub struct WantedRanges<'a> {
 /// ranges.next().map(|it| (it.bytes, it.weight)); // Some((&b"de_CH"[..], 1000))
 /// ranges.next().map(|it| (it.bytes, it.weight)); // Some((&b"en"[..], 500))
 /// ```
-#[tactic(auto, using(crate::proofs::AlikeTexts::alike_headers, crate::proofs::WantedTexts::few_wanted))]
+#[tactic(auto, using(crate::proofs::AlikeTexts::alike_headers, crate::proofs::WantedTexts::few_written))]
 pub fn wanted_ranges<'a>(header: &'a [u8]) -> WantedRanges<'a>
-    ensures list { spec.wanted_left result ≡ spec.wanted_elements header.now }
+    ensures list { spec.written_left result ≡ spec.written_elements header.now }
     // law: alike headers have alike elements
-    ensures case { spec.ElementsIgnoreCase header.now (spec.wanted_left result) }
-    ensures few { length (spec.wanted_left result) < 2 ^ 64 }
+    ensures case { spec.ElementsIgnoreCase header.now (map spec.hyphened_element (spec.written_left result)) }
+    ensures few { length (spec.written_left result) < 2 ^ 64 }
     ensures cloned { (wanted copy : WantedRange) → ⟦<WantedRange<'a> as Clone>⟧.is_clone wanted copy → copy ≡ wanted }
     ensures clone_succeeds { (wanted : WantedRange) → ⟦<WantedRange<'a> as Clone>⟧.is_infallible wanted }
 {
@@ -67,11 +67,11 @@ pub fn wanted_ranges<'a>(header: &'a [u8]) -> WantedRanges<'a>
 impl<'a> Iterator for WantedRanges<'a> {
     type Item = WantedRange<'a>;
 
-    ghost next_gives = { YieldsFirstBy spec.wanted_element spec.wanted_left };
+    ghost next_gives = { YieldsFirstBy spec.written_element spec.written_left };
 
-    ghost remaining = { item_count spec.wanted_left };
+    ghost remaining = { item_count spec.written_left };
 
-    #[tactic(auto, using(crate::proofs::WantedTexts::nothing_wanted))]
+    #[tactic(auto, using(crate::proofs::WantedTexts::nothing_written))]
     fn next(&mut self) -> Option<WantedRange<'a>> {
         let Some((found, rest)) = split_wanted(self.rest) else {
             self.rest = b"";
@@ -91,12 +91,12 @@ impl<'a> Iterator for WantedRanges<'a> {
 /// let found = split_wanted(b"de,en");
 /// found.map(|(first, rest)| (first.bytes, rest)); // Some((&b"de"[..], &b"en"[..]))
 /// ```
-#[tactic(auto, using(crate::proofs::WantedTexts::elements_at, crate::proofs::WantedTexts::nothing_wanted, crate::proofs::WantedTexts::shorter, crate::proofs::WantedTexts::few_wanted))]
+#[tactic(auto, using(crate::proofs::WantedTexts::elements_at, crate::proofs::WantedTexts::nothing_written, crate::proofs::WantedTexts::shorter, crate::proofs::WantedTexts::few_written))]
 pub fn split_wanted(header: &[u8]) -> Option<(WantedRange<'_>, &[u8])>
-    ensures first { spec.wanted_elements header.now
-        ≡ option_map_or (λ found. spec.wanted_element found.0 ∷ spec.wanted_elements found.1.now) result [] }
+    ensures first { spec.written_elements header.now
+        ≡ option_map_or (λ found. spec.written_element found.0 ∷ spec.written_elements found.1.now) result [] }
     ensures basic { IfSome result (λ found. IsTrue (is_basic_range (spec.hyphened found.0.bytes.now))) }
-    ensures few { length (spec.wanted_elements header.now) < 2 ^ 64 }
+    ensures few { length (spec.written_elements header.now) < 2 ^ 64 }
 {
     let mut left = header;
     while !left.is_empty() {

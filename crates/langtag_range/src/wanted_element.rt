@@ -13,9 +13,9 @@ use crate::weight::{are_digits, digit_at};
 use crate::white_space::trimmed_place;
 
 /// Returns the range of an item of a header, with its weight. `behind` is what follows the comma after the item.
-#[tactic(auto, unfolding(crate::specs::Wanted::wanted))]
+#[tactic(auto, unfolding(crate::specs::Wanted::written))]
 pub(crate) fn wanted_at<'a>(item: &'a [u8], behind: &[u8]) -> Option<WantedRange<'a>>
-    ensures wanted { option_map spec.wanted_element result ≡ spec.wanted item.now (spec.digits_behind (items behind.now)) }
+    ensures written { option_map spec.written_element result ≡ spec.written item.now (spec.digits_behind (items behind.now)) }
     ensures basic { IfSome result (λ found. IsTrue (is_basic_range (spec.hyphened found.bytes.now))) }
 {
     let (before, parameters) = split_at_byte(item, b';');
