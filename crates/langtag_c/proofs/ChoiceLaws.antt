@@ -1,13 +1,13 @@
 -- What is said of the best tag for a reader, of the range that it serves, and of tags that are prepared.
 use Rattle.langtag_scan.proofs.Prelude.{◌≡◌, ℕ, ◌<◌, ◌≤◌, List, length, Option, None, Some, unwrap_or, sym, subst, arith, true, false, true≢false, Bool, not, ◌||◌, Bor, [], ◌∷◌, get_or, option_map, refl, ap, ◌∙◌, slice_get, common_steps, length-map, get_or-map, slice_get_within, slice_get-map, and_parts, nat_tests, list_all, IfSome}
-use Rattle.langtag_match.specs.Definitions.{Element, items, wanted_elements}
+use Rattle.langtag_match.specs.Definitions.{Element, items, hyphened_element, wanted_elements, written_elements}
 use Rattle.langtag_choice.specs.Best.{IsChoice, IsMatchOf, Pair}
 use Rattle.langtag_choice.specs.Suitable.{AreSuitable}
 use Rattle.langtag_c.specs.RangePlaces.{IsRangeAt, range_count}
 use Rattle.langtag_c.specs.Spans.{empty_at, HasBytes, has_bytes, span_text}
 use Rattle.langtag_c.specs.TagsAt.{tags_at, tag_at}
 use Rattle.langtag_c.specs.declared.span.Span.{Span}
-use Rattle.langtag_c.proofs.LookUps.{length_wanted, range_placed}
+use Rattle.langtag_c.proofs.LookUps.{length_written, range_placed}
 use Rattle.langtag_c.proofs.TagsAt.{are_tags_at, bytes_from_test}
 use Rattle.langtag_c.specs.Choice.{AreBest, IsBest, IsMatchAt, no_match}
 use Rattle.langtag_c.specs.declared.best_match.BestMatch.{BestMatch}
@@ -42,7 +42,7 @@ module _ (header text : List ℕ) (spans : List Span) where
       (o ≡ None → range_count (items header) ≤ m.place) → IfSome o (IsRangeAt header m.place) → found.range ≡ unwrap_or o (empty_at (length header)) → IsMatchAt header text spans answer found
   is_match_at m o answer found is index distance none some range =
       let inside = slice_get_within (wanted_elements header) is.pair.place is.pair.element is.pair.wanted in
-      let within : m.place < range_count (items header) = omega (arith, inside, is.place, length_wanted (items header)) in
+      let within : m.place < range_count (items header) = omega (arith, inside, is.place, length-map (written_elements header) hyphened_element, length_written (items header)) in
       record {
         tags = tags_at text spans;
         are = are_tags_at text spans;
@@ -61,7 +61,7 @@ pub is_match_of :
     site.IsMatchOf header tags answer found
 is_match_of header tags m o answer found is index distance none some range =
     let inside = slice_get_within (wanted_elements header) is.pair.place is.pair.element is.pair.wanted in
-    let within : m.place < range_count (items header) = omega (arith, inside, is.place, length_wanted (items header)) in
+    let within : m.place < range_count (items header) = omega (arith, inside, is.place, length-map (written_elements header) hyphened_element, length_written (items header)) in
     record {
       chosen = Some m;
       is = is;

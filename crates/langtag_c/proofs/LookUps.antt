@@ -3,7 +3,7 @@
 use Rattle.langtag_keyword.proofs.Common.{filter, list_all, and_parts, take_all, ◌≡◌, ℕ, ◌+◌, ◌-◌, ◌<◌, ◌≤◌, Bool, true, false, not, nat_lt, cond, List, [], ◌∷◌, ◌++◌, map, length, take, get_or, Option, None, Some, unwrap_or, ap, refl, sym, subst, ◌∙◌, arith, rules, suc, zero, position_or_len, sum_by, AllByRecursion, option_map_or, nat_tests, length-map, take_more, common_steps, are_alike, length-slice_split, is_some, slice_get, option_map}
 use Rattle.langtag_c.proofs.FoundExtension.{nothing-in}
 use Rattle.langtag_c.specs.Negotiation.{filled_items}
-use Rattle.langtag_range.specs.Definitions.{element, from_first, trimmed, is_ows, is_space, Element, is_comma, items, fallbacks, digits_behind, wanted, wanted_elements, wanted_items}
+use Rattle.langtag_range.specs.Definitions.{element, from_first, trimmed, is_ows, is_space, Element, is_comma, items, fallbacks, digits_behind, written, written_elements, written_items}
 use Rattle.langtag_match.specs.AcceptLanguage.{are_good, elements, IsByWeight, StandsAt, acceptable, bad_part, is_good, weight_in}
 use Rattle.langtag_scan.proofs.Prelude.{position, slice_range, cons_option, eqb, length-append, IfSome, list_all-append, list_all_at, position-Some, sum_by-append, get_or_from_slice_get, slice_get_read, slice_get_within, slice_split-cons_no, slice_split-cons_yes}
 use Rattle.std.specs.List.{filter_map, prefix_len}
@@ -220,10 +220,10 @@ alone_at (x ∷ all) (suc k) item alone is = alone_at all k item alone.1 is
 
 -- ---- so it has the range that it has as a header of its own
 
-has_one : (item : List ℕ) (e : Element) (es : List Element) → IsAlone item → wanted_elements item ≡ e ∷ es → wanted item [] ≡ Some e
+has_one : (item : List ℕ) (e : Element) (es : List Element) → IsAlone item → written_elements item ≡ e ∷ es → written item [] ≡ Some e
 has_one item e es alone is = grind (arith, nat_tests, alone)
 
-has_none : (item : List ℕ) → IsAlone item → wanted_elements item ≡ [] → wanted item [] ≡ None
+has_none : (item : List ℕ) → IsAlone item → written_elements item ≡ [] → written item [] ≡ None
 has_none item alone is = grind (arith, nat_tests, alone)
 
 -- ---- the item at an index
@@ -240,35 +240,35 @@ module _ (header item : List ℕ) (n : ℕ) (below : n < length (items header)) 
 
   pub is_range_at :
       (start place : ℕ) (span : Span) (e : Element) (es : List Element) → start ≡ sum_by width (take n (items header)) → range_count (take n (items header)) ≡ place →
-      wanted_elements item ≡ e ∷ es → span.start ≡ start + spaces_before item → span.len ≡ length e.range → IsRangeAt header place span
+      written_elements item ≡ e ∷ es → span.start ≡ start + spaces_before item → span.len ≡ length e.range → IsRangeAt header place span
   is_range_at start place span e es begins count is first size = search (rules, begins, count, is, first, size, there, item_stands, has_one, alone)
 
   module _ {X : Type 0} (yielded : List X) (x : X) (same : length yielded ≡ n) where
     counted : (b : Bool) → has_range item ≡ b → range_count (take (length (yielded ++ x ∷ [])) (items header)) ≡ range_count (take (length yielded) (items header)) + cond b 1 0
     counted b is = grind (arith, nat_tests, take_next (items header) yielded x item, sum_by-append)
 
-    pub one_more : (e : Element) (es : List Element) → wanted_elements item ≡ e ∷ es → range_count (take (length (yielded ++ x ∷ [])) (items header)) ≡ range_count (take (length yielded) (items header)) + 1
+    pub one_more : (e : Element) (es : List Element) → written_elements item ≡ e ∷ es → range_count (take (length (yielded ++ x ∷ [])) (items header)) ≡ range_count (take (length yielded) (items header)) + 1
     one_more e es is = counted true (ap is_some (has_one item e es alone is))
 
-    pub no_more : wanted_elements item ≡ [] → range_count (take (length (yielded ++ x ∷ [])) (items header)) ≡ range_count (take (length yielded) (items header))
+    pub no_more : written_elements item ≡ [] → range_count (take (length (yielded ++ x ∷ [])) (items header)) ≡ range_count (take (length yielded) (items header))
     no_more is = counted false (ap is_some (has_none item alone is)) ∙ omega arith
 
 -- ---- so many ranges has a header
 
-same_range : (item behind : List ℕ) → is_some (wanted item behind) ≡ has_range item
-unfolding wanted
+same_range : (item behind : List ℕ) → is_some (written item behind) ≡ has_range item
+unfolding written
 same_range item behind = grind (arith, nat_tests)
 
-pub length_wanted : (all : List (List ℕ)) → length (wanted_items all) ≡ range_count all
-length_wanted [] = refl
-length_wanted (item ∷ all) = by_option (wanted item (digits_behind all)) refl (same_range item (digits_behind all)) (length_wanted all)
+pub length_written : (all : List (List ℕ)) → length (written_items all) ≡ range_count all
+length_written [] = refl
+length_written (item ∷ all) = by_option (written item (digits_behind all)) refl (same_range item (digits_behind all)) (length_written all)
   where
     more : range_count (item ∷ all) ≡ cond (has_range item) 1 0 + range_count all
     more = omega (arith, sum_by-append (λ it. cond (has_range it) 1 0) (item ∷ []) all)
 
     by_option :
-        (o : Option Element) → wanted item (digits_behind all) ≡ o → is_some (wanted item (digits_behind all)) ≡ has_range item → length (wanted_items all) ≡ range_count all →
-        length (cons_option (wanted item (digits_behind all)) (wanted_items all)) ≡ range_count (item ∷ all)
+        (o : Option Element) → written item (digits_behind all) ≡ o → is_some (written item (digits_behind all)) ≡ has_range item → length (written_items all) ≡ range_count all →
+        length (cons_option (written item (digits_behind all)) (written_items all)) ≡ range_count (item ∷ all)
     by_option None none same others = grind (arith, nat_tests)
     by_option (Some e) some same others = grind (arith, nat_tests, more)
 

@@ -3,11 +3,11 @@ use Rattle.langtag_keyword.proofs.Common.{◌≡◌, ℕ, zero, suc, ◌+◌, �
 use Rattle.langtag_scan.proofs.Prelude.{ltb, onto_first, slice_get, slice_split, nil_from_length, get_or-map, slice_split-cons_yes, slice_split-cons_no, sum_by-cons, ForSome, both_ways, and_from, or_cases, or_right, ltb-true}
 use Rattle.langtag_scan.specs.Grammar.{IsTag}
 use Rattle.langtag_match.specs.AcceptLanguage.{StandsAt}
-use Rattle.langtag_range.specs.Definitions.{is_comma, items, listed}
+use Rattle.langtag_range.specs.Definitions.{basic_element, is_comma, items, listed}
 use Rattle.std.proofs.lemmas.Bool.{or_left}
 use Rattle.langtag_scan.proofs.Laws.{normal_from_runs, runs_from_normal, tag_normal, tag_private, tag_of_irregular}
 use Rattle.langtag_private.proofs.Rules.{IsPrivate-from_test, is_private_use-from_rule}
-use Rattle.langtag_c.specs.Spanned.{AreTagsAt, HasTag, IsTagAt, range_at, ranges_at}
+use Rattle.langtag_c.specs.Spanned.{AreTagsAt, HasTag, IsTagAt, range_at, ranges_at, written_at}
 use Rattle.langtag_c.specs.Spans.{HasBytes, empty_at, end_of, has_bytes, span_text}
 use Rattle.langtag_c.specs.TagsAt.{is_tag, tag_at, tags_at}
 use Rattle.langtag_scan.proofs.IrregularTexts.{alike_some}
@@ -104,6 +104,9 @@ range_there text span bytes has is = rw (test_from_bytes text span has, is) refl
 pub no_range : (text : List ℕ) (span : Span) → (HasBytes text span → ⊥) → None ≡ range_at text span
 no_range text span none = rw (false_from_ne_true (has_bytes text span) (λ yes. none (bytes_from_test text span yes))) refl
 
+few_written : (text : List ℕ) (spans : List Span) → length (written_at text spans) ≤ length spans
+few_written text [] = omega arith
+few_written text (span ∷ spans) = grind (arith, nat_tests, few_written text spans)
+
 pub few_ranges : (text : List ℕ) (spans : List Span) → length (ranges_at text spans) ≤ length spans
-few_ranges text [] = omega arith
-few_ranges text (span ∷ spans) = grind (arith, nat_tests, few_ranges text spans)
+few_ranges text spans = omega (arith, few_written text spans, length-map (written_at text spans) basic_element)

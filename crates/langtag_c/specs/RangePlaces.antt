@@ -1,12 +1,12 @@
 -- Where the ranges of an Accept-Language header are.
 use Rattle.std.specs.Prelude.{◌≡◌, ◌+◌, ℕ, Bool, not, List, [], Some, count_by, is_some, length, slice_get, take, unwrap_or, position}
 use Rattle.langtag_match.specs.AcceptLanguage.{StandsAt}
-use Rattle.langtag_range.specs.Definitions.{Element, is_space, items, wanted}
+use Rattle.langtag_range.specs.Definitions.{Element, is_space, items, written}
 use Rattle.langtag_c.specs.declared.span.Span.{Span}
 
 -- whether an item of a header has a range
 abbrev pub has_range : List ℕ → Bool
-has_range item = is_some (wanted item [])
+has_range item = is_some (written item [])
 
 -- the number of items that have a range
 abbrev pub range_count : List (List ℕ) → ℕ
@@ -25,6 +25,6 @@ pub record IsRangeAt (header : List ℕ) (place : ℕ) (span : Span) : Type 0 wh
   pub stands : StandsAt header item index start
   pub before : range_count (take index (items header)) ≡ place
   pub element : Element
-  pub read : wanted item [] ≡ Some element
+  pub read : written item [] ≡ Some element
   pub begins : span.start ≡ start + spaces_before item
   pub size : span.len ≡ length element.range

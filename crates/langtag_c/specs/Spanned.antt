@@ -1,7 +1,7 @@
 -- The tags and the language ranges in spans of a text.
-use Rattle.std.specs.Prelude.{◌≡◌, ◌<◌, ℕ, if◌then◌else◌, List, [], ◌∷◌, Option, None, MatchOption, length, slice_index_or}
+use Rattle.std.specs.Prelude.{◌≡◌, ◌<◌, ℕ, if◌then◌else◌, List, [], ◌∷◌, Option, None, MatchOption, length, map, slice_index_or}
 use Rattle.langtag_scan.specs.Grammar.{cons_option, IsTag}
-use Rattle.langtag_range.specs.Definitions.{Element, listed}
+use Rattle.langtag_range.specs.Definitions.{Element, basic_element, listed}
 use Rattle.langtag_c.specs.Spans.{HasBytes, empty_at, has_bytes, span_text}
 use Rattle.langtag_c.specs.declared.span.Span.{Span}
 
@@ -18,11 +18,15 @@ pub record AreTagsAt (text : List ℕ) (spans : List Span) (tags : List (Option 
   pub same_len : length tags ≡ length spans
   pub each : (index : ℕ) → index < length spans → IsTagAt text (slice_index_or spans index (empty_at 0)) (slice_index_or tags index None)
 
--- the language range in a span, with the weight 1, or `None` if the span is not a range
+-- the language range in a span as it is written, with the weight 1, or `None` if the span is not a range
 abbrev pub range_at : List ℕ → Span → Option Element
 range_at text span = if has_bytes text span then listed (span_text text span) else None
 
--- the language ranges in a list of spans, in order
+-- the language ranges in a list of spans as they are written, in order
+abbrev pub written_at : List ℕ → List Span → List Element
+written_at text [] = []
+written_at text (span ∷ spans) = cons_option (range_at text span) (written_at text spans)
+
+-- these ranges as they are read
 abbrev pub ranges_at : List ℕ → List Span → List Element
-ranges_at text [] = []
-ranges_at text (span ∷ spans) = cons_option (range_at text span) (ranges_at text spans)
+ranges_at text spans = map basic_element (written_at text spans)

@@ -1,7 +1,7 @@
 //! Spans of a string as tags and as language ranges.
 ghost use Rattle.std.specs.Prelude.{◌≡◌, [], IfSome, IsTrue, option_map};
 ghost use Rattle.langtag.specs.Definitions.{lang_tag_text};
-ghost use Rattle.langtag_range.specs.Definitions.{listed_element, is_language_range, hyphened};
+ghost use Rattle.langtag_range.specs.Definitions.{is_language_range, hyphened, written_element};
 ghost use Rattle.langtag_c.specs.Spanned.{IsTagAt, range_at};
 ghost use Rattle.langtag_c.specs.Spans.{HasBytes, span_text};
 
@@ -28,7 +28,7 @@ pub(crate) fn bytes_in<'a>(text: &'a [u8], span: Span) -> &'a [u8]
 /// Returns a span of a string as a language range, or `None` if it is not one.
 #[tactic(auto, using(crate::proofs::TagsAt::range_there, crate::proofs::TagsAt::no_range))]
 pub(crate) fn range_in<'a>(text: &'a [u8], span: Span) -> Option<WantedRange<'a>>
-    ensures range { option_map listed_element result ≡ range_at text.now span }
+    ensures range { option_map written_element result ≡ range_at text.now span }
     ensures in_class { IfSome result (λ found. IsTrue (is_language_range (hyphened found.bytes.now))) }
 {
     listed_range(span.of(text)?)

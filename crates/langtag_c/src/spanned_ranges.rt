@@ -1,5 +1,6 @@
 //! Language ranges as spans of a string.
-ghost use Rattle.langtag_c.specs.Spanned.{ranges_at};
+ghost use Rattle.std.specs.Prelude.{map};
+ghost use Rattle.langtag_c.specs.Spanned.{ranges_at, written_at};
 
 use crate::span::Span;
 use crate::spanned::range_in;
@@ -16,6 +17,8 @@ pub(crate) struct SpannedRanges<'a> {
 #[tactic(auto, using(crate::proofs::TagsAt::few_ranges))]
 impl<'a> RangeList<'a> for SpannedRanges<'a> {
     ghost elements = { λ ranges. ranges_at ranges.text.now ranges.spans.now };
+
+    ghost texts = { λ ranges. map (λ element. element.range) (written_at ranges.text.now ranges.spans.now) };
 
     fn split_range(self) -> Option<(WantedRange<'a>, SpannedRanges<'a>)> {
         let mut left = self.spans;

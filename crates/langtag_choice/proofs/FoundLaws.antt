@@ -139,18 +139,25 @@ module _ (elements : List Element) (tags : List (Option (List ℕ))) where
 
   -- what is said of what was found is a match
   pub match_found :
-      (o : Option Candidate) (c : Candidate) (m : BestMatch) → o ≡ Some c → IsBestFound elements tags o → m.index ≡ c.index → m.range.now ≡ c.range.now → m.place ≡ c.rank.place →
-      m.distance ≡ distance_of_texts (basic_text c.range.now) c.tag.now → IsMatchOf elements tags m
-  match_found o c m is found index range place distance =
+      (o : Option Candidate) (c : Candidate) (m : BestMatch) (range : List ℕ) → o ≡ Some c → IsBestFound elements tags o → m.index ≡ c.index → m.place ≡ c.rank.place → m.range.now ≡ range →
+      ((element : Element) → slice_get elements c.rank.place ≡ Some element → basic_text range ≡ element.range) → m.distance ≡ distance_of_texts (basic_text range) c.tag.now → IsMatchOf elements tags m
+  match_found o c m range is found index place written read distance =
       let best : IsBestOf elements tags c = subst (IsBestFound elements tags) is found in
+      let same = read best.pair.element (subst (λ k. slice_get elements k ≡ Some best.pair.element) best.place best.pair.wanted) in
       record {
         pair = best.pair;
         index = index ∙ sym best.index;
         place = place ∙ sym best.place;
-        range = ap basic_text range ∙ sym best.range;
-        distance = distance ∙ ap (λ r. distance_of_texts r c.tag.now) (sym best.range) ∙ ap (distance_of_texts best.pair.element.range) (sym best.tag);
+        range = ap basic_text written ∙ same;
+        distance = distance ∙ ap (λ r. distance_of_texts r c.tag.now) same ∙ ap (distance_of_texts best.pair.element.range) (sym best.tag);
         least = best.least;
       }
+
+  -- there is a range at the place of what was found
+  pub range_found : (o : Option Candidate) (c : Candidate) → o ≡ Some c → IsBestFound elements tags o → (slice_get elements c.rank.place ≡ None) → ⊥
+  range_found o c is found none =
+      let best : IsBestOf elements tags c = subst (IsBestFound elements tags) is found in
+      cc (best.place, best.pair.wanted, none)
 
 -- ---- where no range has the weight 0, no tag is refused
 

@@ -1,5 +1,5 @@
 -- The choice: the best of some tags for a reader's language ranges and their weights.
-use Rattle.std.specs.Prelude.{◌≡◌, ℕ, Bool, false, not, ◌&&◌, if◌then◌else◌, IsTrue, List, [], ◌∷◌, Option, Some, MatchOption, length, max, nat_lt, slice_get}
+use Rattle.std.specs.Prelude.{◌≡◌, ℕ, Bool, false, not, ◌&&◌, if◌then◌else◌, IsTrue, List, [], ◌∷◌, Option, Some, MatchOption, IfSome, length, max, nat_lt, slice_get}
 use Rattle.langtag_choice.specs.Distance.{distance_of_texts}
 use Rattle.langtag_choice.specs.Serves.{IsAtMost, is_excluded, is_wish, rank, serves}
 use Rattle.langtag_range.specs.Definitions.{Element, test_basic, is_star, basic_text}
@@ -61,3 +61,7 @@ pub record IsMatchOf (elements : List Element) (tags : List (Option (List ℕ)))
 -- the match of the pair with the least rank, or `None` if there is no pair
 abbrev pub IsMatch : List Element → List (Option (List ℕ)) → Option BestMatch → Type 0
 IsMatch elements tags answer = MatchOption answer (Pair elements tags → ⊥) (IsMatchOf elements tags)
+
+-- the range of the match is the one at its place in the list, as it is written there
+abbrev pub IsWritten : List (List ℕ) → Option BestMatch → Type 0
+IsWritten ranges answer = IfSome answer (λ found. slice_get ranges found.place ≡ Some found.range.now)

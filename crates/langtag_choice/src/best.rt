@@ -2,20 +2,20 @@
 //! no distance, so each law of the choice would need a second case.
 ghost use Rattle.std.specs.Prelude.{◌≡◌, ◌<◌, IsTrue, length, option_map};
 ghost use Rattle.langtag_scan.specs.Prelude.{list_any};
-ghost use Rattle.langtag_range.specs.Definitions.{basic_text, wanted_elements};
+ghost use Rattle.langtag_range.specs.Definitions.{basic_text, hyphened, is_language_range, wanted_elements};
 ghost use Rattle.langtag_match.specs.Text.{accept_language_ranges};
 ghost use Rattle.langtag_choice.specs.Best as spec;
 ghost use Rattle.langtag_choice.specs.Serves.{is_excluded};
 ghost use Rattle.langtag_choice.specs.ChoiceLaws as laws;
 ghost use Rattle.langtag_choice.specs.Distance.{distance_of_texts};
 ghost use Rattle.langtag_choice.specs.Found.{IsBestFound, is_unrefused_at};
-ghost use Rattle.langtag_choice.specs.ListTexts.{ordered_elements, tag_texts, weighted_elements};
+ghost use Rattle.langtag_choice.specs.ListTexts.{header_ranges, ordered_elements, tag_texts, weighted_elements};
 
 use crate::best_match::BestMatch;
 use crate::by_ranges::first_by_ranges;
 use crate::by_tags::first_by_tags;
 use crate::candidate::{Candidate, index_of};
-use crate::range_list::RangeList;
+use crate::range_list::{RangeList, range_at};
 use crate::refused::is_refused;
 use crate::tag_distance::range_distance;
 use crate::tag_list::{TagList, Tags};
@@ -96,6 +96,7 @@ pub fn match_for_header<'a>(header: &'a [u8], tags: &[LangTag<'_>]) -> Option<Be
     // law: the index is that of the chosen tag; the range and the distance belong to the pair of range and tag that was
     // chosen
     ensures found { spec.IsMatch (wanted_elements header.now) (tag_texts tags.now) result }
+    ensures written { spec.IsWritten (header_ranges header.now) result }
     ensures choice { spec.IsChoice (wanted_elements header.now) (tag_texts tags.now) (option_map (λ found. found.index) result) }
     ensures cloned { (found copy : BestMatch) → ⟦<BestMatch<'a> as Clone>⟧.is_clone found copy → copy ≡ found }
     ensures clone_succeeds { (found : BestMatch) → ⟦<BestMatch<'a> as Clone>⟧.is_infallible found }
@@ -130,24 +131,27 @@ pub fn match_for_header<'a>(header: &'a [u8], tags: &[LangTag<'_>]) -> Option<Be
 /// ```
 pub fn match_among<'a, R: RangeList<'a>, T: TagList>(ranges: R, tags: &T) -> Option<BestMatch<'a>>
     ensures found { spec.IsMatch (R.elements ranges) (T.texts tags.now) result }
+    ensures written { spec.IsWritten (R.texts ranges) result }
     ensures choice { spec.IsChoice (R.elements ranges) (T.texts tags.now) (option_map (λ found. found.index) result) }
 {
     let found = best(ranges, tags)?;
-    Some(match_of(found))
+    let range = range_at(ranges, found.rank.place)?;
+    Some(match_of(found, range))
 }
 
-/// Converts the chosen candidate to a [`BestMatch`].
-fn match_of<'a>(found: Candidate<'a, '_>) -> BestMatch<'a>
+/// Converts the chosen candidate, and its range as it is written, to a [`BestMatch`].
+fn match_of<'a>(found: Candidate<'_, '_>, range: &'a [u8]) -> BestMatch<'a>
+    requires in_class { IsTrue (is_language_range (hyphened range.now)) }
     ensures index { result.index ≡ found.entry.index }
-    ensures range { result.range.now ≡ found.entry.range.now }
+    ensures range { result.range.now ≡ range.now }
     ensures place { result.place ≡ found.entry.rank.place }
-    ensures distance { result.distance ≡ distance_of_texts (basic_text found.entry.range.now) found.entry.tag.now }
+    ensures distance { result.distance ≡ distance_of_texts (basic_text range.now) found.entry.tag.now }
 {
     BestMatch {
         index: found.index,
-        range: found.range,
+        range,
         place: found.rank.place,
-        distance: range_distance(found.range, found.tag),
+        distance: range_distance(range, found.tag),
     }
 }
 

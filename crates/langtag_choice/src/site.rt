@@ -3,7 +3,7 @@
 //! in the caller's array in C, and a tag whose language is far from that of a range costs few instructions anyway.
 ghost use Rattle.std.specs.Prelude.{◌≡◌, option_map};
 ghost use Rattle.langtag_choice.specs.Best as spec;
-ghost use Rattle.langtag_choice.specs.ListTexts.{ordered_elements, tag_texts, weighted_elements};
+ghost use Rattle.langtag_choice.specs.ListTexts.{header_ranges, ordered_elements, tag_texts, weighted_elements};
 ghost use Rattle.langtag_choice.specs.Sites.{prepared_tags};
 ghost use Rattle.langtag_match.specs.Text.{accept_language_ranges};
 ghost use Rattle.langtag_range.specs.Definitions.{wanted_elements};
@@ -80,6 +80,7 @@ impl<'s, 't> Site<'s, 't> {
     /// [`match_for_header`](crate::match_for_header) does.
     pub fn match_for_header<'a>(self, header: &'a [u8]) -> Option<BestMatch<'a>>
         ensures found { spec.IsMatch (wanted_elements header.now) (tag_texts (prepared_tags self.entry.tags.now)) result }
+        ensures written { spec.IsWritten (header_ranges header.now) result }
         ensures choice { spec.IsChoice (wanted_elements header.now) (tag_texts (prepared_tags self.entry.tags.now)) (option_map (λ found. found.index) result) }
     {
         match_among(header, &self)

@@ -5,7 +5,7 @@ pub use Rattle.langtag_range.specs.Element.{items, is_comma, Element, is_ows, fr
 unfoldable pub use Rattle.langtag_range.specs.Element.{element}
 pub use Rattle.langtag_range.specs.Extended.{test_extended, StandAmong, without_stars, stand_among, have_no_single, MatchesExtended, match_subtags}
 pub use Rattle.langtag_range.specs.Fallback.{fallbacks, before_hyphens, ends_in_single}
-pub use Rattle.langtag_range.specs.Listed.{listed_element}
+pub use Rattle.langtag_range.specs.Listed.{basic_element, listed_element}
 unfoldable pub use Rattle.langtag_range.specs.Listed.{listed, basic_text}
 pub use Rattle.langtag_range.specs.Locale.{locale_place, is_hash, ends_locale, place_before, without_mark, front_of}
 pub use Rattle.langtag_range.specs.Range.{is_star, is_language_range, is_basic_range, are_extended_range, is_range_subtag, is_first_subtag, are_basic_range, are_basic_subtags, are_range_subtags}

@@ -5,7 +5,7 @@ use Rattle.langtag_range.specs.Element.{Element, trimmed}
 use Rattle.langtag_range.specs.Locale.{locale_place}
 use Rattle.langtag_range.specs.BasicForm.{basic_form}
 use Rattle.langtag_range.specs.Range.{is_language_range}
-use Rattle.langtag_range.specs.Wanted.{hyphened}
+use Rattle.langtag_range.specs.Wanted.{hyphened, written_element}
 use Rattle.langtag_range.specs.declared.wanted.WantedRange.{WantedRange}
 
 -- the basic range for a text: each "_" is read as "-", and then each "-*" is left out (RFC 4647 section 3.2)
@@ -17,12 +17,14 @@ basic_text text = basic_form (hyphened text)
 abbrev pub listed_text : List ℕ → List ℕ
 listed_text text = locale_place (trimmed text)
 
--- the element that a text is read as, with the weight 1, or none if the text has no language range
+-- the element of a text as it is written, with the weight 1, or none if the text has no language range
 unfoldable pub listed : List ℕ → Option Element
-listed text =
-    if is_language_range (hyphened (listed_text text)) then Some (record { range = basic_text (listed_text text); weight = 1000 })
-    else None
+listed text = if is_language_range (hyphened (listed_text text)) then Some (record { range = listed_text text; weight = 1000 }) else None
+
+-- the element as lookup reads it
+abbrev pub basic_element : Element → Element
+basic_element element = record { range = basic_text element.range; weight = element.weight }
 
 -- the element for a range that was read in this way
 abbrev pub listed_element : WantedRange → Element
-listed_element found = record { range = basic_text found.bytes.now; weight = found.weight }
+listed_element found = basic_element (written_element found)

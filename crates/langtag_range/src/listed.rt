@@ -2,7 +2,7 @@
 ghost use Rattle.std.specs.Prelude.{◌≡◌, IfSome, IsTrue, option_map};
 ghost use Rattle.langtag_scan.specs.Prelude.{slice_split};
 ghost use Rattle.langtag_range.specs.Listed as spec;
-ghost use Rattle.langtag_range.specs.Definitions.{are_range_subtags, is_language_range, hyphened, is_separator};
+ghost use Rattle.langtag_range.specs.Definitions.{are_range_subtags, is_language_range, hyphened, is_separator, written_element};
 
 use crate::locale::locale_place;
 use crate::range_text::{is_first_subtag, is_range_subtag};
@@ -21,7 +21,7 @@ use crate::wanted_element::{is_separator, is_star, trimmed};
 /// ```
 #[tactic(auto, unfolding(crate::specs::Listed::listed))]
 pub fn listed_range(text: &[u8]) -> Option<WantedRange<'_>>
-    ensures listed { option_map spec.listed_element result ≡ spec.listed text.now }
+    ensures listed { option_map written_element result ≡ spec.listed text.now }
     ensures in_class { IfSome result (λ found. IsTrue (is_language_range (hyphened found.bytes.now))) }
 {
     let bytes = locale_place(trimmed(text));

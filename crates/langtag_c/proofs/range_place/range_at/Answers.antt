@@ -1,5 +1,5 @@
-use Rattle.langtag_scan.proofs.Prelude.{◌+◌, arith, length, refl, rules, sym, tests, ap, YieldsList-from_slice_split, YieldsList-at, YieldsList-turn, YieldsList-end, length-map, take_all}
-use Rattle.langtag_range.specs.Definitions.{is_comma, items, hyphened_byte, wanted_element}
+use Rattle.langtag_scan.proofs.Prelude.{◌+◌, arith, length, refl, rules, tests, ap, YieldsList-from_slice_split, YieldsList-at, YieldsList-turn, YieldsList-end, take_all}
+use Rattle.langtag_range.specs.Definitions.{is_comma, items, written_element}
 use Rattle.langtag_c.specs.RangePlaces.{range_count}
 use Rattle.langtag_c.proofs.LookUps.{is_range_at, no_more, one_more, spaces_within, width-next, width_fits}
 use Rattle.langtag_c.proofs.range_place.range_at.Goals.{in-Some-split_wanted+else-left-eq0, in_default}
@@ -20,9 +20,9 @@ returns-then-left-eq0-clause-some c =
     let (below, here) = YieldsList-turn
     (YieldsList-at {s = c.into_iter-item-iterator.result} (cc) (YieldsList-from_slice_split {s = c.split-item-items.result} _ is_comma c.args.header.now c.split-item-items.ensures.rest c.split-item-items.ensures.done c.split-item-items.ensures.closure (λ x r q k. search (rules, tests))))
     c.loop-item.yielded _ c.loop-item.yielded_by _ _ c.in-Some.item c.in-Some.is c.next.ensures.steps in
-    is_range_at c.args.header.now c.in-Some.item.now (length c.loop-item.yielded) below here c.loop-item.start c.args.place _ (wanted_element c.in-Some-split_wanted.wanted) _ c.loop-item.invariant.begins
+    is_range_at c.args.header.now c.in-Some.item.now (length c.loop-item.yielded) below here c.loop-item.start c.args.place _ (written_element c.in-Some-split_wanted.wanted) _ c.loop-item.invariant.begins
     (omega (arith, c.loop-item.invariant.count, c.if-left-eq0.true)) c.in-Some-split_wanted.ensures.first
-    (ap (λ n. c.loop-item.start + n) c.spaces_before.ensures) (sym (length-map c.in-Some-split_wanted.wanted.bytes.now hyphened_byte))
+    (ap (λ n. c.loop-item.start + n) c.spaces_before.ensures) refl
 
 pub overflow_add-start-in-loop-item : goal.overflow_add-start-in-loop-item
 overflow_add-start-in-loop-item c =
