@@ -125,7 +125,6 @@ module _ (elements : List Element) (tags : List (Option (List ℕ))) where
             record {
               pair = record { place = c.rank.place; element = at.element; wanted = at.wanted; index = c.index; tag = entry.0; there = entry.1; served = at.served; unrefused = entry.2 };
               place = refl;
-              range = at.range;
               index = refl;
               tag = sym at.tag;
               least = λ other. subst (λ ranks. IsAtMost ranks (rank_of_pair elements tags other)) at.same_rank (subst (λ o. IsNotAfter o (rank_of_pair elements tags other)) is (covers other));

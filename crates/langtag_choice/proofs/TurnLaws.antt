@@ -55,7 +55,6 @@ module _ (elements : List Element) (tags : List (Option (List ℕ))) (bar : Opti
         record {
           pair = record { place = c.rank.place; element = of.at.element; wanted = of.at.wanted; index = c.index; tag = of.tag; there = of.there; served = of.at.served; unrefused = of.unrefused };
           place = refl;
-          range = of.at.range;
           index = refl;
           tag = sym of.at.tag;
           least = λ other. subst (λ ranks. IsAtMost ranks (rank_of_pair elements tags other)) of.at.same_rank (first_least c is other);

@@ -131,7 +131,6 @@ is_flagged start flags index = nat_le start index && slice_index_or flags (index
 pub record IsBestOf (elements : List Element) (tags : List (Option (List ℕ))) (c : Candidate) : Type 0 where
   pub pair : Pair elements tags
   pub place : pair.place ≡ c.rank.place
-  pub range : pair.element.range ≡ basic_text c.range.now
   pub index : pair.index ≡ c.index
   pub tag : pair.tag ≡ c.tag.now
   pub least : (other : Pair elements tags) → IsAtMost (rank_of_pair elements tags pair) (rank_of_pair elements tags other)

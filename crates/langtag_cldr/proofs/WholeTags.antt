@@ -2,7 +2,7 @@
 use Rattle.langtag_scan.proofs.Prelude.{◌≡◌, ℕ, true, false, Bool, not, codes, Some, None, List, [], ◌∷◌, inl, inr, refl, sym, ap, ◌∙◌, arith, cond, map, take_while-cons, slice_split, find, Bor, subst, ◌-◌, ◌<◌, ◌≤◌, ◌==◌, ◌&&◌, ◌||◌, ◌⊎◌, length, get_or, take, drop, list_all, bytes_eq, before_first, after_first, nat_tests, common_steps, and_parts, both_ways, false_from_ne_true, option_map, length-take}
 use Rattle.std.specs.Bool.{nat_le}
 use Rattle.langtag_scan.specs.Grammar.{is_digit, is_extended, is_private_subtag, is_letter, are_alike, are_alike-decides, fold_byte, fold_text}
-use Rattle.langtag_scan.proofs.CaseLaw.{is_letter-fold, length-fold}
+use Rattle.langtag_scan.proofs.CaseLaw.{fold_byte-twice, is_letter-fold, length-fold}
 use Rattle.langtag_scan.proofs.Disjoint.{extended_three}
 use Rattle.langtag_fields.specs.Entry.{Entry, value_for}
 use Rattle.langtag_fields.specs.Fields.{preferred_tag}
@@ -11,7 +11,7 @@ use Rattle.langtag_fields.proofs.Values.{value_good}
 use Rattle.langtag_range.specs.Definitions.{basic_text, hyphened, hyphened_byte, is_language_range, is_separator}
 use Rattle.langtag_range.proofs.AlikeTexts.{mark-fold}
 use Rattle.langtag_range.proofs.BasicForms.{hyphened_range}
-use Rattle.langtag_cldr.specs.Definitions.{KeepsLanguage, begins_counted, begins_replaced, current_text, fields_of_subtags, follows_none, text_fields, BeginsPlain}
+use Rattle.langtag_cldr.specs.Definitions.{KeepsLanguage, begins_british, begins_counted, begins_replaced, current_text, fields_of_subtags, follows_none, text_fields, BeginsPlain}
 use Rattle.langtag_cldr.proofs.CommonTexts.{parts_read, read_byte, read_nothing, length_read, rest_of, unmarked}
 
 -- ---- a Preferred-Value has no "_"
@@ -187,8 +187,9 @@ follows_none-fold : (text : List ℕ) → follows_none (fold_text text) ≡ foll
 follows_none-fold [] = refl
 follows_none-fold (a ∷ []) = refl
 follows_none-fold (a ∷ b ∷ []) = refl
-follows_none-fold (a ∷ b ∷ c ∷ []) = rw (is_letter-fold a) refl
-follows_none-fold (a ∷ b ∷ c ∷ d ∷ text) = rw (is_letter-fold a, mark-fold 45 (omega arith) c, mark-fold 45 (omega arith) d, length-fold text) refl
+follows_none-fold (a ∷ b ∷ c ∷ []) = rw (is_letter-fold a, fold_byte-twice a, fold_byte-twice b, mark-fold 45 (omega arith) b, mark-fold 45 (omega arith) c) refl
+follows_none-fold (a ∷ b ∷ c ∷ d ∷ text) =
+    rw (is_letter-fold a, fold_byte-twice a, fold_byte-twice b, mark-fold 45 (omega arith) b, mark-fold 45 (omega arith) c, mark-fold 45 (omega arith) d, length-fold text) refl
 
 -- a separator is after two bytes that are a subtag
 mark_after : (x y m : ℕ) (text : List ℕ) → length (before_first is_separator (x ∷ y ∷ m ∷ text)) ≡ 2 → is_separator m ≡ true
@@ -279,6 +280,45 @@ keeps_other (x ∷ text) some counted other = record { counted = counted; extend
   where
     unlike : follows_none (basic_text (x ∷ text)) ≡ true
     unlike = rw (plain_read x text (counted_free x text counted), other) (grind (arith, nat_tests))
+
+-- a subtag of one character comes first
+pub keeps_single :
+    (text : List ℕ) → 3 ≤ length text → begins_counted (get_or text 0 0 ∷ []) ≡ true → is_separator (get_or text 1 0) ≡ true → begins_counted (get_or text 2 0 ∷ []) ≡ true → KeepsLanguage text
+keeps_single [] some counted mark next = absurd (omega (arith, some))
+keeps_single (x ∷ []) some counted mark next = absurd (omega (arith, some))
+keeps_single (x ∷ m ∷ []) some counted mark next = absurd (omega (arith, some))
+keeps_single (x ∷ m ∷ z ∷ text) some counted mark next = record { counted = counted; extended = single_extended; unlike = unlike }
+  where
+    free : is_separator x ≡ false
+    free = counted_free x (m ∷ z ∷ text) counted
+
+    single_extended : is_extended (before_first is_separator (x ∷ m ∷ z ∷ text)) ≡ false
+    single_extended = let first = ap length (unmarked x (m ∷ z ∷ text) free) in grind (arith, common_steps, false_from_ne_true, extended_three, cut m (z ∷ text), first)
+
+    unlike : follows_none (basic_text (x ∷ m ∷ z ∷ text)) ≡ true
+    unlike = rw (plain_read x (m ∷ z ∷ text) free, mark_read m (z ∷ text) mark next) (grind (arith, nat_tests))
+
+-- a subtag of two characters comes first, which is not `gb`
+pub keeps_pair :
+    (text : List ℕ) → 4 ≤ length text → begins_counted (get_or text 0 0 ∷ []) ≡ true → is_separator (get_or text 1 0) ≡ false → is_separator (get_or text 2 0) ≡ true → begins_counted (get_or text 3 0 ∷ []) ≡ true →
+    begins_british (get_or text 0 0 ∷ get_or text 1 0 ∷ []) ≡ false → KeepsLanguage text
+keeps_pair [] some counted second mark next other = absurd (omega (arith, some))
+keeps_pair (x ∷ []) some counted second mark next other = absurd (omega (arith, some))
+keeps_pair (x ∷ y ∷ []) some counted second mark next other = absurd (omega (arith, some))
+keeps_pair (x ∷ y ∷ m ∷ []) some counted second mark next other = absurd (omega (arith, some))
+keeps_pair (x ∷ y ∷ m ∷ z ∷ text) some counted second mark next other = record { counted = counted; extended = pair_extended; unlike = unlike }
+  where
+    free : is_separator x ≡ false
+    free = counted_free x (y ∷ m ∷ z ∷ text) counted
+
+    pair_extended : is_extended (before_first is_separator (x ∷ y ∷ m ∷ z ∷ text)) ≡ false
+    pair_extended =
+        let first = ap length (unmarked x (y ∷ m ∷ z ∷ text) free) in
+        let both = ap length (unmarked y (m ∷ z ∷ text) second) in
+        grind (arith, common_steps, false_from_ne_true, extended_three, cut m (z ∷ text), first, both)
+
+    unlike : follows_none (basic_text (x ∷ y ∷ m ∷ z ∷ text)) ≡ true
+    unlike = rw (plain_read x (y ∷ m ∷ z ∷ text) free, plain_read y (m ∷ z ∷ text) second, mark_read m (z ∷ text) mark next, other) (grind (arith, nat_tests))
 
 module _ (x y z w : ℕ) (a : is_separator x ≡ false) (b : is_separator y ≡ false) (c : is_separator z ≡ false) (d : is_separator w ≡ false) where
   four_read : (text : List ℕ) → basic_text (x ∷ y ∷ z ∷ w ∷ text) ≡ x ∷ y ∷ z ∷ w ∷ basic_text text

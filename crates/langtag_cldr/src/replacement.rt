@@ -4,7 +4,7 @@ ghost use Rattle.std.specs.Prelude.{◌≡◌, ◌≤◌, ◌⊎◌, ◌∷◌, 
 ghost use Rattle.langtag_scan.specs.Grammar.{after_first, are_alike, before_first, fold_byte, is_letter};
 ghost use Rattle.langtag_fields.specs.Fields.{preferred_tag};
 ghost use Rattle.langtag_range.specs.Definitions.{basic_text, is_separator};
-ghost use Rattle.langtag_cldr.specs.Definitions.{KeepsLanguage, begins_counted, begins_replaced};
+ghost use Rattle.langtag_cldr.specs.Definitions.{KeepsLanguage, begins_british, begins_counted, begins_replaced};
 
 use crate::read_text::are_alike;
 use langtag_fields::preferred_tags;
@@ -75,22 +75,29 @@ fn begins_replaced(first: u8, second: u8) -> bool
 
 /// Returns `false` only if a string after a language of two letters keeps this language: it begins with no extended
 /// language, and no tag that is replaced as a whole goes on like this.
-#[tactic(auto, using(crate::proofs::WholeTags::keeps_none, crate::proofs::WholeTags::keeps_few, crate::proofs::WholeTags::keeps_other, crate::proofs::WholeTags::keeps_long))]
+#[tactic(auto, using(crate::proofs::WholeTags::keeps_none, crate::proofs::WholeTags::keeps_few, crate::proofs::WholeTags::keeps_other, crate::proofs::WholeTags::keeps_single, crate::proofs::WholeTags::keeps_pair, crate::proofs::WholeTags::keeps_long))]
 pub fn may_change_language(text: &[u8]) -> bool
     ensures { result ≡ false → KeepsLanguage text.now }
 {
     match text {
         [first, ..] if !begins_counted(*first) => true,
+        [_, mark, next, ..] if is_separator(*mark) => !begins_counted(*next),
+        [first, second, mark, next, ..] if is_separator(*mark) => {
+            !begins_counted(*next) || is_british(*first, *second)
+        }
         [first, _, _] => is_letter(*first),
-        [first, second, third, fourth, rest @ ..] => {
-            is_letter(*first)
-                && (is_separator(*second)
-                    || is_separator(*third)
-                    || is_separator(*fourth)
-                    || ends_soon(rest))
+        [first, _, _, fourth, rest @ ..] => {
+            is_letter(*first) && (is_separator(*fourth) || ends_soon(rest))
         }
         _ => false,
     }
+}
+
+/// Returns whether two letters are `gb`, in any case.
+fn is_british(first: u8, second: u8) -> bool
+    ensures { result ≡ begins_british (first ∷ second ∷ []) }
+{
+    (into_smallcase(first), into_smallcase(second)) == (b'g', b'b')
 }
 
 /// Returns `false` only if a string is empty, or has a second byte that is neither a separator nor `*`.
