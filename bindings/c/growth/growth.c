@@ -89,21 +89,23 @@ FUNCTION(without_keyword, result = langtag_without_keyword(text, len, "zz", 2, b
 #define ENTRY(name) {#name, name},
 static const struct function functions[] = {LANGTAG_FUNCTIONS(ENTRY){"best_of_tags", best_of_tags}};
 
-/* The choice for a header that names one range again and again, among the first tags of a site: ten languages, each with many regions. */
+/* The choice for a header that names one range again and again, among the first tags of a site: ten languages, each with many regions.
+ * Every second tag has private use. */
 #define MOST_TAGS 1000
-static char site_text[5 * MOST_TAGS];
+#define TAG_SIZE 9
+static char site_text[TAG_SIZE * MOST_TAGS];
 static langtag_span site_spans[MOST_TAGS];
 static langtag_prepared_tag site[MOST_TAGS];
 static size_t site_count;
 
 static void write_site(void) {
     for (size_t at = 0; at < MOST_TAGS; at++) {
-        char *tag = site_text + 5 * at;
+        char *tag = site_text + TAG_SIZE * at;
+        memcpy(tag, "en-AA-x-a", TAG_SIZE);
         memcpy(tag, "endefresptitnlsvarzh" + at % 10 * 2, 2);
-        tag[2] = '-';
         tag[3] = (char)('A' + at / 260);
         tag[4] = (char)('A' + at / 10 % 26);
-        site[at].tag = site_spans[at] = (langtag_span){5 * at, 5};
+        site[at].tag = site_spans[at] = (langtag_span){TAG_SIZE * at, at % 2 == 0 ? 5 : TAG_SIZE};
         langtag_prepare(site_text, sizeof site_text, &site[at]);
     }
 }

@@ -21,6 +21,7 @@ pub(crate) fn first_two(text: &[u8]) -> Option<(u8, u8)>
 
 /// Returns `true` only if the first subtag of a string has at most two characters, and what follows keeps the language:
 /// `zh-Hant` stays `zh`, but `zh-yue` and `zh-hakka` are `yue` and `hak`.
+#[inline(always)]
 pub(crate) fn is_short(text: &[u8]) -> bool
     ensures { IsTrue result → spec.IsShort text.now }
 {

@@ -76,6 +76,7 @@ fn begins_replaced(first: u8, second: u8) -> bool
 /// Returns `false` only if a string after a language of two letters keeps this language: it begins with no extended
 /// language, and no tag that is replaced as a whole goes on like this.
 #[tactic(auto, using(crate::proofs::WholeTags::keeps_none, crate::proofs::WholeTags::keeps_few, crate::proofs::WholeTags::keeps_other, crate::proofs::WholeTags::keeps_single, crate::proofs::WholeTags::keeps_pair, crate::proofs::WholeTags::keeps_long))]
+#[inline(always)]
 pub fn may_change_language(text: &[u8]) -> bool
     ensures { result ≡ false → KeepsLanguage text.now }
 {

@@ -7,7 +7,7 @@ use crate::erased::choice::best_match::BestMatch;
 use crate::erased::choice::by_ranges::first_by_ranges;
 use crate::erased::choice::by_tags::first_by_tags;
 use crate::erased::choice::candidate::{index_of, Candidate};
-use crate::erased::choice::range_list::RangeList;
+use crate::erased::choice::range_list::{range_at, RangeList};
 use crate::erased::choice::refused::is_refused;
 use crate::erased::choice::tag_distance::range_distance;
 use crate::erased::choice::tag_list::{TagList, Tags};
@@ -139,17 +139,18 @@ pub fn match_for_header<'a>(header: &'a [u8], tags: &[LangTag<'_>]) -> Option<Be
 #[must_use]
 pub fn match_among<'a, R: RangeList<'a>, T: TagList>(ranges: R, tags: &T) -> Option<BestMatch<'a>> {
     let found = best(ranges, tags)?;
-    Some(match_of(found))
+    let range = range_at(ranges, found.rank.place)?;
+    Some(match_of(found, range))
 }
 
-/// Converts the chosen candidate to a [`BestMatch`].
+/// Converts the chosen candidate, and its range as it is written, to a [`BestMatch`].
 #[inline]
-fn match_of<'a>(found: Candidate<'a, '_>) -> BestMatch<'a> {
+fn match_of<'a>(found: Candidate<'_, '_>, range: &'a [u8]) -> BestMatch<'a> {
     BestMatch {
         index: found.index,
-        range: found.range,
+        range,
         place: found.rank.place,
-        distance: range_distance(found.range, found.tag),
+        distance: range_distance(range, found.tag),
     }
 }
 

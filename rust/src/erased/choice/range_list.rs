@@ -57,3 +57,17 @@ impl<'a> RangeList<'a> for &'a [LanguageRange<'a>] {
         Some((wanted, rest))
     }
 }
+
+/// Returns the bytes of the range with `place` ranges before it.
+pub(crate) fn range_at<'a, R: RangeList<'a>>(ranges: R, place: usize) -> Option<&'a [u8]> {
+    let mut before = place;
+    let mut left = ranges;
+    while let Some((wanted, rest)) = left.split_range() {
+        if before == 0 {
+            return Some(wanted.bytes);
+        }
+        before -= 1;
+        left = rest;
+    }
+    None
+}

@@ -44,7 +44,7 @@ fn first_alike(
 #[inline(always)]
 fn may_be_replaced(first: &[u8], rest: &[u8]) -> bool {
     match first {
-        [] | [_] => true,
+        [] | [_] => !rest.is_empty(),
         [first, second] => may_change_language(rest) && begins_replaced(*first, *second),
         [_, _, _] => case_insensitive_eq(first, b"sgn") || case_insensitive_eq(first, b"art"),
         _ => false,
@@ -61,20 +61,27 @@ fn begins_replaced(first: u8, second: u8) -> bool {
 
 /// Returns `false` only if a string after a language of two letters keeps this language: it begins
 /// with no extended language, and no tag that is replaced as a whole goes on like this.
+#[inline(always)]
 #[must_use]
 pub fn may_change_language(text: &[u8]) -> bool {
     match text {
         [first, ..] if !begins_counted(*first) => true,
+        [_, mark, next, ..] if is_separator(*mark) => !begins_counted(*next),
+        [first, second, mark, next, ..] if is_separator(*mark) => {
+            !begins_counted(*next) || is_british(*first, *second)
+        }
         [first, _, _] => is_letter(*first),
-        [first, second, third, fourth, rest @ ..] => {
-            is_letter(*first)
-                && (is_separator(*second)
-                    || is_separator(*third)
-                    || is_separator(*fourth)
-                    || ends_soon(rest))
+        [first, _, _, fourth, rest @ ..] => {
+            is_letter(*first) && (is_separator(*fourth) || ends_soon(rest))
         }
         _ => false,
     }
+}
+
+/// Returns whether two letters are `gb`, in any case.
+#[inline]
+fn is_british(first: u8, second: u8) -> bool {
+    (into_smallcase(first), into_smallcase(second)) == (b'g', b'b')
 }
 
 /// Returns `false` only if a string is empty, or has a second byte that is neither a separator nor
