@@ -1,5 +1,5 @@
 -- What is said of the best tag for a reader, of the range that it serves, and of tags that are prepared.
-use Rattle.langtag_scan.proofs.Prelude.{◌≡◌, ℕ, ◌<◌, ◌≤◌, List, length, Option, None, Some, unwrap_or, sym, subst, arith, true, false, true≢false, Bool, not, ◌||◌, Bor, [], ◌∷◌, get_or, option_map, refl, ap, ◌∙◌, slice_get, common_steps, length-map, get_or-map, slice_get_within, slice_get-map, and_parts, nat_tests, list_all, IfSome}
+use Rattle.langtag_scan.proofs.Prelude.{◌≡◌, ℕ, ◌<◌, ◌≤◌, List, length, Option, None, Some, unwrap_or, sym, subst, arith, true, false, true≢false, Bool, not, ◌||◌, Bor, [], ◌∷◌, get_or, refl, ap, ◌∙◌, common_steps, length-map, get_or-map, slice_get_within, and_parts, nat_tests, IfSome}
 use Rattle.langtag_match.specs.Definitions.{Element, items, hyphened_element, wanted_elements, written_elements}
 use Rattle.langtag_choice.specs.Best.{IsChoice, IsMatchOf, Pair}
 use Rattle.langtag_choice.specs.Suitable.{AreSuitable}
@@ -13,7 +13,7 @@ use Rattle.langtag_c.specs.Choice.{AreBest, IsBest, IsMatchAt, no_match}
 use Rattle.langtag_c.specs.declared.best_match.BestMatch.{BestMatch}
 use Rattle.langtag_choice.specs.Prepared.{is_prepared_for}
 use Rattle.langtag_c.specs.Site as site
-use Rattle.langtag_c.specs.Site.{ArePrepared, IsCurrentAt, current_tag_at, current_tags_at, is_current, spans_of}
+use Rattle.langtag_c.specs.Site.{current_tag_at, current_tags_at, is_current}
 use Rattle.langtag_choice.specs.declared.prepared_form.PreparedForm.{PreparedForm}
 use Rattle.langtag_c.specs.declared.prepare.PreparedTag.{PreparedTag}
 use Rattle.langtag_choice.specs.declared.best_match.BestMatch as choice
@@ -149,44 +149,7 @@ no_entry = record { tag = empty_at 0; form = record { number = 0; letters = []; 
 pub some_borrowed : (a b : Bor PreparedForm) → Some a ≡ Some b → a ≡ b
 some_borrowed a b is = cc
 
--- ---- all entries
-
--- if all entries are current, the tags are those in the spans
-pub all_current : (text : List ℕ) (tags : List PreparedTag) → ArePrepared text tags → current_tags_at text tags ≡ tags_at text (spans_of tags)
-all_current text [] prepared = refl
-all_current text (p ∷ tags) prepared =
-    let parts = and_parts (is_current text p) (list_all (is_current text) tags) prepared in
-    ap (λ t. t ∷ current_tags_at text tags) (current_there text p parts.0) ∙ ap (λ ts. tag_at text p.tag ∷ ts) (all_current text tags parts.1)
-
-pub span_count : (tags : List PreparedTag) → length (spans_of tags) ≡ length tags
-span_count tags = length-map tags (λ p. p.tag)
-
 -- ---- the choice
-
-module _ (elements : List Element) (text : List ℕ) (tags : List PreparedTag) (chosen : Option ℕ) (answer : ℕ)
-    (choice : IsChoice elements (current_tags_at text tags) chosen) (is : answer ≡ unwrap_or chosen (length tags)) where
-  pub site_best : ArePrepared text tags → IsBest elements text (spans_of tags) answer
-  site_best prepared =
-      is_best elements text (spans_of tags) chosen answer (subst (λ ts. IsChoice elements ts chosen) (all_current text tags prepared) choice)
-      (is ∙ ap (unwrap_or chosen) (sym (span_count tags)))
-
-some_same : (a b : Option (List ℕ)) → Some a ≡ Some b → a ≡ b
-some_same a b is = cc
-
--- what is chosen is current
-pub site_current :
-    (elements : List Element) (text : List ℕ) (tags : List PreparedTag) (chosen : Option ℕ) (answer : ℕ) → IsChoice elements (current_tags_at text tags) chosen →
-    answer ≡ unwrap_or chosen (length tags) → IsCurrentAt text tags answer
-site_current elements text tags None answer choice is = λ p there.
-    let last : answer ≡ length tags = is in
-    let inside = slice_get_within tags answer p there in
-    absurd (omega (arith, inside, last))
-site_current elements text tags (Some i) answer choice is = λ p there.
-    let same : answer ≡ i = is in
-    let here = subst (λ k. slice_get tags k ≡ Some p) same there in
-    let at : slice_get (current_tags_at text tags) i ≡ Some (current_tag_at text p) = slice_get-map (current_tag_at text) tags i ∙ ap (option_map (current_tag_at text)) here in
-    let chosen = subst (λ k. slice_get (current_tags_at text tags) k ≡ Some (Some choice.pair.tag)) choice.here choice.pair.there in
-    (current_some text p choice.pair.tag (some_same (current_tag_at text p) (Some choice.pair.tag) (sym at ∙ chosen))).0
 
 pub site_within :
     (elements : List Element) (text : List ℕ) (tags : List PreparedTag) (chosen : Option ℕ) → IsChoice elements (current_tags_at text tags) chosen → unwrap_or chosen (length tags) ≤ length tags

@@ -1,33 +1,19 @@
 -- Tags in spans of a text that are prepared for many choices.
-use Rattle.std.specs.Prelude.{◌≡◌, ℕ, Bool, true, not, ◌||◌, List, Option, None, Some, MatchOption, length, map, slice_get, unwrap_or, if◌then◌else◌}
+use Rattle.std.specs.Prelude.{◌≡◌, ℕ, Bool, not, ◌||◌, List, Option, None, MatchOption, length, map, unwrap_or, if◌then◌else◌}
 use Rattle.langtag_match.specs.Definitions.{Element, wanted_elements}
 use Rattle.langtag_choice.specs.Best.{IsChoice, IsMatch}
 use Rattle.langtag_choice.specs.declared.best_match.BestMatch as choice
 use Rattle.langtag_c.specs.RangePlaces.{IsRangeAt}
 use Rattle.langtag_c.specs.Choice.{no_match}
 use Rattle.langtag_c.specs.declared.best_match.BestMatch.{BestMatch}
-use Rattle.langtag_scan.specs.Prelude.{list_all}
 use Rattle.langtag_choice.specs.Prepared.{is_prepared_for}
 use Rattle.langtag_c.specs.Spans.{has_bytes, span_text}
 use Rattle.langtag_c.specs.TagsAt.{tag_at}
-use Rattle.langtag_c.specs.declared.span.Span.{Span}
 use Rattle.langtag_c.specs.declared.prepare.PreparedTag.{PreparedTag}
-
--- the spans of the tags
-abbrev pub spans_of : List PreparedTag → List Span
-spans_of tags = map (λ p. p.tag) tags
 
 -- whether an entry was prepared for the bytes of its span, if the span has bytes
 abbrev pub is_current : List ℕ → PreparedTag → Bool
 is_current text p = not (has_bytes text p.tag) || is_prepared_for (span_text text p.tag) p.form
-
--- each entry was prepared for the bytes of its span
-abbrev pub ArePrepared : List ℕ → List PreparedTag → Type 0
-ArePrepared text tags = list_all (is_current text) tags ≡ true
-
--- if there is an entry at the index, it was prepared for the bytes of its span
-abbrev pub IsCurrentAt : List ℕ → List PreparedTag → ℕ → Type 0
-IsCurrentAt text tags index = (p : PreparedTag) → slice_get tags index ≡ Some p → is_current text p ≡ true
 
 -- the tag of an entry, or `None` if its span is not a tag, or if the entry was not prepared for it
 unfoldable pub current_tag_at : List ℕ → PreparedTag → Option (List ℕ)

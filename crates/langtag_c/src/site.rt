@@ -2,8 +2,7 @@
 ghost use Rattle.std.specs.Prelude.{◌≤◌, length};
 ghost use Rattle.langtag_match.specs.Definitions.{wanted_elements};
 ghost use Rattle.langtag_c.specs.Spanned.{ranges_at};
-ghost use Rattle.langtag_c.specs.Choice.{IsBest, IsMatchAt};
-ghost use Rattle.langtag_c.specs.Site.{ArePrepared, IsBestOf, IsCurrentAt, IsMatchOf, current_tags_at, spans_of};
+ghost use Rattle.langtag_c.specs.Site.{IsBestOf, IsMatchOf, current_tags_at};
 
 use crate::best_match::BestMatch;
 use crate::prepare::{PreparedTag, PreparedTags};
@@ -22,9 +21,7 @@ pub extern "C" fn langtag_site_best_for_header(
     tags: &[PreparedTag],
 ) -> usize
     // law: the choice among the tags that were prepared for their spans
-    ensures skipped { IsBestOf (wanted_elements header.now) (current_tags_at bytes.now tags.now) result }
-    ensures best { ArePrepared bytes.now tags.now → IsBest (wanted_elements header.now) bytes.now (spans_of tags.now) result }
-    ensures current { IsCurrentAt bytes.now tags.now result }
+    ensures best { IsBestOf (wanted_elements header.now) (current_tags_at bytes.now tags.now) result }
     ensures within { result ≤ length tags.now }
 {
     let site = PreparedTags { text: bytes, tags };
@@ -41,9 +38,7 @@ pub extern "C" fn langtag_site_best_for_ranges(
     tags: &[PreparedTag],
 ) -> usize
     // law: the choice among the tags that were prepared for their spans
-    ensures skipped { IsBestOf (ranges_at text.now ranges.now) (current_tags_at bytes.now tags.now) result }
-    ensures best { ArePrepared bytes.now tags.now → IsBest (ranges_at text.now ranges.now) bytes.now (spans_of tags.now) result }
-    ensures current { IsCurrentAt bytes.now tags.now result }
+    ensures best { IsBestOf (ranges_at text.now ranges.now) (current_tags_at bytes.now tags.now) result }
     ensures within { result ≤ length tags.now }
 {
     let wanted = SpannedRanges {
@@ -64,9 +59,7 @@ pub extern "C" fn langtag_site_match_for_header(
     found: &mut BestMatch,
 ) -> usize
     // law: the choice among the tags that were prepared for their spans
-    ensures skipped { IsMatchOf header.now (current_tags_at bytes.now tags.now) result found.new }
-    ensures found { ArePrepared bytes.now tags.now → IsMatchAt header.now bytes.now (spans_of tags.now) result found.new }
-    ensures current { IsCurrentAt bytes.now tags.now result }
+    ensures found { IsMatchOf header.now (current_tags_at bytes.now tags.now) result found.new }
     ensures within { result ≤ length tags.now }
 {
     let site = PreparedTags { text: bytes, tags };
