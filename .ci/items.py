@@ -11,7 +11,7 @@ from tokens import lex  # noqa: E402
 
 CRATES = ROOT / "crates"
 IN_SPECS = re.compile(r'"(?:\\.|[^"\\])*"|--[^\n]*')  # a string, or a comment
-DEFINITION = re.compile(r"(?m)^(?:(?:abbrev|unfoldable|pub|record|data) )*([A-Za-z_][\w'-]*)(?: [({].*)? : .*(?:\n.+)*")
+DEFINITION = re.compile(r"(?m)^(?:(?:abbrev|unfoldable|pub|record|data) )*([A-Za-z_][\w'-]*)(?: [({].*)? :(?: .*)?(?:\n.+)*")
 
 
 class Word(str):
@@ -23,9 +23,9 @@ class Word(str):
         return word
 
 
-def words_of(source, is_page=False):
-    """Returns the words of a source or of a page of definitions, without its comments."""
-    words, at = [], 0
+def words_of(source, is_page=False, at=0):
+    """Returns the words of a source or of a page of definitions, without its comments. It begins at an offset of its file."""
+    words = []
     if is_page:
         source = IN_SPECS.sub(lambda found: found[0] if found[0][0] == '"' else " " * len(found[0]), source)
     for token in lex(source)[:-1]:
@@ -73,6 +73,10 @@ class Item:
         line = self.file.source.count("\n", 0, self.start) + 1
         return f"{self.file.path.relative_to(CRATES)}:{line} {self.key}"
 
+    def written(self):
+        """Returns its text as it is written, with comments."""
+        return self.file.source[self.start : self.end]
+
     def line(self, words=()):
         """Returns its text, or that of some words, on one line and without comments."""
         start, end = (words[0].at, words[-1].at + len(words[-1])) if words else (self.start, self.end)
@@ -101,8 +105,7 @@ class File:
     def __init__(self, path, text=None):
         self.path, self.crate, self.source = path, path.relative_to(CRATES).parts[0], path.read_text() if text is None else text
         self.items, self.imports, self.traits, self.aliased = {}, {False: {}, True: {}}, set(), []
-        words = words_of(self.source, path.suffix == ".antt")
-        self.take_definitions(words) if path.suffix == ".antt" else self.take_items(words, None, self.imports)
+        self.take_definitions() if path.suffix == ".antt" else self.take_items(words_of(self.source), None, self.imports)
 
     def take_items(self, words, header, imports, trait=None):
         """Reads the items of the file, or of an impl. The items of an impl of a trait become its pieces."""
@@ -197,19 +200,19 @@ class File:
 
     def take_import(self, words, names):
         """Records the origin of the names of an import."""
-        text = re.sub(r" ?(::|[.,{}]) ?", r"\1", " ".join(words).replace(": :", "::"))
+        text = re.sub(r" ?(::|[.,{}-]) ?", r"\1", " ".join(words).replace(": :", "::"))
         head, _, list_of_names = text.partition("{")
         for name in list_of_names.rstrip("}").split(",") if list_of_names else [head]:
             path, _, alias = name.partition(" as ")
             self.aliased += [name] * bool(alias and list_of_names)
             names[alias or re.split(r"::|\.", path)[-1]] = origin_of(head + path) if list_of_names else path
 
-    def take_definitions(self, words):
+    def take_definitions(self):
         """Reads the definitions of specs/, each from the line of its name to the next empty line."""
         for line in re.findall(r"^use (.+)$", self.source, re.M):
             self.take_import(words_of(line), self.imports[True])
         for found in DEFINITION.finditer(self.source):
-            whole = [word for word in words if found.start() <= word.at < found.end()]
+            whole = words_of(found[0], True, found.start())
             equations = [n for n, word in enumerate(whole) if word == found[1] and self.source[word.at - 1] == "\n"]
             for equation in equations[:1]:
                 equal = whole.index("=", equation)
@@ -226,3 +229,7 @@ def file_at(name):
     """Returns the file for a name like `langtag_place/script` or `langtag_place/specs/Text`."""
     crate, _, rest = name.partition("/")
     return file_of(CRATES / crate / (rest + ".antt" if rest.startswith("specs/") else f"src/{rest}.rt"))
+
+
+def snake(camel):
+    return re.sub(r"(?<=[a-z])(?=[A-Z])", "_", camel).lower()
