@@ -6,10 +6,11 @@ from pathlib import Path
 
 ROOT = Path(__file__).resolve().parent.parent
 sys.path.append(str(ROOT / "rust/erase"))
-from exports import lent_by  # noqa: E402
+import exports  # noqa: E402
 from tokens import lex  # noqa: E402
 
 CRATES = ROOT / "crates"
+lent_by = functools.cache(exports.lent_by)
 IN_SPECS = re.compile(r'"(?:\\.|[^"\\])*"|--[^\n]*')  # a string, or a comment
 DEFINITION = re.compile(r"(?m)^(?:(?:abbrev|unfoldable|pub|record|data) )*([A-Za-z_][\w'-]*)(?: [({].*)? :(?: .*)?(?:\n.+)*")
 
@@ -72,6 +73,11 @@ class Item:
     def __str__(self):
         line = self.file.source.count("\n", 0, self.start) + 1
         return f"{self.file.path.relative_to(CRATES)}:{line} {self.key}"
+
+    def is_lent(self):
+        """Returns whether it, or the type that it is of, is public only for other crates of the repository."""
+        root = CRATES / self.file.crate / "src/lib.rt"
+        return root.is_file() and not lent_by(root).isdisjoint(self.key.split("::"))
 
     def written(self):
         """Returns its text as it is written, with comments."""
