@@ -28,7 +28,8 @@ def box(x: int, y: int, width: int, height: int, name: str, lines: list[str]) ->
 def layers() -> list[tuple[str, list[tuple[str, str]]]]:
     """Returns the layers of crates.txt from the top: the heading of each, and its crates with their descriptions."""
     parts = re.split(r"(?m)^# ---- (.*)\n", pathlib.Path("crates.txt").read_text(encoding="utf-8"))
-    found = [(heading, [(name, words) for words, name in re.findall(r"(?m)^# (.*)\n(\w+).*:", crates)]) for heading, crates in zip(parts[1::2], parts[2::2])]
+    described = re.compile(r"(?m)^# (.*)\n(\w+).*:")
+    found = [(heading, [(name, words) for words, name in described.findall(crates)]) for heading, crates in zip(parts[1::2], parts[2::2])]
     return found[::-1]
 
 

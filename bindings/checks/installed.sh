@@ -12,14 +12,18 @@ check "C: make install" with_make install PREFIX="$work/usr" BUILD="$work/c"
 
 # The commands of docs/C.md, which checks/documents.sh runs, use langtag_verified.pc.
 with_library="-I$work/usr/include -L$work/usr/lib -llangtag_verified"
-installed() { cd "$work/empty" && cc -O2 "$here/examples/parts.c" "$@" -o parts && LD_LIBRARY_PATH=$work/usr/lib ./parts zh-Hant-TW | diff - <(wanted); }
+installed() {
+    cd "$work/empty" && cc -O2 "$here/examples/parts.c" "$@" -o parts || return 1
+    LD_LIBRARY_PATH=$work/usr/lib ./parts zh-Hant-TW | diff - <(wanted)
+}
 installed_shared() { installed $with_library && readelf -d parts | grep 'NEEDED.*liblangtag_verified\.so\.1'; }
 installed_static() { installed $with_library -static && ! readelf -d parts | grep NEEDED; }
 check "C: an example over the installed shared library" installed_shared
 check "C: an example over the installed static library" installed_static
 
 installed_header() {
-    cd "$work/empty" && c++ -std=c++17 -Wall -Wextra -Werror "$here/examples/parts.cc" $with_library -o parts-cc && export LD_LIBRARY_PATH=$work/usr/lib || return 1
+    cd "$work/empty" && c++ -std=c++17 -Wall -Wextra -Werror "$here/examples/parts.cc" $with_library -o parts-cc || return 1
+    export LD_LIBRARY_PATH=$work/usr/lib
     ./parts-cc zh-Hant-TW | diff - <(wanted) && ./parts-cc de-1996-u-co-1996-x-a | grep 'extension u-co-1996' &&
         ./parts-cc de-1996-1996 | grep 'not valid: variant 1996 is repeated'
 }
