@@ -10,18 +10,15 @@ import re
 import shutil
 import subprocess
 import sys
-from pathlib import Path
 
-from programs import load
+from items import CRATES, ROOT, File, file_of, words_of
 
-ROOT = Path(__file__).resolve().parent.parent
-CRATES, RECORD, SHOWN = ROOT / "crates", ROOT / ".ci/wrong_bodies.txt", ROOT / ".ci/shown.txt"
+RECORD, SHOWN = ROOT / ".ci/wrong_bodies.txt", ROOT / ".ci/shown.txt"
 HEAD = """# A line for each wrong body: its name | a hash, and how it was refused | a hash, and what shows that it is wrong (.ci/edits.py).
 # .ci/wrong-bodies and .ci/shown write it. They were refused by the prover with the logic {}.
 """
 SHARES = 20, 200  # of how many commits one tries a result that is known: of a refusal, which is cheap in a batch, and of a test
 PAGE = re.compile(r"\bRattle\.(langtag\w*)\.specs\.(declared\.)?(\w+)")
-twins = load(ROOT / ".ci/twins")
 
 
 def digest(*words):
@@ -63,8 +60,8 @@ class Edit:
         for name, text in self.texts.items():
             if name.startswith("src/"):
                 path = CRATES / self.crate / name
-                old, new = items_of(path), twins.File(path, text).items
-                found += [(name, old.get(key), new.get(key)) for key in {**old, **new} if words_of(old.get(key)) != words_of(new.get(key))]
+                old, new = file_of(path).items, File(path, text).items
+                found += [(name, old.get(key), new.get(key)) for key in {**old, **new} if all_words(old.get(key)) != all_words(new.get(key))]
         return found
 
     def of_refusal(self, how):
@@ -72,11 +69,11 @@ class Edit:
         an answer refused depends on the proofs of these items, too."""
         try:
             items = [old for _, old, _ in self.changes if old]
-        except ValueError:  # .ci/twins cannot read a file
+        except ValueError:  # a file that cannot be read
             return digest(*self.lines, *((CRATES / self.crate / name).read_text() for name in self.texts))
         items += self.refusing(items)
         proofs = [path.read_text() for item in items for path in proofs_of(item)] if how == "answer" else []
-        return digest(*self.lines, *(word for item in items for word in (*words_of(item), *trait_of(item))), *definitions(items), *proofs)
+        return digest(*self.lines, *(word for item in items for word in (*all_words(item), *trait_of(item))), *definitions(items), *proofs)
 
     def refusing(self, items):
         """Returns the functions at which it is refused, `# at: found::Found::irregular`, if it changes only a type or a constant. These have
@@ -88,7 +85,7 @@ class Edit:
         found = []
         for place in self.places:
             file, _, key = place.partition("::")
-            all_items = items_of(next((CRATES / self.crate / "src").glob(f"**/{file}.rt")))
+            all_items = file_of(next((CRATES / self.crate / "src").glob(f"**/{file}.rt"))).items
             found += [item for name, item in all_items.items() if name in (key, f"{key.rpartition('::')[2]}")] or \
                 [item for name, item in all_items.items() if " for " in name and re.sub(r"<.*?>", "", "".join(reversed(name.split(" for ")))) == key.rpartition("::")[0]]
         return found or sys.exit(f"{self.path}: there is no {' or '.join(self.places)}")
@@ -98,12 +95,7 @@ class Edit:
         return digest(*self.lines, self.call)
 
 
-@functools.cache
-def items_of(path):
-    return twins.File(path).items
-
-
-def words_of(item):
+def all_words(item):
     return [word for piece in item.pieces for word in piece.words] if item else []
 
 
@@ -111,12 +103,12 @@ def words_of(item):
 def traits():
     """Returns the words of each trait. Its clauses are the contracts of the functions in its impls."""
     texts = (path.read_text() for path in sorted(CRATES.glob("*/src/*.rt")))
-    return {name: twins.words_of(body, "//") for text in texts for name, body in re.findall(r"(?ms)^pub trait (\w+)(.*?)^\}", text)}
+    return {name: words_of(body) for text in texts for name, body in re.findall(r"(?ms)^pub trait (\w+)(.*?)^\}", text)}
 
 
 def trait_of(item):
     """Returns the words of the trait if the item is its impl."""
-    words = words_of(item)
+    words = all_words(item)
     head = words[: words.index("for")] if "for" in words else []
     return next((traits()[word] for word in head if word in traits()), []) if "impl" in head[:1] else []
 
@@ -131,7 +123,7 @@ def proofs_of(item):
 
 def definitions(items):
     """Returns what items import, and a hash of each page with definitions that they name, and of each page below these."""
-    named = sorted({item.imports[ghost].get(word, "") for item in items for ghost in (False, True) for word in words_of(item)})
+    named = sorted({item.imports[ghost].get(word, "") for item in items for ghost in (False, True) for word in all_words(item)})
     pages, more = set(), set(PAGE.findall(" ".join(named)))
     while more:
         pages |= more
@@ -151,9 +143,9 @@ def defined_by(crate, declared, name):
     """Returns a hash of a page's definitions, or of a source's types, without imports and comments."""
     text = text_of(crate, declared, name)
     if declared:
-        file = twins.File(CRATES / crate / "src" / f"{name}.rt", text)
-        return digest(*(word for item in file.items.values() if item.kind == "type" or item.pieces[-1].name == "value" for word in words_of(item)))
-    words = twins.words_of(re.sub(r"(?m)^(?:unfoldable |pub )*use .*", "", text), "--")
+        file = File(CRATES / crate / "src" / f"{name}.rt", text)
+        return digest(*(word for item in file.items.values() if item.kind == "type" or item.pieces[-1].name == "value" for word in all_words(item)))
+    words = words_of(re.sub(r"(?m)^(?:unfoldable |pub )*use .*", "", text), is_page=True)
     # A name can mean another definition without a change of these words.
     return digest(*words, *sorted(f"{name} {origin}" for name, origin in origins(text) if name in words))
 

@@ -68,10 +68,10 @@ def proved_text(prover: str | None, archive: str = "", what: str | None = None) 
             f"{what or (ARCHIVE_PROVED if prover else ARCHIVE_NOT_PROVED)}")
 
 
-def label_of(archive: pathlib.Path, target: Target = NATIVE, is_proved: bool = True) -> str:
-    """Returns PROVED.txt for an archive, which counts as proved if its record shows it, unless what was made of it is not."""
+def label_of(archive: pathlib.Path, target: Target = NATIVE) -> str:
+    """Returns PROVED.txt for an archive, which counts as proved if its record shows it."""
     of_archive = f"target {target.name}\n{hashlib.sha256(archive.read_bytes()).hexdigest()}  liblangtag_c.a\n"
-    return proved_text(prover_of(archive) if is_proved else None, of_archive)
+    return proved_text(prover_of(archive), of_archive)
 
 
 def labelled(archive: pathlib.Path, target: Target = NATIVE) -> Archive:

@@ -1,8 +1,7 @@
 #!/usr/bin/env python3
 """The targets of langtag_c, and the archive of each target.
 
-    bindings/targets.py archive TARGET    prints the path of its archive, which `rt lib` builds if it is missing or older
-                                          than a source
+    bindings/targets.py archive TARGET    prints the path of its archive, which `rt lib` builds if it has no record of these sources
     bindings/targets.py proved ARCHIVE    prints what proved an archive, or fails if its record does not show that
 
 `rt lib` proves the sources before it builds an archive. The record beside the archive, ARCHIVE.proved, has the checksums of the
@@ -56,10 +55,6 @@ def sum_of_sources() -> str:
     return found.hexdigest()
 
 
-def is_old(archive: pathlib.Path) -> bool:
-    return not archive.is_file() or archive.stat().st_mtime < max(path.stat().st_mtime for path in sources())
-
-
 def record_of(archive: pathlib.Path) -> pathlib.Path:
     return archive.with_name(f"{archive.name}.proved")
 
@@ -75,20 +70,11 @@ def record(archive: pathlib.Path, sources_before: str) -> None:
 
 def prover_of(archive: pathlib.Path) -> str | None:
     """Returns the line of `rt version` that proved an archive from these sources, or None if its record does not show that."""
-    if not record_of(archive).is_file():
+    if not archive.is_file() or not record_of(archive).is_file():
         return None
     wanted = [f"archive {hashlib.sha256(archive.read_bytes()).hexdigest()}", f"sources {sum_of_sources()}"]
     *sums, prover = record_of(archive).read_text(encoding="utf-8").splitlines()
     return prover if sums == wanted else None
-
-
-def copied(archive: pathlib.Path, folder: pathlib.Path) -> pathlib.Path:
-    """Copies an archive to a folder, with its record, and returns its path there."""
-    copy = folder / BUILT.name
-    shutil.copyfile(archive, copy)
-    if record_of(archive).is_file():
-        shutil.copyfile(record_of(archive), record_of(copy))
-    return copy
 
 
 def build(target: Target) -> None:
@@ -112,11 +98,11 @@ def build(target: Target) -> None:
 
 
 def archive_of(target: Target) -> pathlib.Path:
-    if is_old(target.archive) or not prover_of(target.archive):
+    if not prover_of(target.archive):
         if shutil.which("rt"):
             build(target)
         elif target.archive.is_file():
-            print(f"there is no rt; a source is NEWER than {target.archive}, which is taken as it is", file=sys.stderr)
+            print(f"there is no rt; {target.archive} is taken as it is, but its record does NOT show these sources", file=sys.stderr)
         else:
             sys.exit(f"there is no {target.archive}, and no rt to build it")
     return target.archive

@@ -9,32 +9,23 @@ module_alone() {
 check "Python: the C module builds without a warning, and needs no other file than the package's" module_alone
 
 check "C: make install" with_make install PREFIX="$work/usr" BUILD="$work/c"
-PKG_CONFIG_PATH=$work/usr/lib/pkgconfig
 
-flags() {
-    if has pkg-config; then
-        pkg-config --cflags --libs langtag_verified
-    else
-        echo "-I$work/usr/include -L$work/usr/lib -llangtag_verified"
-    fi
-}
-has pkg-config || not_run "C: langtag_verified.pc" "there is no pkg-config"
-
-# installed CFLAGS..
+# The commands of docs/C.md, which checks/documents.sh runs, use langtag_verified.pc.
+with_library="-I$work/usr/include -L$work/usr/lib -llangtag_verified"
 installed() {
-    cd "$work/empty" && cp "$here/examples/parts.c" . && cc "$@" parts.c $(flags) -o parts || return 1
+    cd "$work/empty" && cc -O2 "$here/examples/parts.c" "$@" -o parts || return 1
     LD_LIBRARY_PATH=$work/usr/lib ./parts zh-Hant-TW | diff - <(wanted)
 }
-installed_shared() { installed -O2 && readelf -d parts | grep 'NEEDED.*liblangtag_verified\.so\.1'; }
-installed_static() { installed -O2 -static && ! readelf -d parts | grep NEEDED; }
+installed_shared() { installed $with_library && readelf -d parts | grep 'NEEDED.*liblangtag_verified\.so\.1'; }
+installed_static() { installed $with_library -static && ! readelf -d parts | grep NEEDED; }
 check "C: an example over the installed shared library" installed_shared
 check "C: an example over the installed static library" installed_static
 
 installed_header() {
-    cd "$work/empty" && cp "$here/examples/parts.cc" . && c++ -std=c++17 -Wall -Wextra -Werror parts.cc $(flags) -o parts-cc || return 1
-    LD_LIBRARY_PATH=$work/usr/lib ./parts-cc zh-Hant-TW | diff - <(wanted) || return 1
-    LD_LIBRARY_PATH=$work/usr/lib ./parts-cc de-1996-u-co-1996-x-a | grep 'extension u-co-1996' &&
-        LD_LIBRARY_PATH=$work/usr/lib ./parts-cc de-1996-1996 | grep 'not valid: variant 1996 is repeated'
+    cd "$work/empty" && c++ -std=c++17 -Wall -Wextra -Werror "$here/examples/parts.cc" $with_library -o parts-cc || return 1
+    export LD_LIBRARY_PATH=$work/usr/lib
+    ./parts-cc zh-Hant-TW | diff - <(wanted) && ./parts-cc de-1996-u-co-1996-x-a | grep 'extension u-co-1996' &&
+        ./parts-cc de-1996-1996 | grep 'not valid: variant 1996 is repeated'
 }
 check "C++: an example over the installed header" installed_header
 

@@ -6,8 +6,8 @@ why_without_archive() {
         echo "there is no archive for WebAssembly: $(tail -1 "$work/log")"
     elif ! has wasm-opt; then
         echo "there is no wasm-opt (in Debian: apt-get install binaryen)"
-    elif ! has rt && [ -z "${LANGTAG_WASM_MODULE:-}" ]; then
-        echo "there is no rt, which links the module, and LANGTAG_WASM_MODULE names none"
+    elif ! has rt; then
+        echo "there is no rt, which links the module"
     fi
 }
 without_archive=$(why_without_archive)

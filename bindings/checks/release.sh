@@ -80,7 +80,6 @@ packages_say() {
         esac
         [[ $package != *-elf.tar.gz ]] || [ "$(ls)" = "$(basename "$package" .tar.gz)" ] || return 1
     done
-    python3 "$work/bindings/labels.py" readme python >"$work/readme.md" && cd "$work/bindings/python" && python3 -m doctest "$work/readme.md"
 }
 check "release: each package has a README, and says what the record of its archive shows" packages_say
 
@@ -101,7 +100,7 @@ only_by_record() {
 # A source that changes while `rt lib` proves it leaves the archive without a record. Here `rt` is a script.
 only_as_proved() {
     mkdir -p "$work/rt" "$work/crates/langtag_c/out" || return 1
-    printf '%s\n' '#!/bin/sh' 'case $1 in version) echo rattle-kit ;; lib) echo >out/liblangtag_c.a; $EDIT ;; esac' >"$work/rt/rt" && chmod +x "$work/rt/rt" || return 1
+    script "$work/rt/rt" 'case $1 in version) echo rattle-kit ;; lib) echo >out/liblangtag_c.a; $EDIT ;; esac' || return 1
     ! EDIT="touch src/during.rt" PATH=$work/rt:$PATH python3 targets.py archive x86_64-unknown-linux-gnu || return 1
     rm "$work/crates/langtag_c/src/during.rt" && ! python3 targets.py proved "$work/crates/langtag_c/out/liblangtag_c.a" || return 1
     EDIT=true PATH=$work/rt:$PATH python3 targets.py archive x86_64-unknown-linux-gnu && python3 targets.py proved "$work/crates/langtag_c/out/liblangtag_c.a"
@@ -116,7 +115,7 @@ extensions_say() {
     ! has pg_config || [ ! -f "$(pg_config --pgxs)" ] || { make -s -C "$folder/postgresql" build/langtag.h "$@" && grep -x "#define LANGTAG_PROVED $said" "$folder/postgresql/build/langtag.h"; }
 }
 # What is made from another archive than the proved one does not count as proved: by make after a proved one, beside the header of a proved
-# one, and in an unpacked tarball; by pip from an sdist; and by a module that was not linked from the archive.
+# one, and in an unpacked tarball; by pip from an sdist; and by a module.
 only_what_is_proved() {
     local built=$work/crates/langtag_c/out/liblangtag_c.a said
     unset LANGTAG_ARCHIVE
@@ -134,19 +133,19 @@ only_what_is_proved() {
     mkdir "$work/of-sdist" && (cd python && LANGTAG_ARCHIVE=$built python3 -c 'import backend, sys; backend.build_sdist(sys.argv[1])' "$work/of-sdist") || return 1
     cd "$work/of-sdist" && tar -xzf langtag_verified-*.tar.gz && cd langtag_verified-*/ && wheel_says proved || return 1
     cp "$work/other.a" liblangtag_c.a && wheel_says "not proved" && LANGTAG_ARCHIVE=$built wheel_says proved && cd "$work/bindings" || return 1
-    # Any file serves as a module, since `wasm-opt` here is a script that copies it. The folder js gets such modules, and then is as before.
-    cp -r js "$work/js-kept" && mkdir "$work/lowered" && printf '%s\n' '#!/bin/sh' 'cp "$3" "$5"' >"$work/lowered/wasm-opt" && chmod +x "$work/lowered/wasm-opt" && cp -r js "$work/js-labelled" || return 1
-    module_says "not proved" && cat <(module_sum) "$built.proved" >"$work/other.a.proved" && module_says proved && cp "$work/other.a.proved" "$work/right" || return 1
-    sed '/^module/s/ / 0/' "$work/right" >"$work/other.a.proved" && module_says "not proved" || return 1
-    sed '/^archive/s/ / 0/' "$work/right" >"$work/other.a.proved" && module_says "not proved" && rm -r js && mv "$work/js-kept" js
+    # Any file serves as a module, since `rt`, its linker and `wasm-opt` are scripts here. The folder js gets such modules, and then is as before.
+    cp -r js "$work/js-kept" && cp -r js "$work/js-labelled" && mkdir -p "$work/kit/bin" || return 1
+    script "$work/kit/rt" "echo $work/kit/doc" && script "$work/kit/bin/rattle-link" 'cp "$7" "$6"' && script "$work/kit/wasm-opt" 'cp "$3" "$5"' || return 1
+    module_says proved "$built" && module_says "not proved" "$work/other.a" && rm -r js && mv "$work/js-kept" js
 }
-# module_says LABEL: the package that js/build makes of the proved archive and of another module has this label. package.json of a clone stays.
+# script FILE COMMAND: writes a program.
+script() { printf '#!/bin/sh\n%s\n' "$2" >"$1" && chmod +x "$1"; }
+# module_says LABEL ARCHIVE: the package that js/build makes of an archive has this label. package.json of a clone stays.
 module_says() {
-    local build=(env "PATH=$work/lowered:$PATH" "LANGTAG_WASM_MODULE=$work/other.a" js/build "$work/crates/langtag_c/out/liblangtag_c.a") made=$work/js-labelled
+    local build=(env "PATH=$work/kit:$PATH" js/build "$2") made=$work/js-labelled
     "${build[@]}" && cmp js/package.json "$here/js/package.json" && labels js/module.js | grep -x "$1" && "${build[@]}" "$made" || return 1
     [ "$(labels "$made"/{module.js,package.json,PROVED.txt} | uniq -c)" = "$(printf '%7d %s' 3 "$1")" ] && named "$(grep '"version"' "$made/package.json")" | grep -x "$1"
 }
-module_sum() { echo "module $(sha256sum <"$work/other.a" | cut -c1-64)"; }
 # wheel_says LABEL: the wheel that the sdist in this folder makes has this label, a version that goes with it, and the sum of its archive.
 wheel_says() {
     rm -rf wheels && mkdir wheels && python3 -c 'import backend; backend.build_wheel("wheels")' && named "$(ls wheels)" | grep -x "$1" || return 1
@@ -173,7 +172,7 @@ away() {
     folder=$(mktemp -d -p "$work") && cp examples/parts.* "$root/rust/examples/parts.rs" "$folder" || return 1
     $hide bash -c 'set -e; cd "$1"; hide=$2 root=$3 copy=$4; shift 4
         if [ -n "$hide" ]; then mount -t tmpfs none "$root"; mount -t tmpfs none "$copy"; fi
-        unset LANGTAG_ARCHIVE LANGTAG_ANSWERS PKG_CONFIG_PATH; eval "$1"' away \
+        unset LANGTAG_ARCHIVE LANGTAG_ANSWERS; eval "$1"' away \
         "$folder" "$hide" "$root" "$work/bindings" "$1" | diff - <(wanted)
 }
 by_cmake() {

@@ -14,7 +14,6 @@ TOKEN = re.compile(
     | (?P<end>\Z))""",
     re.DOTALL | re.VERBOSE,
 )
-KINDS = ("text", "lifetime", "word", "number", "mark", "end")
 CLOSING = {"(": ")", "[": "]", "{": "}"}
 
 
@@ -28,8 +27,7 @@ def lex(text):
     tokens, end = [], 0
     while not tokens or tokens[-1].kind != "end":
         found = TOKEN.match(text, end)
-        kind = next(kind for kind in KINDS if found[kind] is not None)
-        tokens.append(Token(found["before"], kind, found[kind]))
+        tokens.append(Token(found["before"], found.lastgroup, found[found.lastgroup]))
         end = found.end()
     return tokens
 
