@@ -124,18 +124,45 @@ def proofs_of(item):
 def definitions(items):
     """Returns what items import, and a hash of each page with definitions that they name, and of each page below these."""
     named = sorted({item.imports[ghost].get(word, "") for item in items for ghost in (False, True) for word in all_words(item)})
-    pages, more = set(), set(PAGE.findall(" ".join(named)))
+    pages, more = set(), {page for path in named for page in pages_for(path)}
     while more:
         pages |= more
-        more = {below for page in more for below in PAGE.findall(text_of(*page))} - pages
+        more = {below for page in more for below in pages_below(*page)} - pages
     return [*named, *(defined_by(*page) for page in sorted(pages))]
+
+
+def pages_for(path):
+    """Returns the page that a path names. A page that only passes names on stands for the page with the definition."""
+    for page in PAGE.findall(path)[:1]:
+        passed = {} if defined_words(*page) else dict(origins(text_of(*page)))
+        return pages_for(passed[name]) if (name := path.rpartition(".")[2]) in passed else [page]
+    return []
+
+
+@functools.cache
+def pages_below(crate, declared, name):
+    """Returns the pages that a page needs: those of the names that it uses, or all that it imports if it declares types or passes names on."""
+    text, words = text_of(crate, declared, name), defined_words(crate, declared, name)
+    if declared or not words:
+        return {*PAGE.findall(text)}
+    return {page for name, path in origins(text) if name in words for page in pages_for(path)}
 
 
 @functools.cache
 def text_of(crate, declared, name):
-    """Returns the text of a page of definitions, or of a source that declares types."""
+    """Returns the text of a page of definitions, which may be of another crate, or of a source that declares types."""
     paths = [CRATES / crate / "specs" / f"{name}.antt", *(CRATES / crate / "src").glob(f"**/{name}.rt")]
-    return next((path.read_text() for path in paths[bool(declared) :] if path.is_file()), "")
+    if found := next((path for path in paths[bool(declared) :] if path.is_file()), None):
+        return found.read_text()
+    lib = CRATES / crate / "specs/Lib.antt"
+    passed = lib.is_file() and re.search(rf"(?m)^pub use Rattle\.(\w+)\.specs\.{name}$", lib.read_text())
+    return text_of(passed[1], declared, name) if passed else ""
+
+
+@functools.cache
+def defined_words(crate, declared, name):
+    """Returns the words of a page's definitions, without imports and comments. A source that declares types has none."""
+    return () if declared else tuple(words_of(re.sub(r"(?m)^(?:unfoldable |pub )*use .*", "", text_of(crate, declared, name)), is_page=True))
 
 
 @functools.cache
@@ -145,7 +172,7 @@ def defined_by(crate, declared, name):
     if declared:
         file = File(CRATES / crate / "src" / f"{name}.rt", text)
         return digest(*(word for item in file.items.values() if item.kind == "type" or item.pieces[-1].name == "value" for word in all_words(item)))
-    words = words_of(re.sub(r"(?m)^(?:unfoldable |pub )*use .*", "", text), is_page=True)
+    words = defined_words(crate, declared, name)
     # A name can mean another definition without a change of these words.
     return digest(*words, *sorted(f"{name} {origin}" for name, origin in origins(text) if name in words))
 
