@@ -1,7 +1,7 @@
 -- What a position says is so: which tags may follow the bytes that led to it, where their parts have ended, and what they are as a whole text.
 use Rattle.langtag_scan.proofs.Prelude.{◌≡◌, ℕ, ◌+◌, ◌<◌, ◌≤◌, Bool, true, false, cond, eqb, eqb-true, List, [], ◌∷◌, ◌++◌, length, get_or, set, Option, Some, None, refl, arith, append_assoc, append-nil, sym, ap, ◌∙◌, MatchOption, replicate, ◌&&◌, take, subst, option_map_or, is_none, and-true, cases_lt, and_parts, lt-ltb, ltb-true, both_ways, common_steps, length_push, length-set, map-append, take_more, take_all, length-take, get_or-replicate, position-Some, fold-append, fails_before_first, bytes_eq-Decides, ne_eqb, position, bytes_eq, option_map, nat_tests}
 use Rattle.std.specs.Prelude.{max}
-use Rattle.std.proofs.Math.Nat.{max-le}
+use Rattle.std.proofs.Math.Nat.{max-le, max-eq_left, max-eq_right}
 use Rattle.std.proofs.lemmas.Bool.{and_left}
 use Rattle.std.proofs.lemmas.List.{set-get_or}
 use Rattle.langtag_scan.specs.Grammar.{fold_byte, fold_text, grandfathered_tags, irregular_texts, folded_texts, is_prefix, is_possible, kind_after, kind_of, IsBegun, end_at, HasStopped, ends_at, found_by, outcome, IsRefused, Begun, nothing_read, possible_index, irregular_after, position_after, position_of, part_before, ending_of, is_dead, Stage, Start, after_stage, may_end, IsFoundOf, IsPrivate, IsIrregular, IsIrregularAt, IsTag, IsViable, IsViableLength, IsStop, Language, Extended, AfterScript, AfterRegion, AfterVariant, AfterSingleton, InExtension, AfterMark, InPrivate, AfterFirstMark, InPrivateTag}
@@ -40,13 +40,6 @@ below_set places k n within below j = let old = below j in grind (arith, common_
 marked_on : (places : List ℕ) (n : ℕ) (e : Ends) → IsMarked places n e → IsMarked (set places 5 n) (n + 1) e
 marked_on places n e m = grind (arith, common_steps, length-set, below_set, placed)
 
--- the largest of these numbers is the first, or the second
-top : (n a : ℕ) → a ≤ n → max n a ≡ n
-top n a h = omega arith
-
-under : (n a : ℕ) → a ≤ n → max a n ≡ n
-under n a h = omega arith
-
 module _ (places : List ℕ) (n whole : ℕ) (six : length places ≡ 6) (below : (k : ℕ) → get_or places k 0 ≤ n) where
   at : (k j : ℕ) → k < 6 → get_or (set places k n) j 0 ≡ cond (eqb j k) n (get_or places j 0)
   at k j within = placed places k n j (omega (arith, six, within))
@@ -62,11 +55,11 @@ module _ (places : List ℕ) (n whole : ℕ) (six : length places ≡ 6) (below 
 
   -- the language ends at the index
   language_ends : all_at n ≡ ends_at (set places 0 n) n
-  language_ends = grind (arith, nat_tests, at 0 0, at 0 1, at 0 2, at 0 3, at 0 4, under, below 1, below 2, below 3, below 4)
+  language_ends = grind (arith, nat_tests, at 0 0, at 0 1, at 0 2, at 0 3, at 0 4, max-eq_right, below 1, below 2, below 3, below 4)
 
   -- the extensions end at the index
   extensions_end : end_at InExtension n (ends_at places whole) ≡ ends_at (set places 4 n) n
-  extensions_end = grind (arith, nat_tests, at 4 0, at 4 1, at 4 2, at 4 3, at 4 4, top, past_three)
+  extensions_end = grind (arith, nat_tests, at 4 0, at 4 1, at 4 2, at 4 3, at 4 4, max-eq_left, past_three)
 
   -- no part before the private use part ends at the index
   others_end : end_at InPrivate n (ends_at places whole) ≡ ends_at (set places 5 n) n
@@ -77,9 +70,9 @@ module _ (places : List ℕ) (n whole : ℕ) (six : length places ≡ 6) (below 
   stage_ends Start past = absurd (past refl)
   stage_ends (Language taken) past = language_ends
   stage_ends (Extended taken) past = language_ends
-  stage_ends AfterScript past = grind (arith, nat_tests, at 1 0, at 1 1, at 1 2, at 1 3, at 1 4, top, below 0, under, below 2, below 3, below 4)
-  stage_ends AfterRegion past = grind (arith, nat_tests, at 2 0, at 2 1, at 2 2, at 2 3, at 2 4, top, past_one, under, below 3, below 4)
-  stage_ends AfterVariant past = grind (arith, nat_tests, at 3 0, at 3 1, at 3 2, at 3 3, at 3 4, top, past_two, under, below 4)
+  stage_ends AfterScript past = grind (arith, nat_tests, at 1 0, at 1 1, at 1 2, at 1 3, at 1 4, max-eq_left, below 0, max-eq_right, below 2, below 3, below 4)
+  stage_ends AfterRegion past = grind (arith, nat_tests, at 2 0, at 2 1, at 2 2, at 2 3, at 2 4, max-eq_left, past_one, max-eq_right, below 3, below 4)
+  stage_ends AfterVariant past = grind (arith, nat_tests, at 3 0, at 3 1, at 3 2, at 3 3, at 3 4, max-eq_left, past_two, max-eq_right, below 4)
   stage_ends AfterSingleton past = extensions_end
   stage_ends InExtension past = extensions_end
   stage_ends AfterMark past = others_end

@@ -72,13 +72,8 @@ is_described p = is_described_by p (state_of p)
 abbrev kinds : List Kind
 kinds = Empty ∷ Mark ∷ Letters ∷ Digits ∷ LetterFirst ∷ DigitFirst ∷ []
 
-abbrev kind_index : Kind → ℕ
-kind_index Empty = 0
-kind_index Mark = 1
-kind_index Letters = 2
-kind_index Digits = 3
-kind_index LetterFirst = 4
-kind_index DigitFirst = 5
+each_kind : (test : Kind → Bool) → list_all test kinds ≡ true → (kind : Kind) → test kind ≡ true
+each_kind test all kind = grind (arith, common_steps, and_parts)
 
 abbrev alone : Stage → Kind → ℕ → Position
 alone stage kind size = record { begun = Some (record { stage = stage; kind = kind; size = size }); irregular = None }
@@ -199,14 +194,9 @@ position_from-fold q p = grind (arith, common_steps, position_after-same, hyphen
 
 -- ---- what the tables say of a state
 
-kind_at : (kind : Kind) → (kind_index kind < 6) × (get_or kinds (kind_index kind) Empty ≡ kind)
-kind_at kind = grind (arith, common_steps)
-
 begun_described : (s : Begun) → is_reached (record { begun = Some s; irregular = None }) ≡ true → is_described (record { begun = Some s; irregular = None }) ≡ true
 begun_described s reached =
-    let kind = kind_at s.kind in
-    let row : is_row_described s.stage s.kind ≡ true = ap (is_row_described s.stage) (sym kind.1) ∙ AllPass-from_list_all (is_row_described s.stage) kinds (rows_described s.stage) (kind_index s.kind) Empty kind.0 in
-    let parts = and_parts (leb (length (states_of s.stage s.kind)) 9) _ row in
+    let parts = and_parts (leb (length (states_of s.stage s.kind)) 9) _ (each_kind (is_row_described s.stage) (rows_described s.stage) s.kind) in
     elim (cases_lt s.size 9) [
       | inl within ↦ sym (ap (λ x. not x || is_described (alone s.stage s.kind s.size)) reached) ∙ agree_below_at (is_size_described s.stage s.kind) (λ size. true) 9 s.size parts.1 within
       | inr past ↦
