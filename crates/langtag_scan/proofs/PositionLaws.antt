@@ -10,7 +10,7 @@ use Rattle.langtag_scan.specs.Position.{fresh, may_grow, stage_after, begun_afte
 use Rattle.langtag_scan.specs.declared.ends.Ends.{Ends}
 use Rattle.langtag_scan.proofs.IrregularTexts.{is_prefix-push, seventeen_folded, irregular_from_fold, irregular_fold, possible_viable, possible_prefix}
 use Rattle.langtag_scan.proofs.SubtagFacts.{classes_of-kind}
-use Rattle.langtag_scan.proofs.ReadingLaws.{IsPartRead, reads_nothing, reads_after, refused_stops, stuck_stops, reads_viable, reads_ended}
+use Rattle.langtag_scan.proofs.SubtagReading.{last-hyphen, last-push, IsPartRead, reads_nothing, reads_after, refused_stops, stuck_stops, reads_viable, reads_ended}
 use Rattle.langtag_scan.proofs.Running.{empty_begun, begun_push, begun_parts, found_after}
 use Rattle.langtag_scan.proofs.StageLaws.{after_not_start}
 use Rattle.langtag_scan.specs.declared.state.Ending.{Ending}
@@ -44,22 +44,13 @@ module _ (places : List ℕ) (n whole : ℕ) (six : length places ≡ 6) (below 
   at : (k j : ℕ) → k < 6 → get_or (set places k n) j 0 ≡ cond (eqb j k) n (get_or places j 0)
   at k j within = placed places k n j (omega (arith, six, within))
 
-  past_one : max (get_or places 1 0) (get_or places 0 0) ≤ n
-  past_one = max-le (below 1) (below 0)
-
-  past_two : max (get_or places 2 0) (max (get_or places 1 0) (get_or places 0 0)) ≤ n
-  past_two = max-le (below 2) past_one
-
-  past_three : max (get_or places 3 0) (max (get_or places 2 0) (max (get_or places 1 0) (get_or places 0 0))) ≤ n
-  past_three = max-le (below 3) past_two
-
   -- the language ends at the index
   language_ends : all_at n ≡ ends_at (set places 0 n) n
   language_ends = grind (arith, nat_tests, at 0 0, at 0 1, at 0 2, at 0 3, at 0 4, max-eq_right, below 1, below 2, below 3, below 4)
 
   -- the extensions end at the index
   extensions_end : end_at InExtension n (ends_at places whole) ≡ ends_at (set places 4 n) n
-  extensions_end = grind (arith, nat_tests, at 4 0, at 4 1, at 4 2, at 4 3, at 4 4, max-eq_left, past_three)
+  extensions_end = grind (arith, nat_tests, at 4 0, at 4 1, at 4 2, at 4 3, at 4 4, max-eq_left, max-le, below 0, below 1, below 2, below 3)
 
   -- no part before the private use part ends at the index
   others_end : end_at InPrivate n (ends_at places whole) ≡ ends_at (set places 5 n) n
@@ -71,8 +62,8 @@ module _ (places : List ℕ) (n whole : ℕ) (six : length places ≡ 6) (below 
   stage_ends (Language taken) past = language_ends
   stage_ends (Extended taken) past = language_ends
   stage_ends AfterScript past = grind (arith, nat_tests, at 1 0, at 1 1, at 1 2, at 1 3, at 1 4, max-eq_left, below 0, max-eq_right, below 2, below 3, below 4)
-  stage_ends AfterRegion past = grind (arith, nat_tests, at 2 0, at 2 1, at 2 2, at 2 3, at 2 4, max-eq_left, past_one, max-eq_right, below 3, below 4)
-  stage_ends AfterVariant past = grind (arith, nat_tests, at 3 0, at 3 1, at 3 2, at 3 3, at 3 4, max-eq_left, past_two, max-eq_right, below 4)
+  stage_ends AfterRegion past = grind (arith, nat_tests, at 2 0, at 2 1, at 2 2, at 2 3, at 2 4, max-eq_left, max-le, below 0, below 1, max-eq_right, below 3, below 4)
+  stage_ends AfterVariant past = grind (arith, nat_tests, at 3 0, at 3 1, at 3 2, at 3 3, at 3 4, max-eq_left, max-le, below 0, below 1, below 2, max-eq_right, below 4)
   stage_ends AfterSingleton past = extensions_end
   stage_ends InExtension past = extensions_end
   stage_ends AfterMark past = others_end
@@ -114,6 +105,9 @@ place_before_within o = grind (arith, common_steps)
 pub tracks_nothing : Tracks [] (replicate 6 0) (Some (fresh Start))
 tracks_nothing = grind (arith, common_steps, reads_nothing, empty_begun Start)
 
+begun_grows : (s : Begun) (bytes : List ℕ) (b : ℕ) → s.size ≡ length bytes → IsBegun s.stage (bytes ++ b ∷ []) → may_grow s b ≡ true
+begun_grows s bytes b size begun = grind (arith, common_steps, begun_parts, and_parts, lt-ltb, length_push, both_ways, and-true)
+
 module _ (q places : List ℕ) (s : Begun) (known : IsTracked q places s) where
   -- the stage after the subtag follows from what is known of it
   pub stage_is : stage_after s ≡ after_stage s.stage known.bytes
@@ -121,9 +115,6 @@ module _ (q places : List ℕ) (s : Begun) (known : IsTracked q places s) where
 
   grows_begun : (b : ℕ) → may_grow s b ≡ true → IsBegun s.stage (known.bytes ++ b ∷ [])
   grows_begun b grows = grind (arith, common_steps, and_parts, begun_push, ltb-true, and-true)
-
-  begun_grows : (b : ℕ) → IsBegun s.stage (known.bytes ++ b ∷ []) → may_grow s b ≡ true
-  begun_grows b begun = grind (arith, common_steps, begun_parts, and_parts, lt-ltb, length_push, both_ways, and-true)
 
   at_hyphen : (o : Option Stage) → stage_after s ≡ o → Tracks (q ++ 45 ∷ []) (set places (place_before (option_map fresh o)) (length q)) (option_map fresh o)
   at_hyphen None next = refused_stops known.part (sym stage_is ∙ next)
@@ -133,7 +124,7 @@ module _ (q places : List ℕ) (s : Begun) (known : IsTracked q places s) where
         before = q ++ 45 ∷ [];
         bytes = [];
         ends = end_at after (length q) known.ends;
-        part = record { split = append-nil (q ++ 45 ∷ []); reads = reads_after known.part after led; begun = empty_begun after };
+        part = record { split = append-nil (q ++ 45 ∷ []); last = last-hyphen q; reads = reads_after known.part after led; begun = empty_begun after };
         kind = refl;
         size = refl;
         marked = rw (length_push q 45) (marked_end places (length q) known.ends after (after_not_start s.stage after known.bytes led) known.marked);
@@ -143,13 +134,14 @@ module _ (q places : List ℕ) (s : Begun) (known : IsTracked q places s) where
       (b : ℕ) → eqb b 45 ≡ false → (grows : Bool) → may_grow s b ≡ grows →
       let grown : Option Begun = cond grows (Some (record { stage = s.stage; kind = kind_after s.kind b; size = s.size + 1 })) None in
       Tracks (q ++ b ∷ []) (set places (place_before grown) (length q)) grown
-  at_other b other false stuck = stuck_stops known.part b other (λ begun. both_ways (may_grow s b) stuck (begun_grows b begun))
+  at_other b other false stuck = stuck_stops known.part b other (λ begun. both_ways (may_grow s b) stuck (begun_grows s known.bytes b known.size begun))
   at_other b other true grows = record {
     before = known.before;
     bytes = known.bytes ++ b ∷ [];
     ends = known.ends;
     part = record {
       split = sym (append_assoc known.before known.bytes (b ∷ [])) ∙ ap (λ x. x ++ b ∷ []) known.part.split;
+      last = last-push q b other ∙ ap (λ x. x ++ b ∷ []) known.part.last;
       reads = known.part.reads;
       begun = grows_begun b grows;
     };
@@ -204,18 +196,12 @@ viable_possible p k within possible = grind (arith, common_steps, possible_viabl
 pub viable_nothing : IsViable []
 viable_nothing = viable_possible [] 0 (omega arith) refl
 
-by_dead : (q places : List ℕ) (b : Option Begun) (o : Option (List ℕ)) → Tracks q places b → FollowsIrregular q o → (is_none b && is_none o) ≡ true → IsViable q → ⊥
-unfolding IsViable IsTag IsIrregular
-by_dead q places b o known follows dead = grind (arith, common_steps, possible_prefix, both_ways)
-
 pub dead_not_viable : (q places : List ℕ) → Tracks q places (position_of q).begun → is_dead (position_of q) ≡ true → IsViable q → ⊥
-dead_not_viable q places tracks dead = by_dead q places _ _ tracks (follows_irregular q) dead
-
-by_alive : (q places : List ℕ) (b : Option Begun) (o : Option (List ℕ)) → Tracks q places b → FollowsIrregular q o → (is_none b && is_none o) ≡ false → IsViable q
-by_alive q places b o stopped gone alive = grind (arith, nat_tests, viable_possible q, reads_viable)
+unfolding IsViable IsTag IsIrregular
+dead_not_viable q places tracks dead = grind (arith, common_steps, possible_prefix, both_ways, follows_irregular q)
 
 pub alive_viable : (q places : List ℕ) → Tracks q places (position_of q).begun → is_dead (position_of q) ≡ false → IsViable q
-alive_viable q places tracks alive = by_alive q places _ _ tracks (follows_irregular q) alive
+alive_viable q places tracks alive = grind (arith, nat_tests, viable_possible q, reads_viable, follows_irregular q)
 
 -- ---- a whole text
 

@@ -5,7 +5,7 @@ use Rattle.langtag_scan.specs.Grammar.{is_letter, is_alphanumeric, are_alphanume
 use Rattle.langtag_scan.specs.declared.ends.Ends.{Ends}
 use Rattle.langtag_scan.specs.declared.finding.Finding.{Finding}
 use Rattle.langtag_scan.proofs.BoolFacts.{chosen}
-use Rattle.langtag_scan.proofs.SubtagFacts.{no_hyphen_each, alphanumeric_no_hyphen, mark_letters, letters_alphanumeric, classes_of-kind, letters-kind_of}
+use Rattle.langtag_scan.proofs.SubtagFacts.{hyphen_free, alphanumeric_no_hyphen, mark_letters, letters_alphanumeric, classes_of-kind, letters-kind_of}
 use Rattle.langtag_scan.proofs.NormalTexts.{after_subtag}
 use Rattle.langtag_scan.proofs.StageLaws.{ends_after}
 
@@ -20,9 +20,6 @@ abbrev pub found_after : Ends → ℕ → List (List ℕ) → Option Stage → O
 found_after e n ss o = option_map_or (λ after. outcome after (end_at after n e) ss) o None
 
 -- ---- segments of a text that begins without a hyphen
-
-hyphen_free : (s : List ℕ) → are_alphanumeric s ≡ true → All (λ b. eqb b 45 ≡ false) s
-hyphen_free s h = All-from_recursion (λ b. eqb b 45 ≡ false) s (no_hyphen_each s h)
 
 pub segments-one : (s : List ℕ) → are_alphanumeric s ≡ true → segments s ≡ s ∷ []
 segments-one s h = slice_split_none (λ b. eqb b 45) s (hyphen_free s h)
