@@ -21,8 +21,7 @@ alphanumeric_below b h = grind (arith, nat_tests)
 
 IsAscii-join : (ss : List (List ℕ)) → AllByRecursion IsSubtag ss → IsAscii (join ss)
 IsAscii-join [] fits = IsAscii-nil
-IsAscii-join (s ∷ []) fits = IsAscii-each is_alphanumeric alphanumeric_below s fits.0.alphanumeric
-IsAscii-join (s ∷ u ∷ us) fits = grind (arith, common_steps, IsAscii-each is_alphanumeric alphanumeric_below s, IsAscii-append s, IsAscii-cons, IsAscii-join (u ∷ us))
+IsAscii-join (s ∷ ss) fits = grind (arith, common_steps, IsAscii-each is_alphanumeric alphanumeric_below s, IsAscii-append s, IsAscii-cons, IsAscii-join ss)
 
 pub IsAscii-spelled : (t : List ℕ) (ss : List (List ℕ)) → join ss ≡ t → AllByRecursion IsSubtag ss → IsAscii t
 IsAscii-spelled t ss spells fits = subst IsAscii spells (IsAscii-join ss fits)

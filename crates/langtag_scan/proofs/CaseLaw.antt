@@ -62,16 +62,13 @@ classes-fold s = grind (arith, common_steps, all-fold, is_letter-fold, is_digit-
 
 -- ---- stages
 
--- two functions that agree
-agree : (f g : Stage → Bool) → ((x : Stage) → f x ≡ g x) → (o : Option Stage) → option_map_or f o false ≡ option_map_or g o false
-agree f g same o = grind (arith, common_steps)
-
 -- folded subtags may follow where those that they fold may
 pub runs-fold : (stage : Stage) (ss : List (List ℕ)) → runs stage (map fold_text ss) ≡ runs stage ss
 unfolding runs
 runs-fold stage [] = refl
 runs-fold stage (s ∷ ss) =
-    rw (classes-fold s) (agree (λ after. runs after (map fold_text ss)) (λ after. runs after ss) (λ after. runs-fold after ss) (next_stage stage s))
+    let rest : (after : Stage) → runs after (map fold_text ss) ≡ runs after ss = λ after. runs-fold after ss in
+    grind (arith, common_steps, classes-fold s, rest)
 
 -- after a mark likewise
 pub runs_private-fold : (ss : List (List ℕ)) → runs_private (map fold_text ss) ≡ runs_private ss

@@ -75,7 +75,9 @@ irregular_once j k t first other =
 pub possible_viable : (p : List ℕ) (k : ℕ) → k < 17 → is_possible p k ≡ true → (u : List ℕ) × IsIrregularAt k (p ++ u)
 possible_viable p k within h =
     let rest : List ℕ = drop (length p) (get_or irregular_texts k []) in
-    (rest, grind (arith, common_steps, irregular_from_fold (p ++ rest) k within, prefix_rest (fold_text p) (folded_at k) h, folded_at-fold k within, length-map p fold_byte, drop-map fold_byte (length p), map-append fold_byte p rest))
+    let same = prefix_rest (fold_text p) (folded_at k) h in
+    let parts = map-append fold_byte p rest in
+    (rest, grind (arith, common_steps, irregular_from_fold (p ++ rest) k within, folded_at-fold k within, length-map p fold_byte, drop-map fold_byte (length p), parts))
 
 -- and each prefix of an irregular text keeps it possible
 pub possible_prefix : (p u : List ℕ) (k : ℕ) → IsIrregularAt k (p ++ u) → (k < 17) × (is_possible p k ≡ true)
@@ -123,7 +125,8 @@ is_accepted k text = (ltb k 17 && bytes_eq (folded_at k) (fold_text text)) || ru
 
 accepted_tag : (k : ℕ) (text : List ℕ) → is_accepted k text ≡ true → IsTag text
 accepted_tag k text accepted =
-    grind (arith, common_steps, or_cases, and_parts, ltb-true, bytes_decides (folded_at k), tag_irregular text k, irregular_from_fold text k, tag_normal text, normal_from_runs text)
+    let same = bytes_decides (folded_at k) (fold_text text) in
+    grind (arith, common_steps, or_cases, and_parts, ltb-true, tag_irregular text k, irregular_from_fold text k, tag_normal text, normal_from_runs text)
 
 -- the text of each entry of the table is a tag
 pub registered_tag : (k : ℕ) (entry : Grandfathered) → slice_get grandfathered_tags k ≡ Some entry → IsTag entry.text

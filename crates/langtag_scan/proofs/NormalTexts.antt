@@ -64,17 +64,12 @@ runs_from_private t (p, fits, spells) =
 -- what such subtags spell is private
 private_from_subtags : (t : List ℕ) (ss : List (List ℕ)) → join ss ≡ t → runs_private ss ≡ true → IsPrivate t
 unfolding IsPrivate
-private_from_subtags t [] e h = absurd cc
-private_from_subtags t ([] ∷ ss) e h = absurd cc
-private_from_subtags t ((m ∷ c ∷ s) ∷ ss) e h = absurd cc
 private_from_subtags t ((m ∷ []) ∷ ss) e h =
     let k = and_parts (is_mark m) (runs AfterMark ss) h in
     let sound = decode_sound ss AfterMark k.1 in
-    let after : (decode AfterMark ss).after ≡ ss = simp append-nil at sound.spells in (
-      record { mark = m; subtags = (decode AfterMark ss).after },
-      record { mark = k.0; some = sound.ready.1; subtags = sound.ready.0 },
-      ap (λ (us : List (List ℕ)). join ((m ∷ []) ∷ us)) after ∙ e,
-    )
+    let after : (decode AfterMark ss).after ≡ ss = simp append-nil at sound.spells in
+    (record { mark = m; subtags = ss }, record { mark = k.0; some = rw (← after) sound.ready.1; subtags = rw (← after) sound.ready.0 }, e)
+private_from_subtags t _ e h = absurd cc
 
 -- and only a private text has such segments
 pub private_from_runs : (t : List ℕ) → runs_private (segments t) ≡ true → IsPrivate t

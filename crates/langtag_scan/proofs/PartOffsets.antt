@@ -151,11 +151,8 @@ ends_after-flat r fits =
     let e = all_at (length r.primary) in
     let others : List (List ℕ) = drop 1 (flat r) in
     let next : next_stage Start r.primary ≡ Some (Language taken) = rw fits.primary refl in
-    let whole_read : put (Language taken) r.primary (decode (Language taken) others) ≡ whole r =
-    sym (decode-cons Start (Language taken) r.primary others next) ∙ (decode_complete r fits).is in
     let run : runs (Language taken) others ≡ true = rw fits.primary at (decode_complete r fits).run in
     let right = over_run AreRight none_right more_right others (Language taken) run e refl (AreOpen-after Start (length r.primary) e) in
-    let d = ends_after (Language taken) e others in
-    let later : AreLater d e (blocks r.extended r) = subst (λ b. AreLater d e (by_part (Language taken) b)) whole_read right in
-    ends_after-cons Start (all_at 0) r.primary others ∙ rw next refl
-    ∙ ends_of-later d r later
+    let first = decode-cons Start (Language taken) r.primary others next in
+    let ends = ends_after-cons Start (all_at 0) r.primary others in
+    grind (arith, common_steps, next, first, (decode_complete r fits).is, ends, ends_of-later (ends_after (Language taken) e others) r, right)

@@ -62,7 +62,7 @@ module _ (places : List ℕ) (n whole : ℕ) (six : length places ≡ 6) (below 
   stage_ends (Language taken) past = language_ends
   stage_ends (Extended taken) past = language_ends
   stage_ends AfterScript past = grind (arith, nat_tests, at 1 0, at 1 1, at 1 2, at 1 3, at 1 4, max-eq_left, below 0, max-eq_right, below 2, below 3, below 4)
-  stage_ends AfterRegion past = grind (arith, nat_tests, at 2 0, at 2 1, at 2 2, at 2 3, at 2 4, max-eq_left, max-le, below 0, below 1, max-eq_right, below 3, below 4)
+  stage_ends AfterRegion past = grind (arith, nat_tests, at 2 0, at 2 1, at 2 2, at 2 3, at 2 4, max-eq_left, max-le, max-eq_right, below 0, below 1, below 3, below 4)
   stage_ends AfterVariant past = grind (arith, nat_tests, at 3 0, at 3 1, at 3 2, at 3 3, at 3 4, max-eq_left, max-le, below 0, below 1, below 2, max-eq_right, below 4)
   stage_ends AfterSingleton past = extensions_end
   stage_ends InExtension past = extensions_end
@@ -291,8 +291,7 @@ pub dead_next :
 dead_next t places i b within read viable known dead =
     let next = next_prefix t i b within read in
     let tracks = tracks_next t places i b _ within next refl known in
-    let never = dead_not_viable (take (i + 1) t) _ tracks (ap (λ q. is_dead (position_of q)) (sym next) ∙ dead) in
-    (no_tag_dead t (i + 1) never, viable_up_to t i (omega arith) viable never, stop_at t (i + 1) (omega arith) (λ k below. prefixes_viable t i k viable (omega arith)) never)
+    grind (arith, common_steps, dead_not_viable (take (i + 1) t) _ tracks, no_tag_dead t (i + 1), viable_up_to t i, stop_at t (i + 1), prefixes_viable t i)
 
 -- up to its end
 pub text_ended :

@@ -27,7 +27,7 @@ irregular_from_prefix : (p : List ℕ) → IsIrregularPrefix p → IsViable p
 unfolding IsIrregularAt IsIrregularPrefix
 irregular_from_prefix p (k, name, at, same) =
     let rest = drop (length p) name in
-    grind (arith, common_steps, map-append fold_byte p rest, map-append fold_byte (take (length p) name) rest, take-append-drop (length p) name, viable_from_tag p rest, tag_irregular (p ++ rest) k)
+    grind (arith, common_steps, map-append fold_byte (take (length p) name) rest, viable_from_tag p rest, tag_irregular (p ++ rest) k)
 
 -- ---- the law
 
@@ -36,7 +36,7 @@ tracked_from : (q places p : List ℕ) → Tracks q places (position_of q).begun
 tracked_from q places [] known = (places, rw (append-nil q) known)
 tracked_from q places (b ∷ p) known =
     let places_on = set places (place_before (option_map_or (begun_after b) (position_of q).begun None)) (length q) in
-    rw (← append_assoc q (b ∷ []) p) (tracked_from (q ++ b ∷ []) places_on p (rw (position_of-push q b) (tracks_push q places b (position_of q).begun known)))
+    rw (← append_assoc q (b ∷ []) p) (tracked_from (q ++ b ∷ []) places_on p (rw (position_of-push q b) (tracks_push q places b _ known)))
 
 by_begun : (p places : List ℕ) (o : Option Begun) → Tracks p places o → IsViable p → IsTag (fill p) ⊎ IsIrregularPrefix p
 unfolding IsViable IsTag IsIrregular

@@ -110,7 +110,7 @@ filled_letters : (s : List ℕ) → are_letters s ≡ true → are_letters (s ++
 filled_letters s h = list_all-append is_letter s (filling s) ∙ rw (h, letters_a (5 - length s)) refl
 
 filled_finishes : (stage : Stage) (s : List ℕ) → IsBegun stage s → finishes stage (classes_of (s ++ filling s)) ≡ true
-filled_finishes stage s begun = grind (arith, common_steps, filled stage s begun, after_full stage, letters-kind_of, filled_letters s, classes_of-kind, le-leb, lt-leb, ne_eqb)
+filled_finishes stage s begun = grind (arith, common_steps, filled stage s begun, after_full, letters-kind_of, filled_letters s, classes_of-kind, le-leb, lt-leb, ne_eqb)
 
 found_once : (e : Ends) (n : ℕ) (o : Option Stage) → option_map_or may_end o false ≡ true → (f : Finding) × (found_after e n [] o ≡ Some f)
 unfolding outcome

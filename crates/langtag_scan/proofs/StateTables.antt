@@ -140,19 +140,20 @@ pub class_within : (b : ℕ) → b < 256 → class_of b < 29
 class_within b within = ltb-true _ _ (and_parts (ltb (class_of b) 29) _ (bytes_classed b within)).0
 
 text_byte_at : (k j : ℕ) → k < 17 → j < length (folded_at k) → is_text_byte (get_or (folded_at k) j 0) ≡ true
-text_byte_at k j within inside = AllPass-from_list_all is_text_byte (folded_at k) (agree_below_at (λ k. list_all is_text_byte (folded_at k)) (λ k. true) 17 k texts_plain within) j 0 inside
+text_byte_at k j within = AllPass-from_list_all is_text_byte _ (agree_below_at (λ k. list_all is_text_byte (folded_at k)) (λ k. true) 17 k texts_plain within) j 0
 
 -- no irregular text has another byte
 outside : (p : List ℕ) (c : ℕ) (o : Option ℕ) → is_text_byte c ≡ false → possible_index (p ++ c ∷ []) ≡ o → o ≡ None
 outside p c None other at = refl
 outside p c (Some k) other at =
-    grind (arith, common_steps, position-Some (is_prefix (p ++ c ∷ [])) folded_texts k [] at, seventeen_folded, is_prefix-push p (folded_at k) c, and_parts, ltb-true, eqb-true, text_byte_at k (length p), both_ways)
+    grind (arith, common_steps, position-Some (is_prefix (p ++ c ∷ [])) folded_texts k [] at, seventeen_folded, is_prefix-push, and_parts, ltb-true, eqb-true, text_byte_at, both_ways)
 
 irregular_after-same : (o : Option (List ℕ)) (c b : ℕ) → eqb c 45 ≡ eqb b 45 → is_letter c ≡ is_letter b → (eqb (fold_byte c) (fold_byte b) || not (is_text_byte b)) ≡ true →
     option_map_or (irregular_after c) o None ≡ option_map_or (irregular_after b) o None
 irregular_after-same None c b hyphens letters folds = refl
 irregular_after-same (Some p) c b hyphens letters folds =
-    grind (arith, common_steps, or_cases, eqb-true, not-true, is_letter-fold, hyphen-fold, outside p (fold_byte b) (possible_index (p ++ fold_byte b ∷ [])), outside p (fold_byte c) (possible_index (p ++ fold_byte c ∷ [])))
+    let none : (x : ℕ) → is_text_byte x ≡ false → possible_index (p ++ x ∷ []) ≡ None = λ x other. outside p x _ other refl in
+    grind (arith, common_steps, or_cases, eqb-true, not-true, is_letter-fold, hyphen-fold, none (fold_byte b), none (fold_byte c))
 
 position_after-same : (p : Position) (c b : ℕ) → is_alike_by c b ≡ true → position_after p c ≡ position_after p b
 position_after-same p c b alike = grind (arith, common_steps, and_parts, same_from_beq, irregular_after-same p.irregular c b)
@@ -165,7 +166,8 @@ is_alike_by-fold b = grind (arith, nat_tests, hyphen-fold b, is_letter-fold b, i
 
 position_from-fold : (q : List ℕ) (p : Position) → fold position_after p (fold_text q) ≡ fold position_after p q
 position_from-fold [] p = refl
-position_from-fold (b ∷ q) p = ap (λ r. fold position_after r (fold_text q)) (position_after-same p (fold_byte b) b (is_alike_by-fold b)) ∙ position_from-fold q (position_after p b)
+position_from-fold (b ∷ q) p =
+    ap (λ r. fold position_after r (fold_text q)) (position_after-same p _ b (is_alike_by-fold b)) ∙ position_from-fold q (position_after p b)
 
 -- ---- what the tables say of a state
 
