@@ -128,15 +128,11 @@ after_first s ss v many = grind (arith, common_steps, after_single (s ∷ []) ss
 
 -- a fold has no hyphen where its text has none
 hyphen_free-folded : (s : List ℕ) → IsHyphenFree s → IsHyphenFree (fold_text s)
-hyphen_free-folded [] free = All-nil (λ b. is_hyphen b ≡ false)
-hyphen_free-folded (b ∷ s) free = search (rules, arith, All-cons, hyphen-fold, All-head, hyphen_free-folded s, All-tail)
+hyphen_free-folded s free k d inside = grind (arith, common_steps, hyphen-fold (get_or s k d), free k d)
 
 -- and the other way round
 hyphen_free-fold : (s : List ℕ) → IsHyphenFree (fold_text s) → IsHyphenFree s
-hyphen_free-fold [] free = All-nil (λ b. is_hyphen b ≡ false)
-hyphen_free-fold (b ∷ s) free =
-    All-cons (λ b. is_hyphen b ≡ false) b s (sym (hyphen-fold b) ∙ All-head (λ b. is_hyphen b ≡ false) (fold_byte b) (fold_text s) free)
-    (hyphen_free-fold s (All-tail (λ b. is_hyphen b ≡ false) (fold_byte b) (fold_text s) free))
+hyphen_free-fold s free k d inside = grind (arith, common_steps, hyphen-fold (get_or s k d), free k d)
 
 -- nor have subtags in their case
 hyphen_free-recommended : (before ss : List (List ℕ)) → All IsHyphenFree ss → All IsHyphenFree (recommended_after before ss)
@@ -253,14 +249,11 @@ recommended_spelled r fits =
         ≡ map fold_text r.extended ++ (one_flat (option_map title_text r.script) ++ (one_flat (option_map capital_text r.region)
         ++ (map fold_text r.variants ++ (flat_map extension_flat (map fold_extension r.extensions) ++ private_part_flat (option_map fold_private_use r.private_use)))))
     parts =
-        part-cased is_extended fold_text extended-cased r.extended _ fits.extended
-        ∙ ap (λ ss. map fold_text r.extended ++ ss) (
-        one-cased is_script title_text script-cased r.script _ fits.script
-        ∙ ap (λ ss. one_flat (option_map title_text r.script) ++ ss) (
-        one-cased is_region capital_text region-cased r.region _ fits.region
-        ∙ ap (λ ss. one_flat (option_map capital_text r.region) ++ ss) (
-        part-cased is_variant fold_text variant-cased r.variants _ fits.variants
-        ∙ ap (λ ss. map fold_text r.variants ++ ss) (tail-cased r.extensions r.private_use))))
+        let extended = part-cased is_extended fold_text extended-cased r.extended in
+        let script = one-cased is_script title_text script-cased r.script in
+        let region = one-cased is_region capital_text region-cased r.region in
+        let variants = part-cased is_variant fold_text variant-cased r.variants in
+        grind (arith, common_steps, extended, script, region, variants, tail-cased r.extensions r.private_use)
 
 -- and so does the text of a tag in its recommended case
 pub spelled_in_case : (old new : List ℕ) → new ≡ recommended_text old → EachRecord old (λ r. new ≡ spell (recommended_record r))
