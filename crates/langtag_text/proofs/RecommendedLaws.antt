@@ -36,18 +36,10 @@ title-fold s = grind (arith, common_steps, upper-fold, fold_text-twice s)
 pub by_length-fold : (s : List ℕ) → by_length (fold_text s) ≡ by_length s
 by_length-fold s = rw (length-fold s, map-same to_ascii_uppercase fold_byte to_ascii_uppercase upper-fold s, title-fold s, fold_text-twice s) refl
 
--- so does a choice of two that do
-fold-cond : (v : Bool) (a b s : List ℕ) → fold_text a ≡ fold_text s → fold_text b ≡ fold_text s → fold_text (cond v a b) ≡ fold_text s
-fold-cond v a b s h k = grind (arith, common_steps)
-
--- the fold is as long
-single-fold : (s : List ℕ) → is_single (fold_text s) ≡ is_single s
-single-fold s = ap (λ n. n == 1) (length-fold s)
-
--- and so are those of a list
+-- the fold is as long, and so are those of a list
 any_single-fold : (ss : List (List ℕ)) → list_any is_single (map fold_text ss) ≡ list_any is_single ss
 any_single-fold [] = refl
-any_single-fold (s ∷ ss) = rw (single-fold s, any_single-fold ss) refl
+any_single-fold (s ∷ ss) = rw (length-fold s, any_single-fold ss) refl
 
 -- a subtag has the case of its fold, among folded ones
 recommended_subtag-fold : (before : List (List ℕ)) (s : List ℕ) → recommended_subtag (map fold_text before) (fold_text s) ≡ recommended_subtag before s
@@ -55,7 +47,7 @@ recommended_subtag-fold before s = grind (arith, common_steps, length-map before
 
 -- and folds as it did
 fold-recommended_subtag : (before : List (List ℕ)) (s : List ℕ) → fold_text (recommended_subtag before s) ≡ fold_text s
-fold-recommended_subtag before s = grind (arith, common_steps, fold-cond, fold_text-twice, map-same, fold-upper)
+fold-recommended_subtag before s = grind (arith, common_steps, fold_text-twice, map-same, fold-upper)
 
 -- ---- lists of subtags
 

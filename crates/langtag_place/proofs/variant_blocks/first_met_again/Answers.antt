@@ -39,9 +39,7 @@ loop-index-preserved g c =
       counter = omega (arith, c.loop-index.invariant.counter, ap length c.in-Some.ensures.steps);
       within = omega (arith, within, apart);
       flags = c.meet.ensures.room ∙ c.loop-index.invariant.flags;
-      met = subst (AreMet c.args.block.now c.meet.new.met)
-          (ap (λ n. earlier ++ n ∷ []) c.number_of.ensures ∙ sym (numbers-more all index text _ at))
-          (c.meet.ensures.met earlier c.loop-index.invariant.met);
+      met = rw (numbers-more all index text _ at, ← c.number_of.ensures) (c.meet.ensures.met earlier c.loop-index.invariant.met);
       new = HasNoRepeatBefore-more all index c.loop-index.invariant.new
           (new-here all c.args.start index text _ c.args.block.now c.args.variants.in_class c.in-Some.variant.in_class c.requires.new c.requires.from_start at
           (omega (arith, within, apart)) again);
