@@ -1,6 +1,6 @@
 -- The case of letters changes no class, no segment and no stage; so it changes no kind of tag, no part and no end.
-use Rattle.langtag_scan.proofs.Prelude.{◌≡◌, ℕ, Bool, false, eqb, List, [], ◌∷◌, ◌++◌, length, map, Option, inl, inr, refl, sym, ap, ◌∙◌, arith, IsTrue, IfSome, AllByRecursion, list_all, flat_map, option_map_or, nat_tests, length-map, map-append, common_steps, option_map}
-use Rattle.langtag_scan.specs.Grammar.{fold_byte, fold_text, Alike, are_alike, fold_extension, fold_private_use, fold_record, AlikeRecords, is_letter, is_digit, is_alphanumeric, is_primary, is_extended, is_script, is_region, is_variant, is_extension_subtag, is_private_subtag, is_mark, is_singleton, ends_of, Extension, PrivateUse, Record, IsWellFormedExtension, IsWellFormedPrivateUse, IsWellFormed, extension_flat, one_flat, private_part_flat, flat, spell, EachRecord, Stage, Start, Classes, is_one, classes_of, next_stage, join, segments, subtags, IsNormal, IsPrivate, IsIrregular, IsIrregularAt, IsTag, are_alike-decides}
+use Rattle.langtag_scan.proofs.Prelude.{◌≡◌, ℕ, Bool, eqb, List, [], ◌∷◌, ◌++◌, length, map, Option, refl, sym, ap, ◌∙◌, arith, IsTrue, list_all, flat_map, option_map_or, nat_tests, length-map, map-append, common_steps, option_map}
+use Rattle.langtag_scan.specs.Grammar.{fold_byte, fold_text, Alike, are_alike, fold_extension, fold_private_use, fold_record, AlikeRecords, is_letter, is_digit, is_alphanumeric, is_primary, is_extended, is_script, is_region, is_variant, is_extension_subtag, is_private_subtag, is_mark, is_singleton, ends_of, Extension, PrivateUse, Record, IsWellFormed, extension_flat, one_flat, private_part_flat, flat, spell, EachRecord, Stage, Start, is_one, classes_of, next_stage, join, segments, subtags, IsNormal, IsPrivate, IsIrregular, IsIrregularAt, IsTag, are_alike-decides}
 use Rattle.langtag_scan.specs.AlikeRecords.{IsSpelledAlike}
 use Rattle.langtag_scan.proofs.Decoding.{Read, nothing, put, decode, decode_complete}
 use Rattle.langtag_scan.proofs.NormalTexts.{normal_from_runs, runs_from_normal, spelled_segments, runs_private, runs_from_private, private_from_runs}

@@ -1,5 +1,5 @@
 -- How the order of texts without regard to case goes on from an index, and what it answers where a text has ended.
-use Rattle.langtag_scan.proofs.Prelude.{◌≡◌, ℕ, suc, All, ◌+◌, ◌-◌, ◌<◌, min, true, false, cond, List, [], ◌∷◌, length, get_or, take, drop, refl, ◌∙◌, arith, add-one, Less, Greater, Ordering, nat_cmp, Fits-of_lt, drop-cons, common_steps}
+use Rattle.langtag_scan.proofs.Prelude.{◌≡◌, ℕ, suc, All, ◌+◌, ◌-◌, ◌<◌, min, true, false, List, [], ◌∷◌, length, get_or, take, drop, refl, arith, add-one, Less, Greater, Ordering, nat_cmp, Fits-of_lt, drop-cons, common_steps}
 use Rattle.std.proofs.Common.{Fits, w8, length-drop, get_or-drop}
 use Rattle.std.specs.Ordering.{ordering_then, is_ne}
 use Rattle.std.proofs.Math.ListN.{get_or-eq_default}

@@ -1,5 +1,5 @@
 -- The irregular texts, and which of them a text may still become; no text is of two kinds of tags, and each grandfathered text is a tag.
-use Rattle.langtag_scan.proofs.Prelude.{◌≡◌, ◌↔◌, ℕ, ◌<◌, Bool, true, eqb, ◌&&◌, List, [], ◌∷◌, ◌++◌, length, get_or, take, drop, IsTrue, list_any, list_any_at, Any-from_list_any, slice_get_read, refl, sym, ◌∙◌, arith, false, map, ltb, ◌||◌, slice_get, None, Some, inl, inr, ap, eq-eqb, and_parts, and_from, agree_below, agree_below_at, both_ways, ltb-true, or_cases, nat_tests, map-append, drop-map, length-map, get_or-map, slice_get-get_or, slice_get_within, get_or_from_slice_get, common_steps, bytes_decides, bytes_eq, eqb-true}
+use Rattle.langtag_scan.proofs.Prelude.{◌≡◌, ◌↔◌, ℕ, ◌<◌, Bool, true, eqb, ◌&&◌, List, [], ◌∷◌, ◌++◌, length, get_or, take, drop, IsTrue, list_any, list_any_at, Any-from_list_any, slice_get_read, refl, sym, ◌∙◌, arith, false, map, ltb, ◌||◌, slice_get, None, Some, ap, eq-eqb, and_parts, and_from, agree_below, agree_below_at, both_ways, ltb-true, or_cases, nat_tests, map-append, drop-map, length-map, get_or-map, slice_get-get_or, slice_get_within, get_or_from_slice_get, common_steps, bytes_decides, bytes_eq, eqb-true}
 use Rattle.std.proofs.Common.{Decides}
 use Rattle.langtag_scan.specs.Grammar.{fold_byte, fold_text, grandfathered_tags, irregular_texts, Grandfathered, folded_texts, folded_at, is_prefix, is_possible, Alike, are_alike, are_alike-decides, IsIrregularPrefix, IsIrregularAt, IsNormal, IsPrivate, IsIrregular, IsTag, is_letter, is_digit, is_primary, is_extended, is_script, is_region, is_variant, is_extension_subtag, is_private_subtag, is_mark, is_singleton, segments, Start}
 use Rattle.langtag_scan.specs.Irregular.{has_at}

@@ -1,6 +1,6 @@
 -- A join is its first subtag and the others, each after a hyphen. So lists of subtags that follow one another do so in
 -- the text, too, and it can be cut between them.
-use Rattle.langtag_scan.proofs.Prelude.{◌≡◌, ℕ, ◌+◌, ◌-◌, List, [], ◌∷◌, ◌++◌, length, take, drop, Option, None, Some, unwrap_or, refl, sym, ap, ◌∙◌, arith, append_assoc, append-nil, option_map, flat_map, replace_range, take_at, drop_at, length_push, common_steps, flat_map-append, eq-eqb, ne_eqb, length-append, nat_tests}
+use Rattle.langtag_scan.proofs.Prelude.{◌≡◌, ℕ, ◌+◌, List, [], ◌∷◌, ◌++◌, length, take, drop, Option, None, Some, unwrap_or, refl, sym, ap, ◌∙◌, arith, append_assoc, append-nil, option_map, flat_map, replace_range, take_at, drop_at, common_steps, flat_map-append, eq-eqb, ne_eqb, length-append, nat_tests}
 use Rattle.langtag_scan.specs.Grammar.{PrivateUse, one_flat, private_use_flat, private_part_flat, join, text_between}
 use Rattle.langtag_scan.specs.Parts.{present}
 

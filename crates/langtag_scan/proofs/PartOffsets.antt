@@ -1,11 +1,11 @@
 -- Each part of a record stands between the end of the part before and its own end, and so do the ends that are kept subtag by subtag.
-use Rattle.langtag_scan.proofs.Prelude.{◌≡◌, ℕ, List, [], ◌++◌, take, drop, arith, ◌∙◌, append_assoc, append-nil, ◌+◌, length, subst, zero, suc, ◌≤◌, true, false, cond, leb, ◌∷◌, Some, refl, sym, length-append, common_steps, nat_tests, flat_map}
+use Rattle.langtag_scan.proofs.Prelude.{◌≡◌, ℕ, List, [], ◌++◌, take, drop, arith, ◌∙◌, append_assoc, append-nil, ◌+◌, length, zero, suc, ◌≤◌, true, false, cond, leb, ◌∷◌, Some, refl, length-append, common_steps, nat_tests, flat_map}
 use Rattle.langtag_scan.specs.Grammar.{to_region, to_variants, ends_of, Record, extension_flat, one_flat, private_part_flat, flat, spell, IsWellFormed, join, language_part, private_use_part, text_between, AreInOrder, all_at, end_at, index_after, Stage, Start, Language, next_stage, may_end}
 use Rattle.langtag_scan.specs.Ends.{to_script, to_extensions}
 use Rattle.langtag_scan.specs.Parts.{parts}
 use Rattle.langtag_scan.specs.declared.ends.Ends.{Ends}
 use Rattle.langtag_scan.proofs.Joins.{join-hyphenated, hyphenated-append, hyphenated-present, join-append, take-join, length-join, length-hyphenated, joined, joined-one, joined-private, text_between-join, text_between-lists, hyphenated}
-use Rattle.langtag_scan.proofs.Decoding.{decode_complete, Read, put, whole, decode, decode-cons, over_run, add, blocks, by_part, by_part-put}
+use Rattle.langtag_scan.proofs.Decoding.{decode_complete, Read, whole, decode, decode-cons, over_run, add, blocks, by_part, by_part-put}
 use Rattle.langtag_scan.proofs.Running.{ends_after-cons}
 use Rattle.langtag_scan.proofs.StageLaws.{runs, ends_after, is_outside, next_inside, place, places, next_step}
 

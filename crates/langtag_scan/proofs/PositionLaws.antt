@@ -1,6 +1,5 @@
 -- What a position says is so: which tags may follow the bytes that led to it, where their parts have ended, and what they are as a whole text.
-use Rattle.langtag_scan.proofs.Prelude.{◌≡◌, ℕ, ◌+◌, ◌<◌, ◌≤◌, Bool, true, false, cond, eqb, eqb-true, List, [], ◌∷◌, ◌++◌, length, get_or, set, Option, Some, None, refl, arith, append_assoc, append-nil, sym, ap, ◌∙◌, MatchOption, replicate, ◌&&◌, take, subst, option_map_or, is_none, and-true, cases_lt, and_parts, lt-ltb, ltb-true, both_ways, common_steps, length_push, length-set, map-append, take_more, take_all, length-take, get_or-replicate, position-Some, fold-append, fails_before_first, bytes_eq-Decides, ne_eqb, position, bytes_eq, option_map, nat_tests}
-use Rattle.std.specs.Prelude.{max}
+use Rattle.langtag_scan.proofs.Prelude.{◌≡◌, ℕ, ◌+◌, ◌<◌, ◌≤◌, Bool, true, false, cond, eqb, eqb-true, List, [], ◌∷◌, ◌++◌, length, get_or, set, Option, Some, None, refl, arith, append_assoc, append-nil, sym, ap, ◌∙◌, MatchOption, replicate, take, subst, option_map_or, and-true, cases_lt, and_parts, lt-ltb, ltb-true, both_ways, common_steps, length_push, length-set, map-append, take_more, take_all, length-take, get_or-replicate, position-Some, fold-append, fails_before_first, bytes_eq-Decides, ne_eqb, position, bytes_eq, option_map, nat_tests}
 use Rattle.std.proofs.Math.Nat.{max-le, max-eq_left, max-eq_right}
 use Rattle.std.proofs.lemmas.Bool.{and_left}
 use Rattle.std.proofs.lemmas.List.{set-get_or}
@@ -271,10 +270,8 @@ pub tracks_next :
 tracks_next t places i b place within next is known =
     let pushed = tracks_push (take i t) places b (position_of (take i t)).begun known in
     let step = position_of-push (take i t) b in
-    let same : place_before (option_map_or (begun_after b) (position_of (take i t)).begun None) ≡ place = ap part_before (sym step) ∙ sym is in
-    let long : length (take i t) ≡ i = omega (arith, length-take i t, within) in
-    let here : Tracks (take i t ++ b ∷ []) (set places place i) (position_of (take i t ++ b ∷ [])).begun = rw step (rw (same, long) at pushed) in
-    subst (λ q. Tracks q (set places place i) (position_of q).begun) next here
+    let long = length-take i t in
+    grind (arith, common_steps)
 
 -- the first byte, which ends no part
 pub tracks_first : (t : List ℕ) (b : ℕ) → 0 < length t → b ∷ [] ≡ take 1 t → Tracks (take 1 t) (replicate 6 0) (position_of (take 1 t)).begun

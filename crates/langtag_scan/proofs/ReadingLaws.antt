@@ -1,19 +1,12 @@
 -- A prefix is viable exactly where it fills to a tag or begins an irregular text.
-use Rattle.langtag_scan.proofs.Prelude.{◌≡◌, set, option_map_or, replicate, inl, ℕ, false, eqb, List, [], ◌∷◌, ◌++◌, length, Some, None, refl, sym, ap, ◌∙◌, arith, append_assoc, append-nil, Option, ◌↔◌, ◌-◌, eqb-true, ◌⊎◌, subst, Bool, true, take, drop, length_push, map-append, take-append-drop, length-map, take-map, drop-append-le, drop_all, reverse-append, common_steps, take-append_seam, length-append, nat_tests}
-use Rattle.langtag_scan.specs.Grammar.{IsBegun, all_at, end_at, index_after, outcome, outcome_of, HasStopped, IsRefused, Stage, Start, after_stage, segments, is_hyphen, IsTag, IsIrregular, IsIrregularAt, IsViable, filling, IsIrregularPrefix, fold_byte, fold_text}
-use Rattle.langtag_scan.specs.Machine.{Reads}
+use Rattle.langtag_scan.proofs.Prelude.{set, option_map_or, replicate, inl, ℕ, List, [], ◌∷◌, ◌++◌, length, Some, None, sym, arith, append_assoc, append-nil, Option, ◌↔◌, ◌⊎◌, subst, take, drop, map-append, length-map, take-map, common_steps, take-append_seam, nat_tests}
+use Rattle.langtag_scan.specs.Grammar.{IsTag, IsIrregular, IsIrregularAt, IsViable, filling, IsIrregularPrefix, fold_byte, fold_text}
 use Rattle.langtag_scan.specs.Viable.{fill}
-use Rattle.langtag_scan.specs.declared.ends.Ends.{Ends}
-use Rattle.langtag_scan.specs.declared.finding.Finding.{Finding}
 use Rattle.langtag_scan.specs.Position.{begun_after}
 use Rattle.langtag_scan.specs.Grammar.{Begun, position_of}
 use Rattle.langtag_scan.proofs.PositionLaws.{place_before, Tracks, tracks_nothing, tracks_push, position_of-push}
 use Rattle.langtag_scan.proofs.SubtagReading.{reads_filled}
-use Rattle.langtag_scan.proofs.Running.{filled_found, found_after, segments-one, segments-hyphen, outcome-begun, outcome-ended, empty_begun}
-use Rattle.langtag_scan.proofs.FoundLaws.{tag_found, decided, Decides}
-use Rattle.langtag_scan.proofs.StageLaws.{after_not_start, index_after-length}
 use Rattle.langtag_scan.proofs.TagLaws.{viable_from_tag, tag_irregular}
-use Rattle.std.specs.List.{after_last}
 
 -- ---- prefixes of irregular texts
 

@@ -1,7 +1,7 @@
 -- How the stages run over the segments of a text, and what is found where a subtag goes on, is filled or ends.
-use Rattle.langtag_scan.proofs.Prelude.{◌≡◌, Bool, nat_tests, ℕ, ◌<◌, true, false, eqb, List, [], ◌∷◌, ◌++◌, length, Option, Some, None, refl, ap, arith, append_assoc, sym, subst, ◌∙◌, zero, suc, ◌-◌, ◌≤◌, cond, replicate, and_parts, le-leb, onto_first, option_map_or, length_push, length-replicate, All-from_recursion, list_all-append, slice_split_none, slice_split_at, slice_split-cons_no, slice_split-cons_yes, common_steps, ne_eqb, All, length-append}
+use Rattle.langtag_scan.proofs.Prelude.{◌≡◌, Bool, nat_tests, ℕ, ◌<◌, true, false, eqb, List, [], ◌∷◌, ◌++◌, length, Option, Some, None, refl, ap, arith, append_assoc, sym, subst, ◌∙◌, zero, suc, ◌-◌, ◌≤◌, replicate, and_parts, le-leb, onto_first, option_map_or, length_push, length-replicate, list_all-append, slice_split_none, slice_split_at, slice_split-cons_no, slice_split-cons_yes, common_steps, ne_eqb, length-append}
 use Rattle.std.proofs.lemmas.Bool.{lt-leb}
-use Rattle.langtag_scan.specs.Grammar.{is_letter, is_alphanumeric, are_alphanumeric, is_primary, are_letters, is_hyphen, segments, Stage, Start, next_stage, after_stage, Classes, classes_of, after_by, may_end, Language, Extended, AfterScript, AfterRegion, AfterVariant, AfterSingleton, InExtension, AfterMark, InPrivate, AfterFirstMark, InPrivateTag, end_at, index_after, outcome, IsBegun, found_by, Kind, has_letters, classes_by, filling}
+use Rattle.langtag_scan.specs.Grammar.{is_letter, is_alphanumeric, are_alphanumeric, is_primary, are_letters, is_hyphen, segments, Stage, Start, next_stage, after_stage, Classes, classes_of, after_by, may_end, end_at, index_after, outcome, IsBegun, found_by, Kind, has_letters, classes_by, filling}
 use Rattle.langtag_scan.specs.declared.ends.Ends.{Ends}
 use Rattle.langtag_scan.specs.declared.finding.Finding.{Finding}
 use Rattle.langtag_scan.proofs.BoolFacts.{chosen}

@@ -1,5 +1,5 @@
 -- The stages of a normal tag: how they run over its subtags, which may come after another one, and which subtag leads there.
-use Rattle.langtag_scan.proofs.Prelude.{option_map_or, ◌≡◌, ℕ, ◌+◌, ◌≤◌, Bool, true, false, cond, eqb, ltb, leb, ◌&&◌, List, Option, Some, None, sym, ap, ◌∙◌, arith, [], length, and_parts, nat_tests, common_steps, ◌∷◌}
+use Rattle.langtag_scan.proofs.Prelude.{option_map_or, ◌≡◌, ℕ, ◌+◌, ◌≤◌, Bool, true, false, cond, eqb, ltb, leb, ◌&&◌, List, Some, arith, [], length, and_parts, nat_tests, common_steps, ◌∷◌}
 use Rattle.langtag_scan.specs.Grammar.{end_at, index_after, Stage, next_stage, may_end, Start, Language, Extended, AfterScript, AfterRegion, AfterVariant, AfterSingleton, InExtension, AfterMark, InPrivate, AfterFirstMark, InPrivateTag, Classes, classes_of, after_by, after_stage}
 use Rattle.langtag_scan.specs.Stage.{next_by}
 use Rattle.langtag_scan.specs.declared.ends.Ends.{Ends}

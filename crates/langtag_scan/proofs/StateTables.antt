@@ -1,5 +1,5 @@
 -- What the tables say of the state of a position is what the grammar says of the position: by computation.
-use Rattle.langtag_scan.proofs.Prelude.{◌≡◌, ℕ, ◌+◌, ◌-◌, ◌<◌, ◌≤◌, Bool, true, false, cond, eqb, eqb-true, ltb, leb, not, ◌&&◌, ◌||◌, List, [], ◌∷◌, ◌++◌, length, take, get_or, Option, Some, None, refl, ap, ◌∙◌, arith, zero, suc, drop, inl, inr, sym, subst, codes, fold, MatchOption, list_all, option_map_or, take-append_seam, agree_below, agree_below_at, and_parts, or_cases, not-true, ltb-true, leb-true, lt-ltb, cases_lt, both_ways, get_or_past, position-Some, common_steps, eq-eqb, ne_eqb, option_map, length-append, nat_tests}
+use Rattle.langtag_scan.proofs.Prelude.{◌≡◌, ℕ, ◌+◌, ◌-◌, ◌<◌, ◌≤◌, Bool, true, false, cond, eqb, eqb-true, ltb, leb, not, ◌&&◌, ◌||◌, List, [], ◌∷◌, ◌++◌, length, take, get_or, Option, Some, None, refl, ap, ◌∙◌, arith, zero, suc, drop, inl, inr, sym, subst, codes, fold, MatchOption, list_all, option_map_or, take-append_seam, agree_below, agree_below_at, and_parts, or_cases, not-true, ltb-true, leb-true, lt-ltb, cases_lt, both_ways, get_or_past, position-Some, common_steps, eq-eqb, ne_eqb, length-append, nat_tests}
 use Rattle.std.specs.Cmp.{booleans_Decides}
 use Rattle.std.proofs.Math.Bool.{beq}
 use Rattle.std.proofs.lemmas.Bool.{le-ltb}
@@ -87,6 +87,7 @@ is_row_described stage kind = leb (length (states_of stage kind)) 9 && agree_bel
 abbrev are_rows_described : Stage → Bool
 are_rows_described stage = list_all (is_row_described stage) kinds
 
+-- a fourth extended subtag takes none of the three places
 rows_described : (stage : Stage) → are_rows_described stage ≡ true
 unfolding is_described_by states_of is_letter is_digit is_mark fold_byte
 rows_described Start = refl

@@ -1,5 +1,5 @@
 -- What the classes of subtags have in common: one to eight letters and digits, and so no hyphen (RFC 5646 section 2.1).
-use Rattle.langtag_scan.proofs.Prelude.{◌≡◌, ℕ, ◌≤◌, true, false, not, eqb, eqb-true, List, [], ◌∷◌, length, refl, ap, arith, suc, Bool, ◌&&◌, sym, ◌∙◌, fold, or-true, and-true, AllByRecursion, ne_eqb, and_parts, or_cases, le-leb, false_from_ne_true, both_ways, All-from_recursion, common_steps, nat_tests, All}
+use Rattle.langtag_scan.proofs.Prelude.{◌≡◌, ℕ, ◌≤◌, true, false, not, eqb, eqb-true, List, [], ◌∷◌, length, refl, ap, arith, suc, Bool, ◌&&◌, sym, fold, or-true, and-true, AllByRecursion, ne_eqb, and_parts, or_cases, le-leb, false_from_ne_true, both_ways, All-from_recursion, common_steps, nat_tests, All}
 use Rattle.std.proofs.Math.Bool.{and_assoc}
 use Rattle.langtag_scan.specs.Grammar.{is_letter, is_digit, is_alphanumeric, has_length, are_letters, are_digits, are_alphanumeric, is_primary, is_extended, is_script, is_region, is_variant, is_extension_subtag, is_private_subtag, is_mark, is_singleton, is_one, classes_of, Kind, Empty, kind_after, kind_of, has_letters, classes_by}
 use Rattle.langtag_scan.proofs.BoolFacts.{between_true, list_all-weaker}

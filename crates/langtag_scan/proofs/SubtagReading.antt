@@ -1,14 +1,13 @@
 -- What is known of a text while another of its subtags is read, and once it has ended.
-use Rattle.langtag_scan.proofs.Prelude.{◌≡◌, ℕ, false, eqb, List, [], ◌∷◌, ◌++◌, length, Some, None, refl, sym, ap, ◌∙◌, arith, append_assoc, append-nil, Option, ◌↔◌, ◌-◌, eqb-true, ◌⊎◌, subst, Bool, true, take, drop, length_push, map-append, take-append-drop, length-map, take-map, drop-append-le, drop_all, reverse-append, common_steps, take-append_seam, length-append, nat_tests}
-use Rattle.langtag_scan.specs.Grammar.{IsBegun, all_at, end_at, index_after, outcome, outcome_of, HasStopped, IsRefused, Stage, Start, after_stage, segments, is_hyphen, IsTag, IsIrregular, IsIrregularAt, IsViable, filling, IsIrregularPrefix, fold_byte, fold_text}
+use Rattle.langtag_scan.proofs.Prelude.{◌≡◌, ℕ, false, eqb, List, [], ◌∷◌, ◌++◌, length, Some, None, refl, sym, ap, ◌∙◌, arith, append_assoc, append-nil, ◌-◌, length_push, drop-append-le, drop_all, reverse-append, common_steps, length-append}
+use Rattle.langtag_scan.specs.Grammar.{IsBegun, all_at, end_at, index_after, outcome, outcome_of, HasStopped, IsRefused, Stage, Start, after_stage, segments, is_hyphen, IsTag, IsViable, filling}
 use Rattle.langtag_scan.specs.Machine.{Reads}
-use Rattle.langtag_scan.specs.Viable.{fill}
 use Rattle.langtag_scan.specs.declared.ends.Ends.{Ends}
 use Rattle.langtag_scan.specs.declared.finding.Finding.{Finding}
-use Rattle.langtag_scan.proofs.Running.{filled_found, found_after, segments-one, segments-hyphen, outcome-begun, outcome-ended, empty_begun}
-use Rattle.langtag_scan.proofs.FoundLaws.{tag_found, decided, Decides}
+use Rattle.langtag_scan.proofs.Running.{filled_found, found_after, segments-one, segments-hyphen, outcome-begun, outcome-ended}
+use Rattle.langtag_scan.proofs.FoundLaws.{tag_found, decided}
 use Rattle.langtag_scan.proofs.StageLaws.{after_not_start, index_after-length}
-use Rattle.langtag_scan.proofs.TagLaws.{viable_from_tag, tag_irregular}
+use Rattle.langtag_scan.proofs.TagLaws.{viable_from_tag}
 use Rattle.std.specs.List.{after_last}
 
 -- before the first byte
