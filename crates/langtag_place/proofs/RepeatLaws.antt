@@ -1,5 +1,5 @@
 -- What is known of the first repeat when the first so many members were looked at, one by one or a block at a time.
-use Rattle.langtag_scan.proofs.Prelude.{eq-eqb, ◌≡◌, ℕ, ◌+◌, ◌<◌, Bool, true, false, cond, List, [], ◌∷◌, ◌++◌, length, get_or, take, drop, slice_get, None, Some, refl, ap, sym, subst, ◌∙◌, arith, append-nil, append_assoc, zero, suc, ◌-◌, ◌≤◌, ◌&&◌, ◌==◌, set, map, IsTrue, inl, inr, add-one, list_any, list_all, false_from_ne_true, and_parts, cases_lt, common_steps, get_or-set_at, at_drop_more, take_more, length-take, length-drop, get_or-set_other, get_or-map, get_or-take, get_or-drop, take-append-drop, drop_all, length-map, list_any_at, Any-from_list_any, list_any_none, list_any-append, list_all-append, IsNonDecreasing, or-true, or-false, eqb_tells, list_any-IsPermutation, nat_tests}
+use Rattle.langtag_scan.proofs.Prelude.{eq-eqb, ◌≡◌, ℕ, ◌+◌, ◌<◌, Bool, true, false, cond, List, [], ◌∷◌, ◌++◌, length, get_or, take, drop, slice_get, None, Some, refl, ap, sym, subst, ◌∙◌, arith, append-nil, append_assoc, zero, suc, ◌-◌, ◌≤◌, ◌&&◌, ◌==◌, set, map, IsTrue, add-one, list_any, list_all, false_from_ne_true, and_parts, cases_lt, common_steps, get_or-set_at, at_drop_more, take_more, length-take, length-drop, get_or-set_other, get_or-map, get_or-take, get_or-drop, take-append-drop, drop_all, list_any_at, Any-from_list_any, list_any_none, list_any-append, list_all-append, IsNonDecreasing, or-true, or-false, eqb_tells, list_any-IsPermutation, nat_tests}
 use Rattle.std.specs.List.{AllPairs}
 use Rattle.std.proofs.lemmas.List.{get_or_default, map_push}
 use Rattle.std.proofs.lemmas.List.Quantifiers.{all_pairs_push}

@@ -1,6 +1,6 @@
 -- The numbers of texts of letters tell them apart but for case.
 use Rattle.std.proofs.lemmas.List.Sums.{AllPass-from_list_all}
-use Rattle.langtag_scan.proofs.Prelude.{common_steps, ◌≡◌, ℕ, zero, suc, ◌+◌, ◌*◌, ◌-◌, ◌<◌, ◌≤◌, true, ◌==◌, List, [], ◌∷◌, length, get_or, map, refl, ap, sym, ◌∙◌, arith, AllByRecursion, and_parts, false_from_ne_true, eqb_tells, nat_tests, fold-map, fold}
+use Rattle.langtag_scan.proofs.Prelude.{common_steps, ◌≡◌, ℕ, ◌+◌, ◌*◌, ◌-◌, ◌<◌, ◌≤◌, true, ◌==◌, List, [], ◌∷◌, length, get_or, map, refl, sym, arith, AllByRecursion, and_parts, false_from_ne_true, eqb_tells, nat_tests, fold-map, fold}
 use Rattle.langtag_scan.specs.Grammar.{fold_byte, fold_text, are_alike, are_alike-decides, is_letter, are_letters, has_length, is_primary, is_extended}
 use Rattle.langtag_text.specs.Numbers.{letter, letter_number}
 use Rattle.langtag_scan.proofs.Digits.{IsBase, digits-same}

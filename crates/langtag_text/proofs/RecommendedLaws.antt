@@ -1,5 +1,5 @@
 -- The recommended case of a text: it is alike the text, alike texts have the same one, and how it is had from subtag to subtag and part by part.
-use Rattle.langtag_scan.proofs.Prelude.{◌≡◌, ℕ, ◌<◌, ◌==◌, Bool, true, false, cond, ◌||◌, Some, All, subst, List, [], ◌∷◌, ◌++◌, length, map, take, get_or, refl, sym, ap, ◌∙◌, arith, append_assoc, append-nil, rules, IsAscii, eqb-true, ◌≤◌, Option, None, option_map, IsTrue, IfSome, common_steps, to_ascii_uppercase, list_any, AllByRecursion, flat_map, or-true, or-false, length-map, map-append, nat_tests, list_any-append, length-slice_split, join_with_byte-slice_split, lowercase-uppercase, lowercase_ascii, All-nil, All-cons, All-head, All-tail, ne_eqb, and_parts, or_cases, slice_get, length-append}
+use Rattle.langtag_scan.proofs.Prelude.{◌≡◌, ℕ, ◌<◌, ◌==◌, Bool, true, false, cond, ◌||◌, Some, All, subst, List, [], ◌∷◌, ◌++◌, length, map, take, get_or, refl, sym, ap, ◌∙◌, arith, append_assoc, append-nil, IsAscii, eqb-true, ◌≤◌, Option, None, option_map, IsTrue, IfSome, common_steps, to_ascii_uppercase, list_any, AllByRecursion, flat_map, or-true, or-false, length-map, map-append, nat_tests, list_any-append, length-slice_split, join_with_byte-slice_split, lowercase-uppercase, lowercase_ascii, All-nil, All-cons, All-head, All-tail, ne_eqb, and_parts, or_cases, slice_get, length-append}
 use Prim.Native.Nat.{zero, suc}
 use Rattle.std.proofs.lemmas.Str.Ascii.{IsAscii-map}
 use Rattle.std.proofs.Math.ListN.{get_or-map}

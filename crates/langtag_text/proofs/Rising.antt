@@ -1,6 +1,6 @@
 -- Numbers that rise, and what a search among them finds.
 use Rattle.std.proofs.lemmas.List.{get_or_default}
-use Rattle.langtag_scan.proofs.Prelude.{◌∙◌, list_any_at, list_any_none, eqb_tells, common_steps, ◌≡◌, ◌≢◌, ℕ, zero, suc, ◌<◌, ◌≤◌, true, false, ◌==◌, Bool, leb, ltb, List, [], ◌∷◌, length, get_or, inl, inr, refl, sym, arith, Result, list_any, and_parts, leb-true, le-leb, ltb-true, eq-eqb, ne_eqb, cases_lt, or-true}
+use Rattle.langtag_scan.proofs.Prelude.{◌∙◌, list_any_at, list_any_none, common_steps, ◌≡◌, ◌≢◌, ℕ, zero, suc, ◌<◌, ◌≤◌, true, ◌==◌, Bool, leb, ltb, List, [], ◌∷◌, length, get_or, inl, inr, sym, arith, Result, list_any, and_parts, ltb-true, eq-eqb, ne_eqb, cases_lt}
 use Rattle.std.specs.Prelude.{◌&&◌, MatchResult, Ok, Err, is_ok}
 use Rattle.langtag_text.specs.Numbers.{climbs_from}
 

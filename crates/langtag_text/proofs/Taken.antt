@@ -1,5 +1,5 @@
 -- What is left of a buffer that a text was written into, without the rest of the buffer.
-use Rattle.langtag_scan.proofs.Prelude.{arith, common_steps, ◌≡◌, ℕ, ◌≤◌, List, ◌++◌, length, take, drop, sym, ap, subst, ◌∙◌, arith, append_assoc, take-take, take_at}
+use Rattle.langtag_scan.proofs.Prelude.{arith, common_steps, ◌≡◌, ℕ, ◌≤◌, List, ◌++◌, length, take, sym, subst, arith, append_assoc}
 use Rattle.langtag_text.specs.Writes.{Writes}
 use Rattle.langtag_text.specs.WritesWhole.{WritesWhole}
 

@@ -1,5 +1,5 @@
 -- A subtag after a text: with a hyphen between them where the text has bytes.
-use Rattle.langtag_scan.proofs.Prelude.{common_steps, ◌≡◌, ℕ, ◌≤◌, List, [], ◌∷◌, ◌++◌, length, refl, arith}
+use Rattle.langtag_scan.proofs.Prelude.{common_steps, ◌≡◌, ℕ, ◌≤◌, List, ◌∷◌, ◌++◌, length, arith}
 use Rattle.langtag_text.specs.Output.{with_subtag}
 
 pub with_subtag-none : (text subtag : List ℕ) → length text ≡ 0 → with_subtag text subtag ≡ subtag

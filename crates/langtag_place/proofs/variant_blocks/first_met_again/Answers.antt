@@ -1,7 +1,6 @@
-use Rattle.langtag_scan.proofs.Prelude.{◌&&◌, ◌==◌, [], ◌∷◌, ◌++◌, length, take, map, arith, sym, ap, subst, ◌∙◌, list_any, get_or-replicate, length-replicate, common_steps}
+use Rattle.langtag_scan.proofs.Prelude.{◌&&◌, ◌==◌, length, take, map, arith, sym, ap, ◌∙◌, list_any, get_or-replicate, length-replicate, common_steps}
 use Rattle.langtag_scan.specs.Grammar.{subtags, folded_number}
 use Rattle.langtag_place.specs.Text.{variant_text, variants_text}
-use Rattle.langtag_place.specs.VariantBlocks.{AreMet}
 use Rattle.langtag_place.proofs.RepeatLaws.{numbers-more, new-here, met-again, repeat-at, HasNoRepeatBefore-more, IsAt-drop}
 use Rattle.langtag_place.proofs.variant_blocks.first_met_again.Goals as goal
 
