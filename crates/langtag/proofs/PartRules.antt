@@ -1,6 +1,6 @@
 -- What the accessors cut out of a normal text is the part of each record that spells it, and meets the rules of the types of parts.
-use Rattle.langtag_scan.proofs.Prelude.{drop, ◌≡◌, ℕ, List, [], take, unwrap_or, ap, ◌∙◌, arith, ◌∷◌, ◌++◌, append_assoc, append-nil, flat_map, Option, Some, IsTrue, IfSome, sym, subst, option_map, common_steps}
-use Rattle.langtag_scan.specs.Grammar.{Record, EachRecord, IsWellFormed, spell, PrivateUse, IsWellFormedPrivateUse, Spells, extension_flat, one_flat, private_part_flat, private_use_flat, IsNormal, IsPrivate, HasEnds, ends_of, to_variants, language_part, variants_part, extensions_part, private_use_part, text_between, is_variant, is_script, is_region, subtags, join}
+use Rattle.langtag_scan.proofs.Prelude.{drop, ◌≡◌, ℕ, List, [], take, unwrap_or, ap, ◌∙◌, arith, ◌++◌, append_assoc, append-nil, flat_map, Option, Some, IsTrue, IfSome, sym, subst, option_map, common_steps}
+use Rattle.langtag_scan.specs.Grammar.{Record, EachRecord, IsWellFormed, spell, PrivateUse, IsWellFormedPrivateUse, Spells, extension_flat, private_part_flat, private_use_flat, IsNormal, IsPrivate, HasEnds, ends_of, to_variants, language_part, variants_part, extensions_part, private_use_part, text_between, is_variant, is_script, is_region, subtags, join}
 use Rattle.langtag.specs.Part.{PartOf}
 use Rattle.langtag_scan.specs.declared.ends.Ends.{Ends}
 use Rattle.langtag_scan.proofs.Laws.{unwrap_or-joined, take-join, language_between, script_between, region_between, variants_between, extensions_between, private_use_between, ends_equal, ends_each, ends_had, offsets_kept, of_variant, each_subtag, subtags-joined}

@@ -1,5 +1,5 @@
 -- The variants of `GrandfatheredLangTag` and `GRANDFATHERED`, beside the table of registered tags.
-use Rattle.langtag_scan.proofs.Prelude.{◌≡◌, ℕ, true, Bool, List, [], length, slice_get, Some, ap, ◌∙◌, arith, ◌<◌, ◌≤◌, false, cond, ltb, map, get_or, Option, None, refl, sym, subst, position, position_or_len, slice_get_within, get_or_from_slice_get, slice_get-get_or, slice_get-map, common_steps, option_map_or, lt-ltb, cases_lt, both_ways, get_or-map, position-Some, fails_before_first, nat_tests}
+use Rattle.langtag_scan.proofs.Prelude.{◌≡◌, ℕ, true, List, [], length, slice_get, Some, ap, ◌∙◌, arith, ◌<◌, ◌≤◌, cond, ltb, map, get_or, Option, None, refl, sym, subst, position, position_or_len, slice_get_within, get_or_from_slice_get, slice_get-get_or, slice_get-map, common_steps, option_map_or, lt-ltb, cases_lt, both_ways, get_or-map, position-Some, fails_before_first, nat_tests}
 use Rattle.std.proofs.Common.{zero-add, bytes_eq}
 use Rattle.std.specs.List.{range_with_len}
 use Rattle.langtag_scan.specs.Grammar.{Alike, are_alike, fold_byte, fold_text, are_alike-decides, irregular_texts, Grandfathered, grandfathered_tags, IsIrregular, IsIrregularAt, IsNormal, IsTag, is_letter, is_primary, EachRecord, segments}
