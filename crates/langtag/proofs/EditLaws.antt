@@ -119,17 +119,11 @@ pub is_region-member : (region : Option Region) → IfSome (option_map region_te
 is_region-member region = grind (arith, common_steps)
 
 -- a subtag that may be there
-one_part : (part : Option (List ℕ)) → IfSome part (λ s. 1 ≤ length s) → IsPart (unwrap_or part []) (one_flat part)
-one_part part some = grind (arith, common_steps, begins)
-
-if_some : (P Q : List ℕ → Type 0) (part : Option (List ℕ)) → ((s : List ℕ) → P s → Q s) → IfSome part P → IfSome part Q
-if_some P Q part step fact = grind (arith, common_steps)
-
 script_part : (script : Option (List ℕ)) → IfSome script (λ s. IsTrue (is_script s)) → IsPart (unwrap_or script []) (one_flat script)
-script_part script member = one_part script (if_some _ _ script (λ s h. (of_script s h).some) member)
+script_part script member = grind (arith, common_steps, begins, of_script)
 
 region_part : (region : Option (List ℕ)) → IfSome region (λ s. IsTrue (is_region s)) → IsPart (unwrap_or region []) (one_flat region)
-region_part region member = one_part region (if_some _ _ region (λ s h. (of_region s h).some) member)
+region_part region member = grind (arith, common_steps, begins, of_region)
 
 pub script-replaces :
     (script : Option (List ℕ)) → IfSome script (λ s. IsTrue (is_script s)) →
@@ -231,14 +225,14 @@ made_of_parts primary extended language script region text spelled script_member
     record { spells = spells; kept = ∣ (r, spells, rw (first, second, ← spelled.joined) (ends_from-part_lengths r)) ∣₁ }
 
 -- a part of one subtag takes at most nine bytes
-short_part : (part : Option (List ℕ)) → IfSome part (λ s. length s ≤ 8) → length (after_hyphen (unwrap_or part [])) ≤ 9
-short_part part short = grind (arith, common_steps)
+short_part : (P : List ℕ → Type 0) (part : Option (List ℕ)) → ((s : List ℕ) → P s → length s ≤ 8) → IfSome part P → length (after_hyphen (unwrap_or part [])) ≤ 9
+short_part P part short member = grind (arith, common_steps)
 
 pub short_script : (script : Option (List ℕ)) → IfSome script (λ s. IsTrue (is_script s)) → length (after_hyphen (unwrap_or script [])) ≤ 9
-short_script script member = short_part script (if_some _ _ script (λ s h. (of_script s h).short) member)
+short_script script member = short_part _ script (λ s h. (of_script s h).short) member
 
 pub short_region : (region : Option (List ℕ)) → IfSome region (λ s. IsTrue (is_region s)) → length (after_hyphen (unwrap_or region [])) ≤ 9
-short_region region member = short_part region (if_some _ _ region (λ s h. (of_region s h).short) member)
+short_region region member = short_part _ region (λ s h. (of_region s h).short) member
 
 -- ---- where it stands
 
@@ -272,52 +266,41 @@ part_set (Extensions extensions) old new ends kept made =
 part_set (PrivateUsePart private_use) old new ends kept made =
     λ r spells member spelled. spells-edited (private_use-replaces member _ spelled) old new ends kept made r spells
 
+-- a change of the record that the part makes
+record Changes (p : Part) (change : Record → Record) : Type 0 where
+  replaces : Replaces (put_text p) (part_start p) (part_end p) (with_length p) change
+  set : (old new : List ℕ) → SetsPart p old new → EachRecord old (λ r. Spells (change r) new)
+  back : (r : Record) → with_old_part p (change r) r ≡ r
+
+changes : (p : Part) → (change : Record → Record) × Changes p change
+changes (Language language) =
+    let some = IsLanguage-from_test _ language.in_class in
+    (λ r. with_language r some.0 some.1, record { replaces = language-replaces some.0 some.1 _ some.2; set = λ _ _ set r is. set r is some.0 some.1 some.2; back = λ r. refl })
+changes (ScriptPart script) = (λ r. with_script r _, record { replaces = script-replaces _ (is_script-member script); set = λ _ _ set. set; back = λ r. refl })
+changes (RegionPart region) = (λ r. with_region r _, record { replaces = region-replaces _ (is_region-member region); set = λ _ _ set. set; back = λ r. refl })
+changes (Variants variants) =
+    let some = IsVariants-from_test _ variants.in_class in
+    (λ r. with_variants r some.0, record { replaces = variants-replaces some.0 _ some.1; set = λ _ _ set r is. set r is some.0 some.1; back = λ r. refl })
+changes (Extensions extensions) =
+    let some = IsExtensions-from_test _ extensions.in_class in
+    (λ r. with_extensions r some.0, record { replaces = extensions-replaces some.0 _ some.1; set = λ _ _ set r is. set r is some.0 some.1; back = λ r. refl })
+changes (PrivateUsePart private_use) =
+    let some = private_use_spelled private_use in
+    (λ r. with_private_use r some.0, record { replaces = private_use-replaces some.0 _ some.1; set = λ _ _ set r is. set r is some.0 some.1; back = λ r. refl })
+
 -- its parts end where the lengths add up to, of which that of the part is another
 pub part_kept :
     (p : Part) (old new : List ℕ) (ends : Ends) (len : ℕ) → HasEnds old ends →
     new ≡ replace_range old (part_start p ends) (part_end p ends) (put_text p) → len ≡ length (put_text p) →
     HasEnds new (ends_from (with_length p (lengths_of ends) len))
-part_kept (Language language) old new ends len kept made counted =
-    let some = IsLanguage-from_test _ language.in_class in
-    ends-edited (language-replaces some.0 some.1 (language_text language) some.2) old new ends len kept made counted
-part_kept (ScriptPart script) old new ends len kept made counted =
-    ends-edited (script-replaces (option_map script_text script) (is_script-member script)) old new ends len kept made counted
-part_kept (RegionPart region) old new ends len kept made counted =
-    ends-edited (region-replaces (option_map region_text region) (is_region-member region)) old new ends len kept made counted
-part_kept (Variants variants) old new ends len kept made counted =
-    let some = IsVariants-from_test _ variants.in_class in
-    ends-edited (variants-replaces some.0 (variants_text variants) some.1) old new ends len kept made counted
-part_kept (Extensions extensions) old new ends len kept made counted =
-    let some = IsExtensions-from_test _ extensions.in_class in
-    ends-edited (extensions-replaces some.0 (extensions_text extensions) some.1) old new ends len kept made counted
-part_kept (PrivateUsePart private_use) old new ends len kept made counted =
-    let some = private_use_spelled private_use in
-    ends-edited (private_use-replaces some.0 _ some.1) old new ends len kept made counted
+part_kept p old new ends len kept made counted = ends-edited (changes p).1.replaces old new ends len kept made counted
 
 -- ---- with the part of the old record, the new record is the old record
 
-comes_back :
-    (with_old : Record → Record → Record) (change : Record → Record) (old new : List ℕ) → ((r : Record) → with_old (change r) r ≡ r) →
-    EachRecord old (λ r. Spells (change r) new) → ComesBack with_old old new
-comes_back with_old change old new back set r spells q spelled =
-    let made = set r spells in
-    ap (λ x. with_old x r) (spelled_once q (change r) spelled.0 made.0 (spelled.1 ∙ sym made.1)) ∙ back r
-
 pub part_comes_back : (p : Part) (old new : List ℕ) → SetsPart p old new → ComesBack (with_old_part p) old new
-part_comes_back (Language language) old new set =
-    let some = IsLanguage-from_test _ language.in_class in
-    comes_back _ (λ r. with_language r some.0 some.1) old new (λ r. refl) (λ r spells. set r spells some.0 some.1 some.2)
-part_comes_back (ScriptPart script) old new set = comes_back _ (λ r. with_script r (option_map script_text script)) old new (λ r. refl) set
-part_comes_back (RegionPart region) old new set = comes_back _ (λ r. with_region r (option_map region_text region)) old new (λ r. refl) set
-part_comes_back (Variants variants) old new set =
-    let some = IsVariants-from_test _ variants.in_class in
-    comes_back _ (λ r. with_variants r some.0) old new (λ r. refl) (λ r spells. set r spells some.0 some.1)
-part_comes_back (Extensions extensions) old new set =
-    let some = IsExtensions-from_test _ extensions.in_class in
-    comes_back _ (λ r. with_extensions r some.0) old new (λ r. refl) (λ r spells. set r spells some.0 some.1)
-part_comes_back (PrivateUsePart private_use) old new set =
-    let some = private_use_spelled private_use in
-    comes_back _ (λ r. with_private_use r some.0) old new (λ r. refl) (λ r spells. set r spells some.0 some.1)
+part_comes_back p old new set r spells q spelled =
+    let made = (changes p).1.set old new set r spells in
+    ap (λ x. with_old_part p x r) (spelled_once q _ spelled.0 made.0 (spelled.1 ∙ sym made.1)) ∙ (changes p).1.back r
 
 -- ---- to set a part to what it was gives the very text back, since a record spells one text
 

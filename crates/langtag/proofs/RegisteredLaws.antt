@@ -1,5 +1,5 @@
 -- The variants of `GrandfatheredLangTag` and `GRANDFATHERED`, beside the table of registered tags.
-use Rattle.langtag_scan.proofs.Prelude.{◌≡◌, ℕ, true, Bool, List, [], length, slice_get, Some, ap, ◌∙◌, arith, ◌<◌, ◌≤◌, false, cond, ltb, map, get_or, Option, None, refl, sym, subst, position, position_or_len, slice_get_within, get_or_from_slice_get, slice_get-get_or, slice_get-map, common_steps, option_map_or, lt-ltb, cases_lt, both_ways, get_or-map, position-Some, fails_before_first, nat_tests}
+use Rattle.langtag_scan.proofs.Prelude.{◌≡◌, ℕ, true, List, [], length, slice_get, Some, ap, ◌∙◌, arith, ◌<◌, ◌≤◌, cond, ltb, map, get_or, Option, None, refl, sym, subst, position, position_or_len, slice_get_within, get_or_from_slice_get, slice_get-get_or, slice_get-map, common_steps, option_map_or, lt-ltb, cases_lt, both_ways, get_or-map, position-Some, fails_before_first, nat_tests}
 use Rattle.std.proofs.Common.{zero-add, bytes_eq}
 use Rattle.std.specs.List.{range_with_len}
 use Rattle.langtag_scan.specs.Grammar.{Alike, are_alike, fold_byte, fold_text, are_alike-decides, irregular_texts, Grandfathered, grandfathered_tags, IsIrregular, IsIrregularAt, IsNormal, IsTag, is_letter, is_primary, EachRecord, segments}
@@ -140,10 +140,4 @@ language_at_index tag = grind (arith, nat_tests, at_member language_of, ltb)
 
 pub registered_primary : (tag : GrandfatheredLangTag) → EachRecord (text_of tag) (λ r. language_of tag ≡ Some r.primary)
 unfolding IsNormal IsIrregular IsIrregularAt
-registered_primary tag r spells = by_index (ltb (index_of tag) 17) (irregular_at_index tag) (language_at_index tag)
-  where
-    by_index :
-        (is_irregular : Bool) → slice_get irregular_texts (index_of tag) ≡ cond is_irregular (Some (text_of tag)) None →
-        language_of tag ≡ cond is_irregular None (first_subtag (text_of tag)) → language_of tag ≡ Some r.primary
-    by_index true at language = absurd (normal_no_irregular (text_of tag) (r, spells) (index_of tag, (text_of tag, at, refl)))
-    by_index false at language = language ∙ ap (λ ss. slice_get ss 0) (ap segments (sym spells.1) ∙ spelled_segments r spells.0)
+registered_primary tag r spells = grind (arith, nat_tests, irregular_at_index tag, language_at_index tag, normal_no_irregular (text_of tag), spelled_segments r)

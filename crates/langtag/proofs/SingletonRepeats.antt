@@ -7,18 +7,6 @@ use Rattle.langtag_place.proofs.RepeatLaws.{IsAt, IsAt-drop}
 use Rattle.langtag_extension.specs.Spelling.{extension_spelling}
 use Rattle.langtag_extension.proofs.ExtensionLookUp.{first_byte-spelling}
 
--- the first of what is left of some extensions, by its text
-pub record IsNextExtension (es : List Extension) (text : List ℕ) (texts : List (List ℕ)) : Type 0 where
-  pub first : Extension
-  pub rest : List Extension
-  pub is : es ≡ first ∷ rest
-  pub spelled : extension_spelling first ≡ text
-  pub others : map extension_spelling rest ≡ texts
-
-pub next_extension : (es : List Extension) (text : List ℕ) (texts : List (List ℕ)) → map extension_spelling es ≡ text ∷ texts → IsNextExtension es text texts
-next_extension [] text texts is = absurd cc
-next_extension (e ∷ es) text texts is = record { first = e; rest = es; is = refl; spelled = cc; others = cc }
-
 abbrev pub singletons : List Extension → List ℕ
 singletons es = map (λ e. e.singleton) es
 
@@ -31,14 +19,18 @@ pub record IsNextSingleton (es : List Extension) (n b : ℕ) (texts : List (List
 pub next_singleton :
     (es : List Extension) (n : ℕ) (text : List ℕ) (texts : List (List ℕ)) (b : ℕ) → map extension_spelling (drop n es) ≡ text ∷ texts →
     b ≡ slice_index text 0 → IsNextSingleton es n b texts
-next_singleton es n text texts b is opens =
-    let next = next_extension (drop n es) text texts is in
-    let byte : b ≡ next.first.singleton = opens ∙ ap (λ (t : List ℕ). slice_index t 0) (sym next.spelled) ∙ first_byte-spelling next.first in
-    record {
-      rest = singletons next.rest;
-      left = drop-map (λ e. e.singleton) n es ∙ ap singletons next.is ∙ ap (λ c. c ∷ singletons next.rest) (sym byte);
-      later = ap (map extension_spelling) (IsAt-drop es n next.first next.rest next.is).later ∙ next.others;
-    }
+next_singleton es n text texts b is opens = by (drop n es) refl is
+  where
+    by : (left : List Extension) → drop n es ≡ left → map extension_spelling left ≡ text ∷ texts → IsNextSingleton es n b texts
+    by [] at next = absurd cc
+    by (e ∷ rest) at next =
+        let (spelled, others) : (extension_spelling e ≡ text) × (map extension_spelling rest ≡ texts) = (cc, cc) in
+        let byte : b ≡ e.singleton = opens ∙ ap (λ (t : List ℕ). slice_index t 0) (sym spelled) ∙ first_byte-spelling e in
+        record {
+          rest = singletons rest;
+          left = drop-map (λ e. e.singleton) n es ∙ ap singletons at ∙ ap (λ c. c ∷ singletons rest) (sym byte);
+          later = ap (map extension_spelling) (IsAt-drop es n e rest at).later ∙ others;
+        }
 
 -- the one at an index, by the text at that index
 pub singleton_at :

@@ -1,5 +1,5 @@
 -- What is known of the first repeat when the first so many members were looked at, one by one or a block at a time.
-use Rattle.langtag_scan.proofs.Prelude.{◌≡◌, ℕ, ◌+◌, ◌<◌, Bool, true, false, cond, List, [], ◌∷◌, ◌++◌, length, get_or, take, drop, slice_get, None, Some, refl, ap, sym, subst, ◌∙◌, arith, append-nil, append_assoc, zero, suc, ◌-◌, ◌≤◌, ◌&&◌, ◌==◌, set, map, IsTrue, inl, inr, add-one, list_any, list_all, false_from_ne_true, and_parts, cases_lt, common_steps, get_or-set_at, at_drop_more, take_more, length-take, length-drop, get_or-set_other, get_or-map, get_or-take, get_or-drop, take-append-drop, drop_all, length-map, list_any_at, Any-from_list_any, list_any_none, list_any-append, list_all-append, IsNonDecreasing, or-true, or-false, eqb_tells, list_any-IsPermutation, nat_tests}
+use Rattle.langtag_scan.proofs.Prelude.{eq-eqb, ◌≡◌, ℕ, ◌+◌, ◌<◌, Bool, true, false, cond, List, [], ◌∷◌, ◌++◌, length, get_or, take, drop, slice_get, None, Some, refl, ap, sym, subst, ◌∙◌, arith, append-nil, append_assoc, zero, suc, ◌-◌, ◌≤◌, ◌&&◌, ◌==◌, set, map, IsTrue, add-one, list_any, list_all, false_from_ne_true, and_parts, cases_lt, common_steps, get_or-set_at, at_drop_more, take_more, length-take, length-drop, get_or-set_other, get_or-map, get_or-take, get_or-drop, take-append-drop, drop_all, list_any_at, Any-from_list_any, list_any_none, list_any-append, list_all-append, IsNonDecreasing, or-true, or-false, eqb_tells, list_any-IsPermutation, nat_tests}
 use Rattle.std.specs.List.{AllPairs}
 use Rattle.std.proofs.lemmas.List.{get_or_default, map_push}
 use Rattle.std.proofs.lemmas.List.Quantifiers.{all_pairs_push}
@@ -160,16 +160,16 @@ pub HoldsFrom-in :
 HoldsFrom-in texts start n text rest block holds at after inside =
     let part = take (length block) (drop start texts) in
     let below = at.below in
+    let member = at.member in
     let long = length-take (length block) (drop start texts) in
     let late = length-drop start texts in
-    let within : n - start < length part = omega (arith, long, late, below, after, inside) in
-    let there : get_or part (n - start) text ≡ text =
-    get_or-take (length block) (drop start texts) (n - start) text (omega (arith, after, inside))
-    ∙ get_or-drop start texts (n - start) text ∙ ap (λ k. get_or texts k text) (let is : start + (n - start) ≡ n = omega (arith, after) in is) ∙ sym at.member in
-    let test : get_or (map folded_number part) (n - start) 0 ≡ folded_number text = get_or-map folded_number part (n - start) text 0 within ∙ ap folded_number there in
+    let here : start + (n - start) ≡ n = omega (arith, after) in
+    let taken = get_or-take (length block) (drop start texts) (n - start) text (omega (arith, after, inside)) in
+    let dropped = get_or-drop start texts (n - start) text in
+    let same : get_or (map folded_number part) (n - start) 0 ≡ folded_number text =
+    get_or-map folded_number part (n - start) text 0 (omega (arith, long, late, below, after, inside)) ∙ ap folded_number (cc (taken, dropped, here, member)) in
     sym (list_any-IsPermutation (λ other. other == folded_number text) (map folded_number part) block holds)
-    ∙ list_any_at (λ other. other == folded_number text) (map folded_number part) (n - start) 0 (let same = length-map part folded_number in omega (arith, same, within))
-    (elim (eqb_tells (get_or (map folded_number part) (n - start) 0) (folded_number text)) [ inl h ↦ h.0 | inr h ↦ absurd (h.1 test) ])
+    ∙ list_any_at (λ other. other == folded_number text) (map folded_number part) (n - start) 0 (grind (arith, common_steps)) (eq-eqb _ _ same)
 
 -- a text that was not met again is alike none before it
 pub new-here :
@@ -178,13 +178,9 @@ pub new-here :
     false ≡ (list_any (λ other. other == folded_number text) block && list_any (λ other. other == folded_number text) (map folded_number (take n texts))) →
     list_any (are_alike (get_or texts n [])) (take n texts) ≡ false
 new-here texts start n text rest block all variant new holds at inside again =
-    elim (cases_lt n start) [
-      | inl before ↦ new n before
-      | inr after ↦
-          ap (λ t. list_any (are_alike t) (take n texts)) (let below = at.below in get_or_default texts n [] text below ∙ sym at.member)
-          ∙ sym (among-earlier texts n text all variant)
-          ∙ sym (again ∙ ap (λ b. b && list_any (λ other. other == folded_number text) (map folded_number (take n texts))) (HoldsFrom-in texts start n text rest block holds at after inside))
-    ]
+    let below = at.below in
+    let member = get_or_default texts n [] text below ∙ sym at.member in
+    grind (arith, common_steps, cases_lt n start, new n, among-earlier texts n text all variant, HoldsFrom-in texts start n text rest block holds at)
 
 -- a text that was met again is alike one before it
 pub met-again :

@@ -19,18 +19,12 @@ pub alphanumeric_below : (b : ℕ) → is_alphanumeric b ≡ true → b < 128
 unfolding is_letter is_digit
 alphanumeric_below b h = grind (arith, nat_tests)
 
-IsAscii-subtags : (ss : List (List ℕ)) → AllByRecursion IsSubtag ss → AllByRecursion IsAscii ss
-IsAscii-subtags [] fits = tt
-IsAscii-subtags (s ∷ ss) fits = (IsAscii-each is_alphanumeric alphanumeric_below s fits.0.alphanumeric, IsAscii-subtags ss fits.1)
-
-pub IsAscii-join : (ss : List (List ℕ)) → AllByRecursion IsAscii ss → IsAscii (join ss)
+IsAscii-join : (ss : List (List ℕ)) → AllByRecursion IsSubtag ss → IsAscii (join ss)
 IsAscii-join [] fits = IsAscii-nil
-IsAscii-join (s ∷ []) fits = fits.0
-IsAscii-join (s ∷ u ∷ us) fits =
-    IsAscii-append s (45 ∷ join (u ∷ us)) fits.0 (IsAscii-cons 45 (join (u ∷ us)) (omega arith) (IsAscii-join (u ∷ us) fits.1))
+IsAscii-join (s ∷ ss) fits = grind (arith, common_steps, IsAscii-each is_alphanumeric alphanumeric_below s, IsAscii-append s, IsAscii-cons, IsAscii-join ss)
 
 pub IsAscii-spelled : (t : List ℕ) (ss : List (List ℕ)) → join ss ≡ t → AllByRecursion IsSubtag ss → IsAscii t
-IsAscii-spelled t ss spells fits = subst IsAscii spells (IsAscii-join ss (IsAscii-subtags ss fits))
+IsAscii-spelled t ss spells fits = subst IsAscii spells (IsAscii-join ss fits)
 
 -- ---- the kinds of tags
 

@@ -1,8 +1,9 @@
 -- The case of letters changes no class, no segment and no stage; so it changes no kind of tag, no part and no end.
-use Rattle.langtag_scan.proofs.Prelude.{◌≡◌, ℕ, Bool, false, eqb, List, [], ◌∷◌, ◌++◌, length, map, Option, inl, inr, refl, sym, ap, ◌∙◌, arith, IsTrue, IfSome, AllByRecursion, list_all, flat_map, option_map_or, nat_tests, length-map, map-append, common_steps, option_map}
-use Rattle.langtag_scan.specs.Grammar.{fold_byte, fold_text, Alike, are_alike, fold_extension, fold_private_use, fold_record, AlikeRecords, is_letter, is_digit, is_alphanumeric, is_primary, is_extended, is_script, is_region, is_variant, is_extension_subtag, is_private_subtag, is_mark, is_singleton, ends_of, Extension, PrivateUse, Record, IsWellFormedExtension, IsWellFormedPrivateUse, IsWellFormed, extension_flat, one_flat, private_part_flat, flat, spell, EachRecord, Stage, Start, Classes, is_one, classes_of, next_stage, join, segments, subtags, IsNormal, IsPrivate, IsIrregular, IsIrregularAt, IsTag, are_alike-decides}
+use Rattle.langtag_scan.proofs.Prelude.{◌≡◌, ℕ, Bool, eqb, List, [], ◌∷◌, ◌++◌, length, map, Option, refl, sym, ap, ◌∙◌, arith, IsTrue, list_all, flat_map, option_map_or, nat_tests, length-map, map-append, common_steps, option_map}
+use Rattle.langtag_scan.specs.Grammar.{fold_byte, fold_text, Alike, are_alike, fold_extension, fold_private_use, fold_record, AlikeRecords, is_letter, is_digit, is_alphanumeric, is_primary, is_extended, is_script, is_region, is_variant, is_extension_subtag, is_private_subtag, is_mark, is_singleton, ends_of, Extension, PrivateUse, Record, IsWellFormed, extension_flat, one_flat, private_part_flat, flat, spell, EachRecord, Stage, Start, is_one, classes_of, next_stage, join, segments, subtags, IsNormal, IsPrivate, IsIrregular, IsIrregularAt, IsTag, are_alike-decides}
 use Rattle.langtag_scan.specs.AlikeRecords.{IsSpelledAlike}
-use Rattle.langtag_scan.proofs.NormalTexts.{normal_from_runs, runs_from_normal, spelled_once, runs_private, runs_from_private, private_from_runs}
+use Rattle.langtag_scan.proofs.Decoding.{Read, nothing, put, decode, decode_complete}
+use Rattle.langtag_scan.proofs.NormalTexts.{normal_from_runs, runs_from_normal, spelled_segments, runs_private, runs_from_private, private_from_runs}
 use Rattle.langtag_scan.proofs.StageLaws.{runs}
 
 -- ---- bytes
@@ -59,25 +60,15 @@ pub classes-fold : (s : List ℕ) → classes_of (fold_text s) ≡ classes_of s
 unfolding is_primary is_extended is_script is_region is_variant is_extension_subtag is_private_subtag is_singleton
 classes-fold s = grind (arith, common_steps, all-fold, is_letter-fold, is_digit-fold, is_alphanumeric-fold, length-fold, is_one-fold, is_mark-fold)
 
--- so the fold is of a class where the subtag is
-abbrev IsOf : (Classes → Bool) → List ℕ → Type 0
-IsOf is s = IsTrue (is (classes_of s))
-
-class-fold : (is : Classes → Bool) (s : List ℕ) → IsOf is s → IsOf is (fold_text s)
-class-fold is s fits = ap is (classes-fold s) ∙ fits
-
 -- ---- stages
-
--- two functions that agree
-agree : (f g : Stage → Bool) → ((x : Stage) → f x ≡ g x) → (o : Option Stage) → option_map_or f o false ≡ option_map_or g o false
-agree f g same o = grind (arith, common_steps)
 
 -- folded subtags may follow where those that they fold may
 pub runs-fold : (stage : Stage) (ss : List (List ℕ)) → runs stage (map fold_text ss) ≡ runs stage ss
 unfolding runs
 runs-fold stage [] = refl
 runs-fold stage (s ∷ ss) =
-    rw (classes-fold s) (agree (λ after. runs after (map fold_text ss)) (λ after. runs after ss) (λ after. runs-fold after ss) (next_stage stage s))
+    let rest : (after : Stage) → runs after (map fold_text ss) ≡ runs after ss = λ after. runs-fold after ss in
+    grind (arith, common_steps, classes-fold s, rest)
 
 -- after a mark likewise
 pub runs_private-fold : (ss : List (List ℕ)) → runs_private (map fold_text ss) ≡ runs_private ss
@@ -123,50 +114,28 @@ spell-fold r = grind (arith, common_steps, one_flat-fold, extensions-fold, priva
 pub spelled_alike : (r q : Record) → AlikeRecords r q → Alike (spell r) (spell q)
 spelled_alike r q alike = sym (spell-fold r) ∙ ap spell alike ∙ spell-fold q
 
--- what holds of the images of all members of a list, and of the one that may be there
-module _ {X Y : Type 0} (P : X → Type 0) (Q : Y → Type 0) (f : X → Y) (step : (x : X) → P x → Q (f x)) where
-  each-map : (xs : List X) → AllByRecursion P xs → AllByRecursion Q (map f xs)
-  each-map [] fits = tt
-  each-map (x ∷ xs) fits = (step x fits.0, each-map xs fits.1)
+-- what is decoded of folded subtags is folded
+abbrev fold_read : Read → Read
+fold_read b = record { after = map fold_text b.after; parts = fold_record b.parts }
 
-  if_some-map : (o : Option X) → IfSome o P → IfSome (option_map f o) Q
-  if_some-map o fits = grind (arith, common_steps)
+put-fold : (stage : Stage) (s : List ℕ) (b : Read) → put stage (fold_text s) (fold_read b) ≡ fold_read (put stage s b)
+unfolding fold_byte
+put-fold stage s b = grind (arith, common_steps)
 
-each-fold : (is : Classes → Bool) (ss : List (List ℕ)) → AllByRecursion (IsOf is) ss → AllByRecursion (IsOf is) (map fold_text ss)
-each-fold is = each-map (IsOf is) (IsOf is) fold_text (class-fold is)
+decode-fold : (ss : List (List ℕ)) (stage : Stage) → decode stage (map fold_text ss) ≡ fold_read (decode stage ss)
+unfolding decode
+decode-fold [] stage = refl
+decode-fold (s ∷ ss) stage = rw (classes-fold s) (by_next (next_stage stage s) (decode-fold ss))
+  where
+    by_next :
+        (o : Option Stage) → ((after : Stage) → decode after (map fold_text ss) ≡ fold_read (decode after ss)) →
+        option_map_or (λ after. put after (fold_text s) (decode after (map fold_text ss))) o nothing
+        ≡ fold_read (option_map_or (λ after. put after s (decode after ss)) o nothing)
+    by_next o rest = grind (arith, common_steps, put-fold)
 
-if_some-fold : (is : Classes → Bool) (o : Option (List ℕ)) → IfSome o (IsOf is) → IfSome (option_map fold_text o) (IsOf is)
-if_some-fold is = if_some-map (IsOf is) (IsOf is) fold_text (class-fold is)
-
--- a folded extension is one
-extension-fold : (e : Extension) → IsWellFormedExtension e → IsWellFormedExtension (fold_extension e)
-extension-fold e fits = record {
-  singleton = class-fold (λ c. c.singleton) (e.singleton ∷ []) fits.singleton;
-  some = omega (arith, fits.some, length-map e.subtags fold_text);
-  subtags = each-fold (λ c. c.extension_subtag) e.subtags fits.subtags;
-}
-
--- a folded private use part is one
-private_use-fold : (p : PrivateUse) → IsWellFormedPrivateUse p → IsWellFormedPrivateUse (fold_private_use p)
-private_use-fold p fits = record {
-  mark = class-fold (λ c. c.mark) (p.mark ∷ []) fits.mark;
-  some = omega (arith, fits.some, length-map p.subtags fold_text);
-  subtags = each-fold (λ c. c.private_subtag) p.subtags fits.subtags;
-}
-
--- a folded record is well formed where the record is
-well_formed-fold : (r : Record) → IsWellFormed r → IsWellFormed (fold_record r)
-well_formed-fold r fits = record {
-  primary = class-fold (λ c. c.primary) r.primary fits.primary;
-  extended = each-fold (λ c. c.extended) r.extended fits.extended;
-  few = omega (arith, fits.few, length-map r.extended fold_text);
-  short = elim fits.short [ inl le ↦ inl (omega (arith, length-fold r.primary)) | inr none_left ↦ inr (ap (map fold_text) none_left) ];
-  script = if_some-fold (λ c. c.script) r.script fits.script;
-  region = if_some-fold (λ c. c.region) r.region fits.region;
-  variants = each-fold (λ c. c.variant) r.variants fits.variants;
-  extensions = each-map IsWellFormedExtension IsWellFormedExtension fold_extension extension-fold r.extensions fits.extensions;
-  private_use = if_some-map IsWellFormedPrivateUse IsWellFormedPrivateUse fold_private_use private_use-fold r.private_use fits.private_use;
-}
+-- so a folded record is that of the folded text
+record-fold : (r : Record) → IsWellFormed r → fold_record r ≡ (decode Start (segments (fold_text (spell r)))).parts
+record-fold r fits = rw (segments-fold (spell r), spelled_segments r fits, decode-fold (flat r) Start, (decode_complete r fits).is) refl
 
 -- a join of folded subtags is as long
 length-join-fold : (s : List ℕ) (ss : List (List ℕ)) → length (join (fold_text s ∷ map fold_text ss)) ≡ length (join (s ∷ ss))
@@ -210,9 +179,9 @@ unfolding IsNormal
 alike_parts t u alike r (fits, spells) =
     let other = alike_normal t u alike (r, (fits, spells)) in
     let q : Record = other.0 in
-    let spelled : spell (fold_record r) ≡ spell (fold_record q) =
-    spell-fold r ∙ ap fold_text spells ∙ alike ∙ ap fold_text (sym other.1.1) ∙ sym (spell-fold q) in
-    let same : AlikeRecords r q = spelled_once (fold_record r) (fold_record q) (well_formed-fold r fits) (well_formed-fold q other.1.0) spelled in
+    let texts : Alike (spell r) (spell q) = rw (spells, other.1.1) alike in
+    let same : AlikeRecords r q =
+    record-fold r fits ∙ ap (λ v. (decode Start (segments v)).parts) texts ∙ sym (record-fold q other.1.0) in
     (q, other.1, same, sym (ends-fold r) ∙ ap ends_of same ∙ ends-fold q)
 
 -- ---- texts that are equal, ignoring case, belong to the same classes of subtags, and their subtags pass the same tests

@@ -1,5 +1,5 @@
 -- How the order of texts without regard to case goes on from an index, and what it answers where a text has ended.
-use Rattle.langtag_scan.proofs.Prelude.{◌≡◌, ℕ, suc, All, ◌+◌, ◌-◌, ◌<◌, min, true, false, cond, List, [], ◌∷◌, length, get_or, take, drop, refl, ◌∙◌, arith, add-one, Less, Greater, Ordering, nat_cmp, Fits-of_lt, drop-cons, common_steps}
+use Rattle.langtag_scan.proofs.Prelude.{◌≡◌, ℕ, suc, All, ◌+◌, ◌-◌, ◌<◌, min, true, false, List, [], ◌∷◌, length, get_or, take, drop, refl, arith, add-one, Less, Greater, Ordering, nat_cmp, Fits-of_lt, drop-cons, common_steps}
 use Rattle.std.proofs.Common.{Fits, w8, length-drop, get_or-drop}
 use Rattle.std.specs.Ordering.{ordering_then, is_ne}
 use Rattle.std.proofs.Math.ListN.{get_or-eq_default}
@@ -11,17 +11,14 @@ case_cmp-drop :
     case_cmp (drop i a) (drop i b) ≡ ordering_then (nat_cmp (fold_byte (get_or a i 0)) (fold_byte (get_or b i 0))) (case_cmp (drop (i + 1) a) (drop (i + 1) b))
 case_cmp-drop a b i in_a in_b = rw (add-one, drop-cons a i 0 in_a, drop-cons b i 0 in_b) refl
 
-ordering_then-is_ne : (first rest : Ordering) → ordering_then first rest ≡ cond (is_ne first) first rest
-ordering_then-is_ne first rest = grind (arith, common_steps)
-
 module _ (a b : List ℕ) (i x y : ℕ) (o : Ordering) (in_a : i < length a) (in_b : i < length b) (at_a : x ≡ get_or a i 0) (at_b : y ≡ get_or b i 0) (at_index : o ≡ nat_cmp (fold_byte x) (fold_byte y)) where
   -- the bytes at an index tie
   pub case_cmp-tied : is_ne o ≡ false → case_cmp (drop i a) (drop i b) ≡ case_cmp (drop (i + 1) a) (drop (i + 1) b)
-  case_cmp-tied tied = case_cmp-drop a b i in_a in_b ∙ rw (← at_a, ← at_b, ← at_index, ordering_then-is_ne o, tied) refl
+  case_cmp-tied tied = grind (arith, common_steps, case_cmp-drop a b i in_a in_b)
 
   -- the bytes at an index differ
   pub case_cmp-decided : is_ne o ≡ true → case_cmp (drop i a) (drop i b) ≡ o
-  case_cmp-decided decided = case_cmp-drop a b i in_a in_b ∙ rw (← at_a, ← at_b, ← at_index, ordering_then-is_ne o, decided) refl
+  case_cmp-decided decided = grind (arith, common_steps, case_cmp-drop a b i in_a in_b)
 
 -- the end of a text is above every byte
 fold_byte-below_end : (x : ℕ) → Fits w8 x → nat_cmp (fold_byte x) 256 ≡ Less

@@ -1,5 +1,5 @@
 -- The subtags over which the stages run are those of the parts of a record, which is found from the last subtag on.
-use Rattle.langtag_scan.proofs.Prelude.{◌≡◌, drop, ℕ, suc, zero, ◌-◌, ◌≤◌, true, false, List, [], ◌∷◌, ◌++◌, length, get_or, Option, Some, None, ◌⊎◌, refl, ◌∙◌, arith, ◌+◌, cond, eqb, leb, append_assoc, IsTrue, IfSome, AllByRecursion, flat_map, option_map_or, nat_tests, common_steps, and_from, eq-eqb, lt-ltb, le-leb}
+use Rattle.langtag_scan.proofs.Prelude.{◌≡◌, inl, inr, drop, ℕ, suc, zero, ◌-◌, ◌≤◌, true, false, List, [], ◌∷◌, ◌++◌, length, get_or, Option, Some, None, ◌⊎◌, refl, ◌∙◌, arith, ◌+◌, cond, eqb, leb, append_assoc, IsTrue, IfSome, AllByRecursion, flat_map, option_map_or, nat_tests, common_steps, and_from, eq-eqb, lt-ltb, le-leb}
 use Rattle.std.specs.Prelude.{⊤}
 use Rattle.langtag_scan.specs.Grammar.{is_primary, is_extended, is_script, is_region, is_variant, is_extension_subtag, is_private_subtag, PrivateUse, Extension, Record, IsWellFormedPrivateUse, IsWellFormedExtension, extension_flat, one_flat, private_part_flat, IsWellFormed, flat, Stage, Start, Language, Extended, AfterScript, AfterRegion, AfterVariant, AfterSingleton, InExtension, AfterMark, InPrivate, classes_of, next_stage, may_end}
 use Rattle.langtag_scan.proofs.StageLaws.{runs, leads_to, may_follow, place, next_step, next_part, is_next_extended, part_ends, part_follows}
@@ -92,9 +92,6 @@ blocks language r =
     language ∷ one_flat r.script ∷ one_flat r.region ∷ r.variants ∷ flat_map extension_flat r.extensions
     ∷ private_part_flat r.private_use ∷ []
 
-abbrev pub flatten : List (List (List ℕ)) → List (List ℕ)
-flatten bs = flat_map (λ b. b) bs
-
 -- one subtag before those of a part, and none before it
 abbrev pub add : ℕ → List ℕ → List (List (List ℕ)) → List (List (List ℕ))
 add zero s [] = []
@@ -147,7 +144,7 @@ FitParts r =
 pub record IsSound (stage : Stage) (ss : List (List ℕ)) (b : Read) : Type 0 where
   pub ready : Ready stage b
   pub fit : FitParts b.parts
-  pub spells : flatten (by_part stage b) ≡ ss
+  pub spells : flat_map (λ part. part) (by_part stage b) ≡ ss
 
 pub decode_sound : (ss : List (List ℕ)) (stage : Stage) → runs stage ss ≡ true → IsSound stage ss (decode stage ss)
 unfolding decode
@@ -179,14 +176,12 @@ more_decode :
 unfolding runs decode
 more_decode {ss} {b} stage after s follows class others = grind (arith, common_steps, reached stage after s follows class, decode-cons stage after s ss)
 
-in_private : (ss : List (List ℕ)) → AllByRecursion (λ s. IsTrue (is_private_subtag s)) ss → Decodes InPrivate ss (pending ss [] None)
-in_private [] fits = none_decodes InPrivate refl
-in_private (s ∷ ss) fits = more_decode InPrivate InPrivate s refl fits.0 (in_private ss fits.1)
-
-pub after_mark :
-    (ss : List (List ℕ)) → 1 ≤ length ss → AllByRecursion (λ s. IsTrue (is_private_subtag s)) ss → Decodes AfterMark ss (pending ss [] None)
-after_mark [] some fits = absurd (omega arith)
-after_mark (s ∷ ss) some fits = more_decode AfterMark InPrivate s refl fits.0 (in_private ss fits.1)
+-- the subtags of a private use part, where there is one or a tag may end
+pub private_subtags :
+    (stage : Stage) (ss : List (List ℕ)) → may_follow stage InPrivate ≡ true → (1 ≤ length ss) ⊎ (may_end stage ≡ true) →
+    AllByRecursion (λ s. IsTrue (is_private_subtag s)) ss → Decodes stage ss (pending ss [] None)
+private_subtags stage [] follows some fits = grind (arith, common_steps, none_decodes stage)
+private_subtags stage (s ∷ ss) follows some fits = more_decode stage InPrivate s follows fits.0 (private_subtags InPrivate ss refl (inr refl) fits.1)
 
 -- ---- the parts, from the last one on, where a tag may go on with any of them
 
@@ -195,20 +190,16 @@ private_decodes :
     Decodes stage (private_part_flat p) (whole (from_private p))
 private_decodes None fits stage on = none_decodes stage (part_ends stage (omega arith))
 private_decodes (Some p) fits stage on =
-    more_decode stage AfterMark (p.mark ∷ []) (part_follows 4 stage AfterMark on refl) fits.mark (after_mark p.subtags fits.some fits.subtags)
+    more_decode stage AfterMark (p.mark ∷ []) (part_follows 4 stage AfterMark on refl) fits.mark (private_subtags AfterMark p.subtags refl (inl fits.some) fits.subtags)
 
 module _ (p : Option PrivateUse) (fits_private : IfSome p IsWellFormedPrivateUse) where
-  in_extension :
-      (es : List Extension) (rest : List (List ℕ)) → Decodes InExtension rest (whole (from_extensions es p)) → (ss : List (List ℕ)) →
-      AllByRecursion (λ s. IsTrue (is_extension_subtag s)) ss → Decodes InExtension (ss ++ rest) (pending ss es p)
-  in_extension es rest others [] fits = others
-  in_extension es rest others (s ∷ ss) fits = more_decode InExtension InExtension s refl fits.0 (in_extension es rest others ss fits.1)
-
-  after_singleton :
-      (es : List Extension) (rest : List (List ℕ)) → Decodes InExtension rest (whole (from_extensions es p)) → (ss : List (List ℕ)) →
-      1 ≤ length ss → AllByRecursion (λ s. IsTrue (is_extension_subtag s)) ss → Decodes AfterSingleton (ss ++ rest) (pending ss es p)
-  after_singleton es rest others [] some fits = absurd (omega arith)
-  after_singleton es rest others (s ∷ ss) some fits = more_decode AfterSingleton InExtension s refl fits.0 (in_extension es rest others ss fits.1)
+  extension_subtags :
+      (es : List Extension) (rest : List (List ℕ)) → Decodes InExtension rest (whole (from_extensions es p)) → (stage : Stage) (ss : List (List ℕ)) →
+      may_follow stage InExtension ≡ true → (1 ≤ length ss) ⊎ (stage ≡ InExtension) → AllByRecursion (λ s. IsTrue (is_extension_subtag s)) ss →
+      Decodes stage (ss ++ rest) (pending ss es p)
+  extension_subtags es rest others stage [] follows some fits = grind (arith, common_steps)
+  extension_subtags es rest others stage (s ∷ ss) follows some fits =
+      more_decode stage InExtension s follows fits.0 (extension_subtags es rest others InExtension ss refl (inr refl) fits.1)
 
   one_extension :
       (e : Extension) (es : List Extension) (rest : List (List ℕ)) → IsWellFormedExtension e →
@@ -216,7 +207,7 @@ module _ (p : Option PrivateUse) (fits_private : IfSome p IsWellFormedPrivateUse
       Decodes stage (extension_flat e ++ rest) (whole (from_extensions (e ∷ es) p))
   one_extension e es rest fits others stage on =
       more_decode stage AfterSingleton (e.singleton ∷ []) (part_follows 4 stage AfterSingleton on refl) fits.singleton
-      (after_singleton es rest others e.subtags fits.some fits.subtags)
+      (extension_subtags es rest others AfterSingleton e.subtags refl (inl fits.some) fits.subtags)
 
   extensions_decode :
       (es : List Extension) → AllByRecursion IsWellFormedExtension es → (stage : Stage) → next_part stage ≤ 4 →

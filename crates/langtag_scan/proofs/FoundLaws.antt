@@ -1,7 +1,7 @@
 -- What is found of a text is what it is: a normal tag with the ends of its parts, a private use tag, or neither.
 use Rattle.langtag_scan.proofs.Prelude.{◌≡◌, ◌↔◌, ℕ, List, Option, IsTrue, MatchOption, arith, Bool, false, cond, [], ◌∷◌, Some, None, refl, sym, subst, ∥∥₁_elim, props, common_steps, option_map_or, both_ways}
 use mathlib.Core.Bool.{Bool-set}
-use Rattle.langtag_scan.specs.Grammar.{HasEnds, IsFoundOf, is_normal, is_private_use, normal_ends, IsNormal, IsPrivate, IsIrregularAt, IsIrregular, IsTag, all_at, end_at, index_after, outcome, outcome_of, IsRefused, Stage, Start, InPrivate, AfterMark, AfterFirstMark, InPrivateTag, segments}
+use Rattle.langtag_scan.specs.Grammar.{HasEnds, IsFoundOf, is_normal, is_private_use, normal_ends, IsNormal, IsPrivate, IsIrregular, IsTag, all_at, end_at, index_after, outcome, outcome_of, IsRefused, Stage, Start, InPrivate, AfterMark, AfterFirstMark, InPrivateTag, segments}
 use Rattle.langtag_scan.specs.declared.ends.Ends.{Ends}
 use Rattle.langtag_scan.specs.declared.finding.Finding.{Finding}
 use Rattle.langtag_scan.specs.declared.finding.Finding.TheVariants.{Normal, PrivateUse, Irregular}
@@ -36,14 +36,11 @@ found_ends text found ends h at = grind (arith, common_steps, normal_no_private 
 
 -- ---- what is merely so is at hand
 
-irregular_had : (index : ℕ) (text : List ℕ) → ∥ IsIrregularAt index text ∥₁ → IsIrregularAt index text
-irregular_had index text merely =
-    grind (arith, common_steps, ∥∥₁_elim merely (hlevel props) (irregular_fold text index), props, irregular_fold text index, irregular_from_fold text index)
-
 pub found_had : (text : List ℕ) (found : Finding) → ∥ IsFoundOf text found ∥₁ → IsFoundOf text found
 found_had text (Normal ends) merely = ends_had text ends merely
 found_had text PrivateUse merely = private_from_runs text (∥∥₁_elim merely (Bool-set _ _) (runs_from_private text))
-found_had text (Irregular index) merely = irregular_had index text merely
+found_had text (Irregular index) merely =
+    grind (arith, common_steps, ∥∥₁_elim merely (hlevel props) (irregular_fold text index), props, irregular_fold text index, irregular_from_fold text index)
 
 -- ---- what is found, by the rule that the subtags follow
 

@@ -1,5 +1,5 @@
 -- The irregular texts, and which of them a text may still become; no text is of two kinds of tags, and each grandfathered text is a tag.
-use Rattle.langtag_scan.proofs.Prelude.{◌≡◌, ◌↔◌, ℕ, ◌<◌, Bool, true, eqb, ◌&&◌, List, [], ◌∷◌, ◌++◌, length, get_or, take, drop, IsTrue, list_any, list_any_at, Any-from_list_any, slice_get_read, refl, sym, ◌∙◌, arith, false, map, ltb, ◌||◌, slice_get, None, Some, inl, inr, ap, eq-eqb, and_parts, and_from, agree_below, agree_below_at, both_ways, ltb-true, or_cases, nat_tests, map-append, drop-map, length-map, get_or-map, slice_get-get_or, slice_get_within, get_or_from_slice_get, common_steps, bytes_decides, bytes_eq, eqb-true}
+use Rattle.langtag_scan.proofs.Prelude.{◌≡◌, ◌↔◌, ℕ, ◌<◌, Bool, true, eqb, ◌&&◌, List, [], ◌∷◌, ◌++◌, length, get_or, take, drop, IsTrue, list_any, list_any_at, Any-from_list_any, slice_get_read, refl, sym, ◌∙◌, arith, false, map, ltb, ◌||◌, slice_get, None, Some, ap, eq-eqb, and_parts, and_from, agree_below, agree_below_at, both_ways, ltb-true, or_cases, nat_tests, map-append, drop-map, length-map, get_or-map, slice_get-get_or, slice_get_within, get_or_from_slice_get, common_steps, bytes_decides, bytes_eq, eqb-true}
 use Rattle.std.proofs.Common.{Decides}
 use Rattle.langtag_scan.specs.Grammar.{fold_byte, fold_text, grandfathered_tags, irregular_texts, Grandfathered, folded_texts, folded_at, is_prefix, is_possible, Alike, are_alike, are_alike-decides, IsIrregularPrefix, IsIrregularAt, IsNormal, IsPrivate, IsIrregular, IsTag, is_letter, is_digit, is_primary, is_extended, is_script, is_region, is_variant, is_extension_subtag, is_private_subtag, is_mark, is_singleton, segments, Start}
 use Rattle.langtag_scan.specs.Irregular.{has_at}
@@ -75,9 +75,9 @@ irregular_once j k t first other =
 pub possible_viable : (p : List ℕ) (k : ℕ) → k < 17 → is_possible p k ≡ true → (u : List ℕ) × IsIrregularAt k (p ++ u)
 possible_viable p k within h =
     let rest : List ℕ = drop (length p) (get_or irregular_texts k []) in
-    let folded : fold_text p ++ drop (length (fold_text p)) (folded_at k) ≡ fold_text (p ++ rest) =
-    rw (folded_at-fold k within, length-map p fold_byte, drop-map fold_byte (length p), map-append fold_byte p rest) refl in
-    (rest, irregular_from_fold (p ++ rest) k within (sym (prefix_rest (fold_text p) (folded_at k) h) ∙ folded))
+    let same = prefix_rest (fold_text p) (folded_at k) h in
+    let parts = map-append fold_byte p rest in
+    (rest, grind (arith, common_steps, irregular_from_fold (p ++ rest) k within, folded_at-fold k within, length-map p fold_byte, drop-map fold_byte (length p), parts))
 
 -- and each prefix of an irregular text keeps it possible
 pub possible_prefix : (p u : List ℕ) (k : ℕ) → IsIrregularAt k (p ++ u) → (k < 17) × (is_possible p k ≡ true)
@@ -125,14 +125,8 @@ is_accepted k text = (ltb k 17 && bytes_eq (folded_at k) (fold_text text)) || ru
 
 accepted_tag : (k : ℕ) (text : List ℕ) → is_accepted k text ≡ true → IsTag text
 accepted_tag k text accepted =
-    let irregular : Bool = ltb k 17 && bytes_eq (folded_at k) (fold_text text) in
-    elim (or_cases irregular (runs Start (segments text)) accepted) [
-      | inl there ↦
-          let parts = and_parts (ltb k 17) (bytes_eq (folded_at k) (fold_text text)) there in
-          let same = (bytes_decides (folded_at k) (fold_text text)).0 parts.1 in
-          tag_irregular text k (irregular_from_fold text k (ltb-true k 17 parts.0) same)
-      | inr run ↦ tag_normal text (normal_from_runs text run)
-    ]
+    let same = bytes_decides (folded_at k) (fold_text text) in
+    grind (arith, common_steps, or_cases, and_parts, ltb-true, tag_irregular text k, irregular_from_fold text k, tag_normal text, normal_from_runs text)
 
 -- the text of each entry of the table is a tag
 pub registered_tag : (k : ℕ) (entry : Grandfathered) → slice_get grandfathered_tags k ≡ Some entry → IsTag entry.text
@@ -146,24 +140,18 @@ registered_tag k entry at =
 
 -- some irregular tag has a property exactly where one passes the test that decides it
 module _ (test : List ℕ → Bool) (P : List ℕ → Type 0) (decides : (name : List ℕ) → Decides (test name) (P name)) where
-  from_test : list_any test irregular_texts ≡ true → (k : ℕ) × (name : List ℕ) × (slice_get irregular_texts k ≡ Some name) × P name
-  from_test found = grind (arith, common_steps, Any-from_list_any, slice_get_read)
-
-  to_test : (k : ℕ) (name : List ℕ) → slice_get irregular_texts k ≡ Some name → P name → list_any test irregular_texts ≡ true
-  to_test k name at is = grind (arith, nat_tests, list_any_at, slice_get_within irregular_texts k name at, get_or_from_slice_get irregular_texts k name [] at)
+  some_test : IsTrue (list_any test irregular_texts) ↔ ((k : ℕ) × (name : List ℕ) × (slice_get irregular_texts k ≡ Some name) × P name)
+  some_test = (
+    λ found. grind (arith, common_steps, Any-from_list_any, slice_get_read),
+    λ (k, name, at, is). grind (arith, nat_tests, list_any_at, slice_get_within irregular_texts k name at, get_or_from_slice_get irregular_texts k name [] at),
+  )
 
 pub begins_some : (p : List ℕ) → IsTrue (list_any (λ name. are_alike p (take (length p) name)) irregular_texts) ↔ IsIrregularPrefix p
 unfolding IsIrregularPrefix
-begins_some p = (
-  λ found. from_test (λ name. are_alike p (take (length p) name)) (λ name. Alike p (take (length p) name)) (λ name. are_alike-decides p (take (length p) name)) found,
-  λ is. to_test (λ name. are_alike p (take (length p) name)) (λ name. Alike p (take (length p) name)) (λ name. are_alike-decides p (take (length p) name)) is.0 is.1 is.2 is.3,
-)
+begins_some p = some_test _ (λ name. Alike p (take (length p) name)) (λ name. are_alike-decides p (take (length p) name))
 
 pub alike_some : (t : List ℕ) → IsTrue (list_any (λ name. are_alike name t) irregular_texts) ↔ IsIrregular t
 unfolding IsIrregular IsIrregularAt
-alike_some t = (
-  λ found.
-      let (k, name, at, alike) = from_test (λ name. are_alike name t) (λ name. Alike name t) (λ name. are_alike-decides name t) found in
-      (k, (name, at, alike)),
-  λ is. to_test (λ name. are_alike name t) (λ name. Alike name t) (λ name. are_alike-decides name t) is.0 is.1.0 is.1.1 is.1.2,
-)
+alike_some t =
+    let some = some_test (λ name. are_alike name t) (λ name. Alike name t) (λ name. are_alike-decides name t) in
+    (λ found. let (k, name, at, alike) = some.0 found in (k, (name, at, alike)), λ is. some.1 (is.0, is.1.0, is.1.1, is.1.2))

@@ -1,6 +1,6 @@
 -- A join is its first subtag and the others, each after a hyphen. So lists of subtags that follow one another do so in
 -- the text, too, and it can be cut between them.
-use Rattle.langtag_scan.proofs.Prelude.{◌≡◌, ℕ, ◌+◌, ◌-◌, List, [], ◌∷◌, ◌++◌, length, take, drop, Option, None, Some, unwrap_or, refl, sym, ap, ◌∙◌, arith, append_assoc, append-nil, option_map, flat_map, replace_range, take_at, drop_at, length_push, common_steps, flat_map-append, eq-eqb, ne_eqb, length-append, nat_tests}
+use Rattle.langtag_scan.proofs.Prelude.{◌≡◌, ℕ, ◌+◌, List, [], ◌∷◌, ◌++◌, length, take, drop, Option, None, Some, unwrap_or, refl, sym, ap, ◌∙◌, arith, append_assoc, append-nil, option_map, flat_map, replace_range, take_at, drop_at, common_steps, flat_map-append, eq-eqb, ne_eqb, length-append, nat_tests}
 use Rattle.langtag_scan.specs.Grammar.{PrivateUse, one_flat, private_use_flat, private_part_flat, join, text_between}
 use Rattle.langtag_scan.specs.Parts.{present}
 
@@ -42,14 +42,11 @@ length-join-append x xs ys = ap length (join-append x xs ys) ∙ length-append (
 
 -- ---- a text that is cut in two
 
-drop_cut : (whole prefix rest : List ℕ) (n : ℕ) → whole ≡ prefix ++ rest → n ≡ length prefix → drop n whole ≡ rest
-drop_cut whole prefix rest n cut at = rw (cut, at) (drop_at prefix rest (length prefix) refl)
-
 pub take-join : (x : List ℕ) (xs ys : List (List ℕ)) → take (length (join (x ∷ xs))) (join (x ∷ (xs ++ ys))) ≡ join (x ∷ xs)
 take-join x xs ys = rw (join-append x xs ys) (take_at (join (x ∷ xs)) (hyphenated ys) (length (join (x ∷ xs))) refl)
 
 pub drop-join : (x : List ℕ) (xs ys : List (List ℕ)) → drop (length (join (x ∷ xs))) (join (x ∷ (xs ++ ys))) ≡ hyphenated ys
-drop-join x xs ys = drop_cut (join (x ∷ (xs ++ ys))) (join (x ∷ xs)) (hyphenated ys) (length (join (x ∷ xs))) (join-append x xs ys) refl
+drop-join x xs ys = rw (join-append x xs ys) (drop_at (join (x ∷ xs)) (hyphenated ys) (length (join (x ∷ xs))) refl)
 
 -- to replace subtags, each after its hyphen, in the text is to replace them in the list
 pub join-replaced :
@@ -77,10 +74,7 @@ text_between-cut :
     (text prefix part rest : List ℕ) (end : ℕ) → text ≡ prefix ++ 45 ∷ (part ++ rest) → end ≡ length prefix + 1 + length part →
     text_between text (length prefix) end ≡ Some part
 text_between-cut text prefix part rest end cut at =
-    let later = ne_eqb (length prefix) end (λ same. omega arith) in
-    let size : end - (length prefix + 1) ≡ length part = omega arith in
-    let later_text : drop (length prefix + 1) text ≡ part ++ rest = drop_cut text (prefix ++ 45 ∷ []) (part ++ rest) (length prefix + 1) (cut ∙ sym (append_assoc prefix (45 ∷ []) (part ++ rest))) (sym (length_push prefix 45)) in
-    rw later (ap Some (rw (size, later_text) (take_at part rest (length part) refl)))
+    grind (arith, common_steps, ne_eqb (length prefix) end, drop_at (prefix ++ 45 ∷ []) (part ++ rest), append_assoc prefix (45 ∷ []))
 
 -- the subtags between two prefixes of a list
 pub text_between-join :

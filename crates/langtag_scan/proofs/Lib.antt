@@ -9,6 +9,7 @@ pub mod NormalTexts
 mod StageLaws
 pub mod TagLaws
 mod StateTables
+mod SubtagReading
 mod PositionLaws
 mod ReadingLaws
 pub mod CaseLaw

@@ -1,8 +1,8 @@
 -- A text is normal or private exactly where its segments may follow one another, and a normal text has one record.
-use Rattle.langtag_scan.proofs.Prelude.{◌≡◌, append-nil, ℕ, true, List, Some, sym, ap, ◌∙◌, ◌⊎◌, arith, rules, Bool, false, ◌&&◌, [], ◌∷◌, refl, AllByRecursion, and_parts, both_ways, and_from, join_with_byte-slice_split, common_steps}
+use Rattle.langtag_scan.proofs.Prelude.{◌≡◌, inl, append-nil, ℕ, true, List, Some, sym, ap, ◌∙◌, ◌⊎◌, arith, rules, Bool, false, ◌&&◌, [], ◌∷◌, refl, AllByRecursion, and_parts, both_ways, and_from, join_with_byte-slice_split, common_steps}
 use Rattle.langtag_scan.specs.Grammar.{Record, IsWellFormed, flat, spell, Stage, Start, classes_of, after_stage, AfterMark, is_one, segments, join, IsNormal, IsPrivate, is_private_subtag, is_primary, is_mark}
 use Rattle.langtag_scan.proofs.StageLaws.{leads_to, after_class, next_step, runs}
-use Rattle.langtag_scan.proofs.Decoding.{Read, Ready, FitParts, decode_sound, over_run, decode, decode_complete, flat_once, after_mark}
+use Rattle.langtag_scan.proofs.Decoding.{Read, Ready, FitParts, decode_sound, over_run, decode, decode_complete, flat_once, private_subtags}
 use Rattle.langtag_scan.proofs.SubtagFacts.{IsSubtag, of_primary, of_extended, of_script, of_region, of_variant, of_extension_subtag, of_private_subtag, of_one, of_mark, singleton_alphanumeric, mark_alphanumeric}
 use Rattle.langtag_scan.proofs.SubtagLists.{segments-joined, each_subtag}
 
@@ -59,22 +59,17 @@ runs_from_private t (p, fits, spells) =
     let mark = of_one p.mark (mark_alphanumeric p.mark fits.mark) in
     let split = segments-joined (p.mark ∷ []) p.subtags (mark, each_subtag is_private_subtag of_private_subtag p.subtags fits.subtags) in
     ap (λ u. runs_private (segments u)) (sym spells) ∙ ap runs_private split
-    ∙ and_from (is_mark p.mark) (runs AfterMark p.subtags) fits.mark (after_mark p.subtags fits.some fits.subtags).run
+    ∙ and_from (is_mark p.mark) (runs AfterMark p.subtags) fits.mark (private_subtags AfterMark p.subtags refl (inl fits.some) fits.subtags).run
 
 -- what such subtags spell is private
 private_from_subtags : (t : List ℕ) (ss : List (List ℕ)) → join ss ≡ t → runs_private ss ≡ true → IsPrivate t
 unfolding IsPrivate
-private_from_subtags t [] e h = absurd cc
-private_from_subtags t ([] ∷ ss) e h = absurd cc
-private_from_subtags t ((m ∷ c ∷ s) ∷ ss) e h = absurd cc
 private_from_subtags t ((m ∷ []) ∷ ss) e h =
     let k = and_parts (is_mark m) (runs AfterMark ss) h in
     let sound = decode_sound ss AfterMark k.1 in
-    let after : (decode AfterMark ss).after ≡ ss = simp append-nil at sound.spells in (
-      record { mark = m; subtags = (decode AfterMark ss).after },
-      record { mark = k.0; some = sound.ready.1; subtags = sound.ready.0 },
-      ap (λ (us : List (List ℕ)). join ((m ∷ []) ∷ us)) after ∙ e,
-    )
+    let after : (decode AfterMark ss).after ≡ ss = simp append-nil at sound.spells in
+    (record { mark = m; subtags = ss }, record { mark = k.0; some = rw (← after) sound.ready.1; subtags = rw (← after) sound.ready.0 }, e)
+private_from_subtags t _ e h = absurd cc
 
 -- and only a private text has such segments
 pub private_from_runs : (t : List ℕ) → runs_private (segments t) ≡ true → IsPrivate t

@@ -1,11 +1,11 @@
 -- Each part of a record stands between the end of the part before and its own end, and so do the ends that are kept subtag by subtag.
-use Rattle.langtag_scan.proofs.Prelude.{◌≡◌, ℕ, List, [], ◌++◌, take, drop, arith, ◌∙◌, append_assoc, append-nil, ◌+◌, length, subst, zero, suc, ◌≤◌, true, false, cond, leb, ◌∷◌, Some, refl, sym, length-append, common_steps, nat_tests, flat_map}
+use Rattle.langtag_scan.proofs.Prelude.{◌≡◌, ℕ, List, [], ◌++◌, take, drop, arith, ◌∙◌, append_assoc, append-nil, ◌+◌, length, zero, suc, ◌≤◌, true, false, cond, leb, ◌∷◌, Some, refl, length-append, common_steps, nat_tests, flat_map}
 use Rattle.langtag_scan.specs.Grammar.{to_region, to_variants, ends_of, Record, extension_flat, one_flat, private_part_flat, flat, spell, IsWellFormed, join, language_part, private_use_part, text_between, AreInOrder, all_at, end_at, index_after, Stage, Start, Language, next_stage, may_end}
 use Rattle.langtag_scan.specs.Ends.{to_script, to_extensions}
 use Rattle.langtag_scan.specs.Parts.{parts}
 use Rattle.langtag_scan.specs.declared.ends.Ends.{Ends}
 use Rattle.langtag_scan.proofs.Joins.{join-hyphenated, hyphenated-append, hyphenated-present, join-append, take-join, length-join, length-hyphenated, joined, joined-one, joined-private, text_between-join, text_between-lists, hyphenated}
-use Rattle.langtag_scan.proofs.Decoding.{decode_complete, Read, put, whole, decode, decode-cons, over_run, add, blocks, by_part, by_part-put}
+use Rattle.langtag_scan.proofs.Decoding.{decode_complete, Read, whole, decode, decode-cons, over_run, add, blocks, by_part, by_part-put}
 use Rattle.langtag_scan.proofs.Running.{ends_after-cons}
 use Rattle.langtag_scan.proofs.StageLaws.{runs, ends_after, is_outside, next_inside, place, places, next_step}
 
@@ -151,11 +151,8 @@ ends_after-flat r fits =
     let e = all_at (length r.primary) in
     let others : List (List ℕ) = drop 1 (flat r) in
     let next : next_stage Start r.primary ≡ Some (Language taken) = rw fits.primary refl in
-    let whole_read : put (Language taken) r.primary (decode (Language taken) others) ≡ whole r =
-    sym (decode-cons Start (Language taken) r.primary others next) ∙ (decode_complete r fits).is in
     let run : runs (Language taken) others ≡ true = rw fits.primary at (decode_complete r fits).run in
     let right = over_run AreRight none_right more_right others (Language taken) run e refl (AreOpen-after Start (length r.primary) e) in
-    let d = ends_after (Language taken) e others in
-    let later : AreLater d e (blocks r.extended r) = subst (λ b. AreLater d e (by_part (Language taken) b)) whole_read right in
-    ends_after-cons Start (all_at 0) r.primary others ∙ rw next refl
-    ∙ ends_of-later d r later
+    let first = decode-cons Start (Language taken) r.primary others next in
+    let ends = ends_after-cons Start (all_at 0) r.primary others in
+    grind (arith, common_steps, next, first, (decode_complete r fits).is, ends, ends_of-later (ends_after (Language taken) e others) r, right)

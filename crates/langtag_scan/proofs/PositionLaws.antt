@@ -1,7 +1,6 @@
 -- What a position says is so: which tags may follow the bytes that led to it, where their parts have ended, and what they are as a whole text.
-use Rattle.langtag_scan.proofs.Prelude.{◌≡◌, ℕ, ◌+◌, ◌<◌, ◌≤◌, Bool, true, false, cond, eqb, eqb-true, List, [], ◌∷◌, ◌++◌, length, get_or, set, Option, Some, None, refl, arith, append_assoc, append-nil, sym, ap, ◌∙◌, MatchOption, replicate, ◌&&◌, take, subst, option_map_or, is_none, and-true, cases_lt, and_parts, lt-ltb, ltb-true, both_ways, common_steps, length_push, length-set, map-append, take_more, take_all, length-take, get_or-replicate, position-Some, fold-append, fails_before_first, bytes_eq-Decides, ne_eqb, position, bytes_eq, option_map, nat_tests}
-use Rattle.std.specs.Prelude.{max}
-use Rattle.std.proofs.Math.Nat.{max-le}
+use Rattle.langtag_scan.proofs.Prelude.{◌≡◌, ℕ, ◌+◌, ◌<◌, ◌≤◌, Bool, true, false, cond, eqb, eqb-true, List, [], ◌∷◌, ◌++◌, length, get_or, set, Option, Some, None, refl, arith, append_assoc, append-nil, sym, ap, ◌∙◌, MatchOption, replicate, take, subst, option_map_or, and-true, cases_lt, and_parts, lt-ltb, ltb-true, both_ways, common_steps, length_push, length-set, map-append, take_more, take_all, length-take, get_or-replicate, position-Some, fold-append, fails_before_first, bytes_eq-Decides, ne_eqb, position, bytes_eq, option_map, nat_tests}
+use Rattle.std.proofs.Math.Nat.{max-le, max-eq_left, max-eq_right}
 use Rattle.std.proofs.lemmas.Bool.{and_left}
 use Rattle.std.proofs.lemmas.List.{set-get_or}
 use Rattle.langtag_scan.specs.Grammar.{fold_byte, fold_text, grandfathered_tags, irregular_texts, folded_texts, is_prefix, is_possible, kind_after, kind_of, IsBegun, end_at, HasStopped, ends_at, found_by, outcome, IsRefused, Begun, nothing_read, possible_index, irregular_after, position_after, position_of, part_before, ending_of, is_dead, Stage, Start, after_stage, may_end, IsFoundOf, IsPrivate, IsIrregular, IsIrregularAt, IsTag, IsViable, IsViableLength, IsStop, Language, Extended, AfterScript, AfterRegion, AfterVariant, AfterSingleton, InExtension, AfterMark, InPrivate, AfterFirstMark, InPrivateTag}
@@ -10,7 +9,7 @@ use Rattle.langtag_scan.specs.Position.{fresh, may_grow, stage_after, begun_afte
 use Rattle.langtag_scan.specs.declared.ends.Ends.{Ends}
 use Rattle.langtag_scan.proofs.IrregularTexts.{is_prefix-push, seventeen_folded, irregular_from_fold, irregular_fold, possible_viable, possible_prefix}
 use Rattle.langtag_scan.proofs.SubtagFacts.{classes_of-kind}
-use Rattle.langtag_scan.proofs.ReadingLaws.{IsPartRead, reads_nothing, reads_after, refused_stops, stuck_stops, reads_viable, reads_ended}
+use Rattle.langtag_scan.proofs.SubtagReading.{last-hyphen, last-push, IsPartRead, reads_nothing, reads_after, refused_stops, stuck_stops, reads_viable, reads_ended}
 use Rattle.langtag_scan.proofs.Running.{empty_begun, begun_push, begun_parts, found_after}
 use Rattle.langtag_scan.proofs.StageLaws.{after_not_start}
 use Rattle.langtag_scan.specs.declared.state.Ending.{Ending}
@@ -40,33 +39,17 @@ below_set places k n within below j = let old = below j in grind (arith, common_
 marked_on : (places : List ℕ) (n : ℕ) (e : Ends) → IsMarked places n e → IsMarked (set places 5 n) (n + 1) e
 marked_on places n e m = grind (arith, common_steps, length-set, below_set, placed)
 
--- the largest of these numbers is the first, or the second
-top : (n a : ℕ) → a ≤ n → max n a ≡ n
-top n a h = omega arith
-
-under : (n a : ℕ) → a ≤ n → max a n ≡ n
-under n a h = omega arith
-
 module _ (places : List ℕ) (n whole : ℕ) (six : length places ≡ 6) (below : (k : ℕ) → get_or places k 0 ≤ n) where
   at : (k j : ℕ) → k < 6 → get_or (set places k n) j 0 ≡ cond (eqb j k) n (get_or places j 0)
   at k j within = placed places k n j (omega (arith, six, within))
 
-  past_one : max (get_or places 1 0) (get_or places 0 0) ≤ n
-  past_one = max-le (below 1) (below 0)
-
-  past_two : max (get_or places 2 0) (max (get_or places 1 0) (get_or places 0 0)) ≤ n
-  past_two = max-le (below 2) past_one
-
-  past_three : max (get_or places 3 0) (max (get_or places 2 0) (max (get_or places 1 0) (get_or places 0 0))) ≤ n
-  past_three = max-le (below 3) past_two
-
   -- the language ends at the index
   language_ends : all_at n ≡ ends_at (set places 0 n) n
-  language_ends = grind (arith, nat_tests, at 0 0, at 0 1, at 0 2, at 0 3, at 0 4, under, below 1, below 2, below 3, below 4)
+  language_ends = grind (arith, nat_tests, at 0 0, at 0 1, at 0 2, at 0 3, at 0 4, max-eq_right, below 1, below 2, below 3, below 4)
 
   -- the extensions end at the index
   extensions_end : end_at InExtension n (ends_at places whole) ≡ ends_at (set places 4 n) n
-  extensions_end = grind (arith, nat_tests, at 4 0, at 4 1, at 4 2, at 4 3, at 4 4, top, past_three)
+  extensions_end = grind (arith, nat_tests, at 4 0, at 4 1, at 4 2, at 4 3, at 4 4, max-eq_left, max-le, below 0, below 1, below 2, below 3)
 
   -- no part before the private use part ends at the index
   others_end : end_at InPrivate n (ends_at places whole) ≡ ends_at (set places 5 n) n
@@ -77,9 +60,9 @@ module _ (places : List ℕ) (n whole : ℕ) (six : length places ≡ 6) (below 
   stage_ends Start past = absurd (past refl)
   stage_ends (Language taken) past = language_ends
   stage_ends (Extended taken) past = language_ends
-  stage_ends AfterScript past = grind (arith, nat_tests, at 1 0, at 1 1, at 1 2, at 1 3, at 1 4, top, below 0, under, below 2, below 3, below 4)
-  stage_ends AfterRegion past = grind (arith, nat_tests, at 2 0, at 2 1, at 2 2, at 2 3, at 2 4, top, past_one, under, below 3, below 4)
-  stage_ends AfterVariant past = grind (arith, nat_tests, at 3 0, at 3 1, at 3 2, at 3 3, at 3 4, top, past_two, under, below 4)
+  stage_ends AfterScript past = grind (arith, nat_tests, at 1 0, at 1 1, at 1 2, at 1 3, at 1 4, max-eq_left, below 0, max-eq_right, below 2, below 3, below 4)
+  stage_ends AfterRegion past = grind (arith, nat_tests, at 2 0, at 2 1, at 2 2, at 2 3, at 2 4, max-eq_left, max-le, max-eq_right, below 0, below 1, below 3, below 4)
+  stage_ends AfterVariant past = grind (arith, nat_tests, at 3 0, at 3 1, at 3 2, at 3 3, at 3 4, max-eq_left, max-le, below 0, below 1, below 2, max-eq_right, below 4)
   stage_ends AfterSingleton past = extensions_end
   stage_ends InExtension past = extensions_end
   stage_ends AfterMark past = others_end
@@ -121,6 +104,9 @@ place_before_within o = grind (arith, common_steps)
 pub tracks_nothing : Tracks [] (replicate 6 0) (Some (fresh Start))
 tracks_nothing = grind (arith, common_steps, reads_nothing, empty_begun Start)
 
+begun_grows : (s : Begun) (bytes : List ℕ) (b : ℕ) → s.size ≡ length bytes → IsBegun s.stage (bytes ++ b ∷ []) → may_grow s b ≡ true
+begun_grows s bytes b size begun = grind (arith, common_steps, begun_parts, and_parts, lt-ltb, length_push, both_ways, and-true)
+
 module _ (q places : List ℕ) (s : Begun) (known : IsTracked q places s) where
   -- the stage after the subtag follows from what is known of it
   pub stage_is : stage_after s ≡ after_stage s.stage known.bytes
@@ -128,9 +114,6 @@ module _ (q places : List ℕ) (s : Begun) (known : IsTracked q places s) where
 
   grows_begun : (b : ℕ) → may_grow s b ≡ true → IsBegun s.stage (known.bytes ++ b ∷ [])
   grows_begun b grows = grind (arith, common_steps, and_parts, begun_push, ltb-true, and-true)
-
-  begun_grows : (b : ℕ) → IsBegun s.stage (known.bytes ++ b ∷ []) → may_grow s b ≡ true
-  begun_grows b begun = grind (arith, common_steps, begun_parts, and_parts, lt-ltb, length_push, both_ways, and-true)
 
   at_hyphen : (o : Option Stage) → stage_after s ≡ o → Tracks (q ++ 45 ∷ []) (set places (place_before (option_map fresh o)) (length q)) (option_map fresh o)
   at_hyphen None next = refused_stops known.part (sym stage_is ∙ next)
@@ -140,7 +123,7 @@ module _ (q places : List ℕ) (s : Begun) (known : IsTracked q places s) where
         before = q ++ 45 ∷ [];
         bytes = [];
         ends = end_at after (length q) known.ends;
-        part = record { split = append-nil (q ++ 45 ∷ []); reads = reads_after known.part after led; begun = empty_begun after };
+        part = record { split = append-nil (q ++ 45 ∷ []); last = last-hyphen q; reads = reads_after known.part after led; begun = empty_begun after };
         kind = refl;
         size = refl;
         marked = rw (length_push q 45) (marked_end places (length q) known.ends after (after_not_start s.stage after known.bytes led) known.marked);
@@ -150,13 +133,14 @@ module _ (q places : List ℕ) (s : Begun) (known : IsTracked q places s) where
       (b : ℕ) → eqb b 45 ≡ false → (grows : Bool) → may_grow s b ≡ grows →
       let grown : Option Begun = cond grows (Some (record { stage = s.stage; kind = kind_after s.kind b; size = s.size + 1 })) None in
       Tracks (q ++ b ∷ []) (set places (place_before grown) (length q)) grown
-  at_other b other false stuck = stuck_stops known.part b other (λ begun. both_ways (may_grow s b) stuck (begun_grows b begun))
+  at_other b other false stuck = stuck_stops known.part b other (λ begun. both_ways (may_grow s b) stuck (begun_grows s known.bytes b known.size begun))
   at_other b other true grows = record {
     before = known.before;
     bytes = known.bytes ++ b ∷ [];
     ends = known.ends;
     part = record {
       split = sym (append_assoc known.before known.bytes (b ∷ [])) ∙ ap (λ x. x ++ b ∷ []) known.part.split;
+      last = last-push q b other ∙ ap (λ x. x ++ b ∷ []) known.part.last;
       reads = known.part.reads;
       begun = grows_begun b grows;
     };
@@ -211,18 +195,12 @@ viable_possible p k within possible = grind (arith, common_steps, possible_viabl
 pub viable_nothing : IsViable []
 viable_nothing = viable_possible [] 0 (omega arith) refl
 
-by_dead : (q places : List ℕ) (b : Option Begun) (o : Option (List ℕ)) → Tracks q places b → FollowsIrregular q o → (is_none b && is_none o) ≡ true → IsViable q → ⊥
-unfolding IsViable IsTag IsIrregular
-by_dead q places b o known follows dead = grind (arith, common_steps, possible_prefix, both_ways)
-
 pub dead_not_viable : (q places : List ℕ) → Tracks q places (position_of q).begun → is_dead (position_of q) ≡ true → IsViable q → ⊥
-dead_not_viable q places tracks dead = by_dead q places _ _ tracks (follows_irregular q) dead
-
-by_alive : (q places : List ℕ) (b : Option Begun) (o : Option (List ℕ)) → Tracks q places b → FollowsIrregular q o → (is_none b && is_none o) ≡ false → IsViable q
-by_alive q places b o stopped gone alive = grind (arith, nat_tests, viable_possible q, reads_viable)
+unfolding IsViable IsTag IsIrregular
+dead_not_viable q places tracks dead = grind (arith, common_steps, possible_prefix, both_ways, follows_irregular q)
 
 pub alive_viable : (q places : List ℕ) → Tracks q places (position_of q).begun → is_dead (position_of q) ≡ false → IsViable q
-alive_viable q places tracks alive = by_alive q places _ _ tracks (follows_irregular q) alive
+alive_viable q places tracks alive = grind (arith, nat_tests, viable_possible q, reads_viable, follows_irregular q)
 
 -- ---- a whole text
 
@@ -292,10 +270,8 @@ pub tracks_next :
 tracks_next t places i b place within next is known =
     let pushed = tracks_push (take i t) places b (position_of (take i t)).begun known in
     let step = position_of-push (take i t) b in
-    let same : place_before (option_map_or (begun_after b) (position_of (take i t)).begun None) ≡ place = ap part_before (sym step) ∙ sym is in
-    let long : length (take i t) ≡ i = omega (arith, length-take i t, within) in
-    let here : Tracks (take i t ++ b ∷ []) (set places place i) (position_of (take i t ++ b ∷ [])).begun = rw step (rw (same, long) at pushed) in
-    subst (λ q. Tracks q (set places place i) (position_of q).begun) next here
+    let long = length-take i t in
+    grind (arith, common_steps)
 
 -- the first byte, which ends no part
 pub tracks_first : (t : List ℕ) (b : ℕ) → 0 < length t → b ∷ [] ≡ take 1 t → Tracks (take 1 t) (replicate 6 0) (position_of (take 1 t)).begun
@@ -312,8 +288,7 @@ pub dead_next :
 dead_next t places i b within read viable known dead =
     let next = next_prefix t i b within read in
     let tracks = tracks_next t places i b _ within next refl known in
-    let never = dead_not_viable (take (i + 1) t) _ tracks (ap (λ q. is_dead (position_of q)) (sym next) ∙ dead) in
-    (no_tag_dead t (i + 1) never, viable_up_to t i (omega arith) viable never, stop_at t (i + 1) (omega arith) (λ k below. prefixes_viable t i k viable (omega arith)) never)
+    grind (arith, common_steps, dead_not_viable (take (i + 1) t) _ tracks, no_tag_dead t (i + 1), viable_up_to t i, stop_at t (i + 1), prefixes_viable t i)
 
 -- up to its end
 pub text_ended :

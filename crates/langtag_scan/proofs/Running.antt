@@ -1,11 +1,11 @@
 -- How the stages run over the segments of a text, and what is found where a subtag goes on, is filled or ends.
-use Rattle.langtag_scan.proofs.Prelude.{◌≡◌, ℕ, ◌<◌, true, false, eqb, List, [], ◌∷◌, ◌++◌, length, Option, Some, None, refl, ap, arith, append_assoc, sym, subst, ◌∙◌, zero, suc, ◌-◌, ◌≤◌, cond, replicate, and_parts, le-leb, onto_first, option_map_or, length_push, length-replicate, All-from_recursion, list_all-append, slice_split_none, slice_split_at, slice_split-cons_no, slice_split-cons_yes, common_steps, ne_eqb, All, length-append}
+use Rattle.langtag_scan.proofs.Prelude.{◌≡◌, Bool, nat_tests, ℕ, ◌<◌, true, false, eqb, List, [], ◌∷◌, ◌++◌, length, Option, Some, None, refl, ap, arith, append_assoc, sym, subst, ◌∙◌, zero, suc, ◌-◌, ◌≤◌, replicate, and_parts, le-leb, onto_first, option_map_or, length_push, length-replicate, list_all-append, slice_split_none, slice_split_at, slice_split-cons_no, slice_split-cons_yes, common_steps, ne_eqb, length-append}
 use Rattle.std.proofs.lemmas.Bool.{lt-leb}
-use Rattle.langtag_scan.specs.Grammar.{is_letter, is_alphanumeric, are_alphanumeric, is_primary, are_letters, is_hyphen, segments, Stage, Start, next_stage, after_stage, Classes, classes_of, after_by, may_end, Language, Extended, AfterScript, AfterRegion, AfterVariant, AfterSingleton, InExtension, AfterMark, InPrivate, AfterFirstMark, InPrivateTag, end_at, index_after, outcome, IsBegun, found_by, Kind, has_letters, classes_by, filling}
+use Rattle.langtag_scan.specs.Grammar.{is_letter, is_alphanumeric, are_alphanumeric, is_primary, are_letters, is_hyphen, segments, Stage, Start, next_stage, after_stage, Classes, classes_of, after_by, may_end, end_at, index_after, outcome, IsBegun, found_by, Kind, has_letters, classes_by, filling}
 use Rattle.langtag_scan.specs.declared.ends.Ends.{Ends}
 use Rattle.langtag_scan.specs.declared.finding.Finding.{Finding}
 use Rattle.langtag_scan.proofs.BoolFacts.{chosen}
-use Rattle.langtag_scan.proofs.SubtagFacts.{no_hyphen_each, alphanumeric_no_hyphen, mark_letters, letters_alphanumeric, classes_of-kind, letters-kind_of}
+use Rattle.langtag_scan.proofs.SubtagFacts.{hyphen_free, alphanumeric_no_hyphen, mark_letters, letters_alphanumeric, classes_of-kind, letters-kind_of}
 use Rattle.langtag_scan.proofs.NormalTexts.{after_subtag}
 use Rattle.langtag_scan.proofs.StageLaws.{ends_after}
 
@@ -20,9 +20,6 @@ abbrev pub found_after : Ends → ℕ → List (List ℕ) → Option Stage → O
 found_after e n ss o = option_map_or (λ after. outcome after (end_at after n e) ss) o None
 
 -- ---- segments of a text that begins without a hyphen
-
-hyphen_free : (s : List ℕ) → are_alphanumeric s ≡ true → All (λ b. eqb b 45 ≡ false) s
-hyphen_free s h = All-from_recursion (λ b. eqb b 45 ≡ false) s (no_hyphen_each s h)
 
 pub segments-one : (s : List ℕ) → are_alphanumeric s ≡ true → segments s ≡ s ∷ []
 segments-one s h = slice_split_none (λ b. eqb b 45) s (hyphen_free s h)
@@ -94,24 +91,12 @@ record IsFull (f : List ℕ) : Type 0 where
 abbrev full : Kind → Classes
 full kind = classes_by kind 5
 
--- it may stand there, and a tag may end after it
-Finishes : Stage → Classes → Type 0
-Finishes stage c = (after : Stage) × (after_by stage c ≡ Some after) × (may_end after ≡ true)
+-- whether it may stand there, and a tag may end after it
+abbrev finishes : Stage → Classes → Bool
+finishes stage c = option_map_or may_end (after_by stage c) false
 
-after_full : (stage : Stage) (kind : Kind) → (stage ≡ Start → has_letters kind ≡ true) → Finishes stage (full kind)
-unfolding Finishes
-after_full Start kind first = (Language 3, rw (first refl) refl, refl)
-after_full (Language taken) kind first = (AfterVariant, refl, refl)
-after_full (Extended taken) kind first = (AfterVariant, refl, refl)
-after_full AfterScript kind first = (AfterVariant, refl, refl)
-after_full AfterRegion kind first = (AfterVariant, refl, refl)
-after_full AfterVariant kind first = (AfterVariant, refl, refl)
-after_full AfterSingleton kind first = (InExtension, refl, refl)
-after_full InExtension kind first = (InExtension, refl, refl)
-after_full AfterMark kind first = (InPrivate, refl, refl)
-after_full InPrivate kind first = (InPrivate, refl, refl)
-after_full AfterFirstMark kind first = (InPrivateTag, refl, refl)
-after_full InPrivateTag kind first = (InPrivateTag, refl, refl)
+after_full : (stage : Stage) (kind : Kind) → (stage ≡ Start → has_letters kind ≡ true) → finishes stage (full kind) ≡ true
+after_full stage kind first = grind (arith, nat_tests, first)
 
 letters_a : (n : ℕ) → are_letters (replicate n 97) ≡ true
 unfolding is_letter
@@ -124,15 +109,16 @@ filled stage s h = grind (arith, common_steps, length-append, length-replicate, 
 filled_letters : (s : List ℕ) → are_letters s ≡ true → are_letters (s ++ filling s) ≡ true
 filled_letters s h = list_all-append is_letter s (filling s) ∙ rw (h, letters_a (5 - length s)) refl
 
-finishes : (stage : Stage) (s : List ℕ) → IsBegun stage s → Finishes stage (classes_of (s ++ filling s))
-finishes stage s begun = grind (arith, common_steps, filled stage s begun, after_full stage, letters-kind_of, filled_letters s, classes_of-kind, le-leb, lt-leb, ne_eqb)
+filled_finishes : (stage : Stage) (s : List ℕ) → IsBegun stage s → finishes stage (classes_of (s ++ filling s)) ≡ true
+filled_finishes stage s begun = grind (arith, common_steps, filled stage s begun, after_full, letters-kind_of, filled_letters s, classes_of-kind, le-leb, lt-leb, ne_eqb)
+
+found_once : (e : Ends) (n : ℕ) (o : Option Stage) → option_map_or may_end o false ≡ true → (f : Finding) × (found_after e n [] o ≡ Some f)
+unfolding outcome
+found_once e n None ends = absurd cc
+found_once e n (Some after) ends = (found_by after (end_at after n e), rw ends refl)
 
 -- where the last subtag is filled, something is found
 pub filled_found : (stage : Stage) (e : Ends) (s : List ℕ) → IsBegun stage s → (f : Finding) × (outcome stage e (segments (s ++ filling s)) ≡ Some f)
-unfolding Finishes outcome
+unfolding outcome
 filled_found stage e s begun =
-    let f = s ++ filling s in
-    let k = finishes stage s begun in
-    let ends = end_at k.0 (index_after stage e f) e in
-    let one = segments-one f (filled stage s begun).alphanumeric in
-    (found_by k.0 ends, ap (outcome stage e) one ∙ ap (found_after e (index_after stage e f) []) k.1 ∙ ap (λ v. cond v (Some (found_by k.0 ends)) None) k.2)
+    rw (segments-one (s ++ filling s) (filled stage s begun).alphanumeric) (found_once e _ _ (filled_finishes stage s begun))

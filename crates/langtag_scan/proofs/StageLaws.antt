@@ -1,5 +1,5 @@
 -- The stages of a normal tag: how they run over its subtags, which may come after another one, and which subtag leads there.
-use Rattle.langtag_scan.proofs.Prelude.{option_map_or, ◌≡◌, ℕ, ◌+◌, ◌≤◌, Bool, true, false, cond, eqb, ltb, leb, ◌&&◌, List, Option, Some, None, sym, ap, ◌∙◌, arith, [], length, and_parts, nat_tests, common_steps, ◌∷◌}
+use Rattle.langtag_scan.proofs.Prelude.{option_map_or, ◌≡◌, ℕ, ◌+◌, ◌≤◌, Bool, true, false, cond, eqb, ltb, leb, ◌&&◌, List, Some, arith, [], length, and_parts, nat_tests, common_steps, ◌∷◌}
 use Rattle.langtag_scan.specs.Grammar.{end_at, index_after, Stage, next_stage, may_end, Start, Language, Extended, AfterScript, AfterRegion, AfterVariant, AfterSingleton, InExtension, AfterMark, InPrivate, AfterFirstMark, InPrivateTag, Classes, classes_of, after_by, after_stage}
 use Rattle.langtag_scan.specs.Stage.{next_by}
 use Rattle.langtag_scan.specs.declared.ends.Ends.{Ends}
@@ -88,30 +88,21 @@ part_ends _ h = grind (arith, nat_tests)
 pub part_follows : (k : ℕ) (stage after : Stage) → next_part stage ≤ k → opens_from k after ≡ true → may_follow stage after ≡ true
 part_follows k _ _ h h' = grind (arith, nat_tests)
 
-abbrev is_led : Classes → Option Stage → Bool
-is_led c None = true
-is_led c (Some after) = leads_to after c
-
-abbrev is_step : Stage → Classes → Option Stage → Bool
-is_step stage c None = true
-is_step stage c (Some after) = may_follow stage after && leads_to after c
-
-after_led : (stage : Stage) (c : Classes) → is_led c (after_by stage c) ≡ true
+after_led : (stage : Stage) (c : Classes) → option_map_or (λ after. leads_to after c) (after_by stage c) true ≡ true
 after_led _ c = grind (arith, nat_tests)
 
-next_steps : (stage : Stage) (c : Classes) → is_step stage c (next_by stage c) ≡ true
+next_steps : (stage : Stage) (c : Classes) → option_map_or (λ after. may_follow stage after && leads_to after c) (next_by stage c) true ≡ true
 next_steps _ c = grind (arith, nat_tests)
 
 -- the subtag is of the class of the stage after it
 pub after_class : (stage after : Stage) (s : List ℕ) → after_stage stage s ≡ Some after → leads_to after (classes_of s) ≡ true
-after_class stage after s e = ap (is_led (classes_of s)) (sym e) ∙ after_led stage (classes_of s)
+after_class stage after s e = rw e at (after_led stage (classes_of s))
 
 -- and that stage may follow
 pub next_step :
     (stage after : Stage) (s : List ℕ) → next_stage stage s ≡ Some after →
     (may_follow stage after ≡ true) × (leads_to after (classes_of s) ≡ true)
-next_step stage after s e =
-    and_parts (may_follow stage after) (leads_to after (classes_of s)) (ap (is_step stage (classes_of s)) (sym e) ∙ next_steps stage (classes_of s))
+next_step stage after s e = and_parts (may_follow stage after) _ (rw e at (next_steps stage (classes_of s)))
 
 -- ---- which stages follow
 

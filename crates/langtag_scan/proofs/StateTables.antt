@@ -1,5 +1,5 @@
 -- What the tables say of the state of a position is what the grammar says of the position: by computation.
-use Rattle.langtag_scan.proofs.Prelude.{◌≡◌, ℕ, ◌+◌, ◌-◌, ◌<◌, ◌≤◌, Bool, true, false, cond, eqb, eqb-true, ltb, leb, not, ◌&&◌, ◌||◌, List, [], ◌∷◌, ◌++◌, length, take, get_or, Option, Some, None, refl, ap, ◌∙◌, arith, zero, suc, drop, inl, inr, sym, subst, codes, fold, MatchOption, list_all, option_map_or, take-append_seam, agree_below, agree_below_at, and_parts, or_cases, not-true, ltb-true, leb-true, lt-ltb, cases_lt, both_ways, get_or_past, position-Some, common_steps, eq-eqb, ne_eqb, option_map, length-append, nat_tests}
+use Rattle.langtag_scan.proofs.Prelude.{◌≡◌, ℕ, ◌+◌, ◌-◌, ◌<◌, ◌≤◌, Bool, true, false, cond, eqb, eqb-true, ltb, leb, not, ◌&&◌, ◌||◌, List, [], ◌∷◌, ◌++◌, length, take, get_or, Option, Some, None, refl, ap, ◌∙◌, arith, zero, suc, drop, inl, inr, sym, subst, codes, fold, MatchOption, list_all, option_map_or, take-append_seam, agree_below, agree_below_at, and_parts, or_cases, not-true, ltb-true, leb-true, lt-ltb, cases_lt, both_ways, get_or_past, position-Some, common_steps, eq-eqb, ne_eqb, length-append, nat_tests}
 use Rattle.std.specs.Cmp.{booleans_Decides}
 use Rattle.std.proofs.Math.Bool.{beq}
 use Rattle.std.proofs.lemmas.Bool.{le-ltb}
@@ -72,13 +72,8 @@ is_described p = is_described_by p (state_of p)
 abbrev kinds : List Kind
 kinds = Empty ∷ Mark ∷ Letters ∷ Digits ∷ LetterFirst ∷ DigitFirst ∷ []
 
-abbrev kind_index : Kind → ℕ
-kind_index Empty = 0
-kind_index Mark = 1
-kind_index Letters = 2
-kind_index Digits = 3
-kind_index LetterFirst = 4
-kind_index DigitFirst = 5
+each_kind : (test : Kind → Bool) → list_all test kinds ≡ true → (kind : Kind) → test kind ≡ true
+each_kind test all kind = grind (arith, common_steps, and_parts)
 
 abbrev alone : Stage → Kind → ℕ → Position
 alone stage kind size = record { begun = Some (record { stage = stage; kind = kind; size = size }); irregular = None }
@@ -92,41 +87,29 @@ is_row_described stage kind = leb (length (states_of stage kind)) 9 && agree_bel
 abbrev are_rows_described : Stage → Bool
 are_rows_described stage = list_all (is_row_described stage) kinds
 
--- all stages in one computation, which reads the tables only once: a fourth subtag takes none of the three places
-abbrev stages : List Stage
-stages =
-    Start ∷ Language 0 ∷ Language 1 ∷ Language 2 ∷ Language 3 ∷ Extended 0 ∷ Extended 1 ∷ Extended 2 ∷ Extended 3 ∷ AfterScript ∷ AfterRegion
-    ∷ AfterVariant ∷ AfterSingleton ∷ InExtension ∷ AfterMark ∷ InPrivate ∷ AfterFirstMark ∷ InPrivateTag ∷ []
-
-all_described : list_all are_rows_described stages ≡ true
-unfolding is_described_by states_of is_letter is_digit is_mark fold_byte
-all_described = refl
-
-described_at : (n : ℕ) → n < 18 → are_rows_described (get_or stages n Start) ≡ true
-described_at n within = AllPass-from_list_all are_rows_described stages all_described n Start within
-
+-- a fourth extended subtag takes none of the three places
 rows_described : (stage : Stage) → are_rows_described stage ≡ true
-unfolding states_of
-rows_described Start = described_at 0 (omega arith)
-rows_described (Language zero) = described_at 1 (omega arith)
-rows_described (Language (suc zero)) = described_at 2 (omega arith)
-rows_described (Language (suc (suc zero))) = described_at 3 (omega arith)
-rows_described (Language (suc (suc (suc zero)))) = described_at 4 (omega arith)
+unfolding is_described_by states_of is_letter is_digit is_mark fold_byte
+rows_described Start = refl
+rows_described (Language zero) = refl
+rows_described (Language (suc zero)) = refl
+rows_described (Language (suc (suc zero))) = refl
+rows_described (Language (suc (suc (suc zero)))) = refl
 rows_described (Language (suc (suc (suc (suc taken))))) = refl
-rows_described (Extended zero) = described_at 5 (omega arith)
-rows_described (Extended (suc zero)) = described_at 6 (omega arith)
-rows_described (Extended (suc (suc zero))) = described_at 7 (omega arith)
-rows_described (Extended (suc (suc (suc zero)))) = described_at 8 (omega arith)
+rows_described (Extended zero) = refl
+rows_described (Extended (suc zero)) = refl
+rows_described (Extended (suc (suc zero))) = refl
+rows_described (Extended (suc (suc (suc zero)))) = refl
 rows_described (Extended (suc (suc (suc (suc taken))))) = refl
-rows_described AfterScript = described_at 9 (omega arith)
-rows_described AfterRegion = described_at 10 (omega arith)
-rows_described AfterVariant = described_at 11 (omega arith)
-rows_described AfterSingleton = described_at 12 (omega arith)
-rows_described InExtension = described_at 13 (omega arith)
-rows_described AfterMark = described_at 14 (omega arith)
-rows_described InPrivate = described_at 15 (omega arith)
-rows_described AfterFirstMark = described_at 16 (omega arith)
-rows_described InPrivateTag = described_at 17 (omega arith)
+rows_described AfterScript = refl
+rows_described AfterRegion = refl
+rows_described AfterVariant = refl
+rows_described AfterSingleton = refl
+rows_described InExtension = refl
+rows_described AfterMark = refl
+rows_described InPrivate = refl
+rows_described AfterFirstMark = refl
+rows_described InPrivateTag = refl
 
 -- ---- along the irregular texts
 
@@ -157,56 +140,41 @@ bytes_classed b within = agree_below_at (λ b. ltb (class_of b) 29 && is_alike_b
 pub class_within : (b : ℕ) → b < 256 → class_of b < 29
 class_within b within = ltb-true _ _ (and_parts (ltb (class_of b) 29) _ (bytes_classed b within)).0
 
+text_byte_at : (k j : ℕ) → k < 17 → j < length (folded_at k) → is_text_byte (get_or (folded_at k) j 0) ≡ true
+text_byte_at k j within = AllPass-from_list_all is_text_byte _ (agree_below_at (λ k. list_all is_text_byte (folded_at k)) (λ k. true) 17 k texts_plain within) j 0
+
 -- no irregular text has another byte
 outside : (p : List ℕ) (c : ℕ) (o : Option ℕ) → is_text_byte c ≡ false → possible_index (p ++ c ∷ []) ≡ o → o ≡ None
 outside p c None other at = refl
 outside p c (Some k) other at =
-    let first = position-Some (is_prefix (p ++ c ∷ [])) folded_texts k [] at in
-    let within : k < 17 = omega (arith, first.0, seventeen_folded) in
-    let has = and_parts (ltb (length p) (length (folded_at k))) (eqb (get_or (folded_at k) (length p) 0) c) (and_parts (is_prefix p (folded_at k)) _ (sym (is_prefix-push p (folded_at k) c) ∙ first.1)).1 in
-    let plain = AllPass-from_list_all is_text_byte (folded_at k) (agree_below_at (λ k. list_all is_text_byte (folded_at k)) (λ k. true) 17 k texts_plain within) (length p) 0 (ltb-true _ _ has.0) in
-    absurd (both_ways (is_text_byte c) other (ap is_text_byte (sym (eqb-true _ _ has.1)) ∙ plain))
+    grind (arith, common_steps, position-Some (is_prefix (p ++ c ∷ [])) folded_texts k [] at, seventeen_folded, is_prefix-push, and_parts, ltb-true, eqb-true, text_byte_at, both_ways)
 
 irregular_after-same : (o : Option (List ℕ)) (c b : ℕ) → eqb c 45 ≡ eqb b 45 → is_letter c ≡ is_letter b → (eqb (fold_byte c) (fold_byte b) || not (is_text_byte b)) ≡ true →
     option_map_or (irregular_after c) o None ≡ option_map_or (irregular_after b) o None
 irregular_after-same None c b hyphens letters folds = refl
 irregular_after-same (Some p) c b hyphens letters folds =
-    elim (or_cases (eqb (fold_byte c) (fold_byte b)) (not (is_text_byte b)) folds) [
-      | inl same ↦ ap (λ x. option_map (λ k. p ++ x ∷ []) (possible_index (p ++ x ∷ []))) (eqb-true _ _ same)
-      | inr other ↦
-          let none : is_text_byte (fold_byte b) ≡ false = rw (is_letter-fold b, hyphen-fold b) (not-true _ other) in
-          let none_too : is_text_byte (fold_byte c) ≡ false = rw (is_letter-fold c, hyphen-fold c, letters, hyphens) (not-true _ other) in
-          ap (option_map (λ k. p ++ fold_byte c ∷ [])) (outside p (fold_byte c) _ none_too refl)
-          ∙ sym (ap (option_map (λ k. p ++ fold_byte b ∷ [])) (outside p (fold_byte b) _ none refl))
-    ]
+    let none : (x : ℕ) → is_text_byte x ≡ false → possible_index (p ++ x ∷ []) ≡ None = λ x other. outside p x _ other refl in
+    grind (arith, common_steps, or_cases, eqb-true, not-true, is_letter-fold, hyphen-fold, none (fold_byte b), none (fold_byte c))
 
-position_after-same :
-    (p : Position) (c b : ℕ) → eqb c 45 ≡ eqb b 45 → is_letter c ≡ is_letter b → is_digit c ≡ is_digit b → is_mark c ≡ is_mark b →
-    (eqb (fold_byte c) (fold_byte b) || not (is_text_byte b)) ≡ true → position_after p c ≡ position_after p b
-position_after-same p c b hyphens letters digits marks folds = grind (arith, common_steps, irregular_after-same)
+position_after-same : (p : Position) (c b : ℕ) → is_alike_by c b ≡ true → position_after p c ≡ position_after p b
+position_after-same p c b alike = grind (arith, common_steps, and_parts, same_from_beq, irregular_after-same p.irregular c b)
 
 position_after-class : (p : Position) (b : ℕ) → b < 256 → position_after p (class_byte (class_of b)) ≡ position_after p b
-position_after-class p b within =
-    let c = class_byte (class_of b) in
-    let hyphens = and_parts (beq (eqb c 45) (eqb b 45)) _ (and_parts (ltb (class_of b) 29) _ (bytes_classed b within)).1 in
-    let letters = and_parts (beq (is_letter c) (is_letter b)) _ hyphens.1 in
-    let digits = and_parts (beq (is_digit c) (is_digit b)) _ letters.1 in
-    let marks = and_parts (beq (is_mark c) (is_mark b)) _ digits.1 in
-    position_after-same p c b (same_from_beq _ _ hyphens.0) (same_from_beq _ _ letters.0) (same_from_beq _ _ digits.0) (same_from_beq _ _ marks.0) marks.1
+position_after-class p b within = position_after-same p _ b (and_parts (ltb (class_of b) 29) _ (bytes_classed b within)).1
+
+is_alike_by-fold : (b : ℕ) → is_alike_by (fold_byte b) b ≡ true
+is_alike_by-fold b = grind (arith, nat_tests, hyphen-fold b, is_letter-fold b, is_digit-fold b, is_mark-fold b, fold_byte-twice b, eq-eqb)
 
 position_from-fold : (q : List ℕ) (p : Position) → fold position_after p (fold_text q) ≡ fold position_after p q
-position_from-fold q p = grind (arith, common_steps, position_after-same, hyphen-fold, is_letter-fold, is_digit-fold, is_mark-fold, eq-eqb, fold_byte-twice)
+position_from-fold [] p = refl
+position_from-fold (b ∷ q) p =
+    ap (λ r. fold position_after r (fold_text q)) (position_after-same p _ b (is_alike_by-fold b)) ∙ position_from-fold q (position_after p b)
 
 -- ---- what the tables say of a state
 
-kind_at : (kind : Kind) → (kind_index kind < 6) × (get_or kinds (kind_index kind) Empty ≡ kind)
-kind_at kind = grind (arith, common_steps)
-
 begun_described : (s : Begun) → is_reached (record { begun = Some s; irregular = None }) ≡ true → is_described (record { begun = Some s; irregular = None }) ≡ true
 begun_described s reached =
-    let kind = kind_at s.kind in
-    let row : is_row_described s.stage s.kind ≡ true = ap (is_row_described s.stage) (sym kind.1) ∙ AllPass-from_list_all (is_row_described s.stage) kinds (rows_described s.stage) (kind_index s.kind) Empty kind.0 in
-    let parts = and_parts (leb (length (states_of s.stage s.kind)) 9) _ row in
+    let parts = and_parts (leb (length (states_of s.stage s.kind)) 9) _ (each_kind (is_row_described s.stage) (rows_described s.stage) s.kind) in
     elim (cases_lt s.size 9) [
       | inl within ↦ sym (ap (λ x. not x || is_described (alone s.stage s.kind s.size)) reached) ∙ agree_below_at (is_size_described s.stage s.kind) (λ size. true) 9 s.size parts.1 within
       | inr past ↦

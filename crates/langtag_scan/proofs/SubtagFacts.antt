@@ -1,19 +1,17 @@
 -- What the classes of subtags have in common: one to eight letters and digits, and so no hyphen (RFC 5646 section 2.1).
-use Rattle.langtag_scan.proofs.Prelude.{◌≡◌, ℕ, ◌≤◌, true, false, not, eqb, eqb-true, List, [], ◌∷◌, length, refl, ap, arith, suc, Bool, ◌&&◌, sym, ◌∙◌, fold, or-true, and-true, AllByRecursion, ne_eqb, and_parts, or_cases, le-leb, false_from_ne_true, both_ways, All-from_recursion, common_steps, nat_tests, All}
+use Rattle.langtag_scan.proofs.Prelude.{◌≡◌, ℕ, ◌≤◌, true, false, not, eqb, eqb-true, List, [], ◌∷◌, length, refl, ap, arith, suc, Bool, ◌&&◌, sym, fold, or-true, and-true, AllByRecursion, ne_eqb, and_parts, or_cases, le-leb, false_from_ne_true, both_ways, All-from_recursion, common_steps, nat_tests, All}
 use Rattle.std.proofs.Math.Bool.{and_assoc}
 use Rattle.langtag_scan.specs.Grammar.{is_letter, is_digit, is_alphanumeric, has_length, are_letters, are_digits, are_alphanumeric, is_primary, is_extended, is_script, is_region, is_variant, is_extension_subtag, is_private_subtag, is_mark, is_singleton, is_one, classes_of, Kind, Empty, kind_after, kind_of, has_letters, classes_by}
-use Rattle.langtag_scan.proofs.BoolFacts.{between_true}
+use Rattle.langtag_scan.proofs.BoolFacts.{between_true, list_all-weaker}
 use Rattle.langtag_scan.proofs.Disjoint.{extended_three, script_four, region_two_three, variant_long, letter_no_digit}
 use Rattle.langtag_scan.specs.Kind.{has_digits, begins_with_digit}
 pub use Rattle.langtag_scan.specs.Class.{IsSubtag}
 
 pub letters_alphanumeric : (s : List ℕ) → are_letters s ≡ true → are_alphanumeric s ≡ true
-letters_alphanumeric [] h = refl
-letters_alphanumeric (b ∷ s) h = let k = and_parts (is_letter b) (are_letters s) h in rw (k.0, letters_alphanumeric s k.1) refl
+letters_alphanumeric = list_all-weaker is_letter is_alphanumeric (λ b letter. rw letter refl)
 
 pub digits_alphanumeric : (s : List ℕ) → are_digits s ≡ true → are_alphanumeric s ≡ true
-digits_alphanumeric [] h = refl
-digits_alphanumeric (b ∷ s) h = let k = and_parts (is_digit b) (are_digits s) h in rw (k.0, or-true (is_letter b), digits_alphanumeric s k.1) refl
+digits_alphanumeric = list_all-weaker is_digit is_alphanumeric (λ b digit. rw (digit, or-true (is_letter b)) refl)
 
 pub of_primary : (s : List ℕ) → is_primary s ≡ true → IsSubtag s
 unfolding is_primary
@@ -68,17 +66,14 @@ pub no_hyphen_each : (s : List ℕ) → are_alphanumeric s ≡ true → AllByRec
 no_hyphen_each [] h = tt
 no_hyphen_each (b ∷ s) h = let k = and_parts (is_alphanumeric b) (are_alphanumeric s) h in (alphanumeric_no_hyphen b k.0, no_hyphen_each s k.1)
 
-pub no_hyphen : (s : List ℕ) → IsSubtag s → All (λ b. eqb b 45 ≡ false) s
-no_hyphen s h = All-from_recursion (λ b. eqb b 45 ≡ false) s (no_hyphen_each s h.alphanumeric)
+pub hyphen_free : (s : List ℕ) → are_alphanumeric s ≡ true → All (λ b. eqb b 45 ≡ false) s
+hyphen_free s h = All-from_recursion (λ b. eqb b 45 ≡ false) s (no_hyphen_each s h)
 
 -- ---- one byte more
 
 -- a letter or digit is just one of them
 digit-letter : (b : ℕ) → is_alphanumeric b ≡ true → is_digit b ≡ not (is_letter b)
 digit-letter b h = grind (arith, common_steps, false_from_ne_true (is_digit b), letter_no_digit b)
-
-has_letters-after : (kind : Kind) (b : ℕ) → has_letters (kind_after kind b) ≡ (has_letters kind && is_letter b)
-has_letters-after kind b = grind (arith, nat_tests)
 
 -- after the first byte, what the subtag begins with stays
 abbrev is_some_kind : Kind → Bool
@@ -88,14 +83,11 @@ is_some_kind _ = true
 some_after : (kind : Kind) (b : ℕ) → is_some_kind (kind_after kind b) ≡ true
 some_after kind b = grind (arith, nat_tests)
 
-begins-after : (kind : Kind) (b : ℕ) → is_some_kind kind ≡ true → begins_with_digit (kind_after kind b) ≡ begins_with_digit kind
-begins-after kind b some = grind (arith, nat_tests, some)
-
 -- ---- a whole subtag
 
 letters-kind : (s : List ℕ) (kind : Kind) → has_letters (fold kind_after kind s) ≡ (has_letters kind && are_letters s)
 letters-kind [] kind = sym (and-true (has_letters kind))
-letters-kind (b ∷ s) kind = cc (letters-kind s (kind_after kind b), has_letters-after kind b, and_assoc (has_letters kind) (is_letter b) (are_letters s))
+letters-kind (b ∷ s) kind = grind (arith, nat_tests, letters-kind s (kind_after kind b))
 
 digits-kind : (s : List ℕ) (kind : Kind) → are_alphanumeric s ≡ true → has_digits (fold kind_after kind s) ≡ (has_digits kind && are_digits s)
 digits-kind [] kind h = sym (and-true (has_digits kind))
@@ -103,7 +95,7 @@ digits-kind (b ∷ s) kind h = grind (arith, common_steps, and_parts, digits-kin
 
 begins-kind : (s : List ℕ) (kind : Kind) → is_some_kind kind ≡ true → begins_with_digit (fold kind_after kind s) ≡ begins_with_digit kind
 begins-kind [] kind some = refl
-begins-kind (b ∷ s) kind some = begins-kind s (kind_after kind b) (some_after kind b) ∙ begins-after kind b some
+begins-kind (b ∷ s) kind some = grind (arith, nat_tests, begins-kind s (kind_after kind b), some)
 
 not_one : (n : ℕ) (v : Bool) → (eqb (suc (suc n)) 1 && v) ≡ false
 not_one n v = rw (ne_eqb (suc (suc n)) 1 (λ e. omega arith)) refl

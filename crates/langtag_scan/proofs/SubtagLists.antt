@@ -4,7 +4,7 @@ use Rattle.langtag_scan.proofs.Prelude.{◌≡◌, ℕ, ◌<◌, ◌≤◌, ◌+
 use Rattle.langtag_scan.specs.Grammar.{is_hyphen, IsHyphenFree, join, segments, subtags, segments_left}
 use Rattle.std.proofs.lemmas.List.Elements.{All-weaker}
 use Rattle.langtag_scan.proofs.Joins.{length-join}
-use Rattle.langtag_scan.proofs.SubtagFacts.{IsSubtag, no_hyphen}
+use Rattle.langtag_scan.proofs.SubtagFacts.{IsSubtag, hyphen_free}
 
 -- ---- the first and the last segment
 
@@ -82,7 +82,7 @@ each_subtag test shows (s ∷ ss) h = (shows s h.0, each_subtag test shows ss h.
 
 -- subtags that were joined are the segments of the join
 pub segments-joined : (s : List ℕ) (ss : List (List ℕ)) → AllByRecursion IsSubtag (s ∷ ss) → segments (join (s ∷ ss)) ≡ s ∷ ss
-segments-joined s ss fits = grind (arith, common_steps, segments-join, All-weaker, no_hyphen, All-from_recursion)
+segments-joined s ss fits = grind (arith, common_steps, segments-join, All-weaker, hyphen_free, All-from_recursion)
 
 -- and its subtags
 pub subtags-joined : (ss : List (List ℕ)) → AllByRecursion IsSubtag ss → subtags (join ss) ≡ ss

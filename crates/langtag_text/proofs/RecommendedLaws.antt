@@ -1,5 +1,5 @@
 -- The recommended case of a text: it is alike the text, alike texts have the same one, and how it is had from subtag to subtag and part by part.
-use Rattle.langtag_scan.proofs.Prelude.{◌≡◌, ℕ, ◌<◌, ◌==◌, Bool, true, false, cond, ◌||◌, Some, All, subst, List, [], ◌∷◌, ◌++◌, length, map, take, get_or, refl, sym, ap, ◌∙◌, arith, append_assoc, append-nil, rules, IsAscii, eqb-true, ◌≤◌, Option, None, option_map, IsTrue, IfSome, common_steps, to_ascii_uppercase, list_any, AllByRecursion, flat_map, or-true, or-false, length-map, map-append, nat_tests, list_any-append, length-slice_split, join_with_byte-slice_split, lowercase-uppercase, lowercase_ascii, All-nil, All-cons, All-head, All-tail, ne_eqb, and_parts, or_cases, slice_get, length-append}
+use Rattle.langtag_scan.proofs.Prelude.{◌≡◌, ℕ, ◌<◌, ◌==◌, Bool, true, false, cond, ◌||◌, Some, All, subst, List, [], ◌∷◌, ◌++◌, length, map, take, get_or, refl, sym, ap, ◌∙◌, arith, append_assoc, append-nil, IsAscii, eqb-true, ◌≤◌, Option, None, option_map, IsTrue, IfSome, common_steps, to_ascii_uppercase, list_any, AllByRecursion, flat_map, or-true, or-false, length-map, map-append, nat_tests, list_any-append, length-slice_split, join_with_byte-slice_split, lowercase-uppercase, lowercase_ascii, All-nil, All-cons, All-head, All-tail, ne_eqb, and_parts, or_cases, slice_get, length-append}
 use Prim.Native.Nat.{zero, suc}
 use Rattle.std.proofs.lemmas.Str.Ascii.{IsAscii-map}
 use Rattle.std.proofs.Math.ListN.{get_or-map}
@@ -36,18 +36,10 @@ title-fold s = grind (arith, common_steps, upper-fold, fold_text-twice s)
 pub by_length-fold : (s : List ℕ) → by_length (fold_text s) ≡ by_length s
 by_length-fold s = rw (length-fold s, map-same to_ascii_uppercase fold_byte to_ascii_uppercase upper-fold s, title-fold s, fold_text-twice s) refl
 
--- so does a choice of two that do
-fold-cond : (v : Bool) (a b s : List ℕ) → fold_text a ≡ fold_text s → fold_text b ≡ fold_text s → fold_text (cond v a b) ≡ fold_text s
-fold-cond v a b s h k = grind (arith, common_steps)
-
--- the fold is as long
-single-fold : (s : List ℕ) → is_single (fold_text s) ≡ is_single s
-single-fold s = ap (λ n. n == 1) (length-fold s)
-
--- and so are those of a list
+-- the fold is as long, and so are those of a list
 any_single-fold : (ss : List (List ℕ)) → list_any is_single (map fold_text ss) ≡ list_any is_single ss
 any_single-fold [] = refl
-any_single-fold (s ∷ ss) = rw (single-fold s, any_single-fold ss) refl
+any_single-fold (s ∷ ss) = rw (length-fold s, any_single-fold ss) refl
 
 -- a subtag has the case of its fold, among folded ones
 recommended_subtag-fold : (before : List (List ℕ)) (s : List ℕ) → recommended_subtag (map fold_text before) (fold_text s) ≡ recommended_subtag before s
@@ -55,7 +47,7 @@ recommended_subtag-fold before s = grind (arith, common_steps, length-map before
 
 -- and folds as it did
 fold-recommended_subtag : (before : List (List ℕ)) (s : List ℕ) → fold_text (recommended_subtag before s) ≡ fold_text s
-fold-recommended_subtag before s = grind (arith, common_steps, fold-cond, fold_text-twice, map-same, fold-upper)
+fold-recommended_subtag before s = grind (arith, common_steps, fold_text-twice, map-same, fold-upper)
 
 -- ---- lists of subtags
 
@@ -128,15 +120,11 @@ after_first s ss v many = grind (arith, common_steps, after_single (s ∷ []) ss
 
 -- a fold has no hyphen where its text has none
 hyphen_free-folded : (s : List ℕ) → IsHyphenFree s → IsHyphenFree (fold_text s)
-hyphen_free-folded [] free = All-nil (λ b. is_hyphen b ≡ false)
-hyphen_free-folded (b ∷ s) free = search (rules, arith, All-cons, hyphen-fold, All-head, hyphen_free-folded s, All-tail)
+hyphen_free-folded s free k d inside = grind (arith, common_steps, hyphen-fold (get_or s k d), free k d)
 
 -- and the other way round
 hyphen_free-fold : (s : List ℕ) → IsHyphenFree (fold_text s) → IsHyphenFree s
-hyphen_free-fold [] free = All-nil (λ b. is_hyphen b ≡ false)
-hyphen_free-fold (b ∷ s) free =
-    All-cons (λ b. is_hyphen b ≡ false) b s (sym (hyphen-fold b) ∙ All-head (λ b. is_hyphen b ≡ false) (fold_byte b) (fold_text s) free)
-    (hyphen_free-fold s (All-tail (λ b. is_hyphen b ≡ false) (fold_byte b) (fold_text s) free))
+hyphen_free-fold s free k d inside = grind (arith, common_steps, hyphen-fold (get_or s k d), free k d)
 
 -- nor have subtags in their case
 hyphen_free-recommended : (before ss : List (List ℕ)) → All IsHyphenFree ss → All IsHyphenFree (recommended_after before ss)
@@ -253,14 +241,11 @@ recommended_spelled r fits =
         ≡ map fold_text r.extended ++ (one_flat (option_map title_text r.script) ++ (one_flat (option_map capital_text r.region)
         ++ (map fold_text r.variants ++ (flat_map extension_flat (map fold_extension r.extensions) ++ private_part_flat (option_map fold_private_use r.private_use)))))
     parts =
-        part-cased is_extended fold_text extended-cased r.extended _ fits.extended
-        ∙ ap (λ ss. map fold_text r.extended ++ ss) (
-        one-cased is_script title_text script-cased r.script _ fits.script
-        ∙ ap (λ ss. one_flat (option_map title_text r.script) ++ ss) (
-        one-cased is_region capital_text region-cased r.region _ fits.region
-        ∙ ap (λ ss. one_flat (option_map capital_text r.region) ++ ss) (
-        part-cased is_variant fold_text variant-cased r.variants _ fits.variants
-        ∙ ap (λ ss. map fold_text r.variants ++ ss) (tail-cased r.extensions r.private_use))))
+        let extended = part-cased is_extended fold_text extended-cased r.extended in
+        let script = one-cased is_script title_text script-cased r.script in
+        let region = one-cased is_region capital_text region-cased r.region in
+        let variants = part-cased is_variant fold_text variant-cased r.variants in
+        grind (arith, common_steps, extended, script, region, variants, tail-cased r.extensions r.private_use)
 
 -- and so does the text of a tag in its recommended case
 pub spelled_in_case : (old new : List ℕ) → new ≡ recommended_text old → EachRecord old (λ r. new ≡ spell (recommended_record r))

@@ -1,7 +1,6 @@
-use Rattle.langtag_scan.proofs.Prelude.{◌&&◌, ◌==◌, [], ◌∷◌, ◌++◌, length, take, map, arith, sym, ap, subst, ◌∙◌, list_any, get_or-replicate, length-replicate, common_steps}
+use Rattle.langtag_scan.proofs.Prelude.{◌&&◌, ◌==◌, length, take, map, arith, sym, ap, ◌∙◌, list_any, get_or-replicate, length-replicate, common_steps}
 use Rattle.langtag_scan.specs.Grammar.{subtags, folded_number}
 use Rattle.langtag_place.specs.Text.{variant_text, variants_text}
-use Rattle.langtag_place.specs.VariantBlocks.{AreMet}
 use Rattle.langtag_place.proofs.RepeatLaws.{numbers-more, new-here, met-again, repeat-at, HasNoRepeatBefore-more, IsAt-drop}
 use Rattle.langtag_place.proofs.variant_blocks.first_met_again.Goals as goal
 
@@ -39,9 +38,7 @@ loop-index-preserved g c =
       counter = omega (arith, c.loop-index.invariant.counter, ap length c.in-Some.ensures.steps);
       within = omega (arith, within, apart);
       flags = c.meet.ensures.room ∙ c.loop-index.invariant.flags;
-      met = subst (AreMet c.args.block.now c.meet.new.met)
-          (ap (λ n. earlier ++ n ∷ []) c.number_of.ensures ∙ sym (numbers-more all index text _ at))
-          (c.meet.ensures.met earlier c.loop-index.invariant.met);
+      met = rw (numbers-more all index text _ at, ← c.number_of.ensures) (c.meet.ensures.met earlier c.loop-index.invariant.met);
       new = HasNoRepeatBefore-more all index c.loop-index.invariant.new
           (new-here all c.args.start index text _ c.args.block.now c.args.variants.in_class c.in-Some.variant.in_class c.requires.new c.requires.from_start at
           (omega (arith, within, apart)) again);

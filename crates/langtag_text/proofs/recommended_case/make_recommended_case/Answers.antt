@@ -9,21 +9,13 @@ pub capitalise_pieces-requires : goal.capitalise_pieces-requires
 unfolding fold_byte
 capitalise_pieces-requires c = rw c.make_ascii_lowercase.ensures.after (fold_text-twice _)
 
-pub returns-clause-case : goal.returns-clause-case
+pub returns : goal.returns
 unfolding fold_byte
-returns-clause-case c = c.capitalise_pieces.ensures ∙ ap recommended_text c.make_ascii_lowercase.ensures.after ∙ recommended-fold c.args.text.now
-
-pub returns-clause-each_subtag : goal.returns-clause-each_subtag
-returns-clause-each_subtag c = λ t subtag k there. recommended_each t subtag k there
-
-pub returns-clause-alike : goal.returns-clause-alike
-returns-clause-alike c = recommended_alike
-
-pub returns-clause-of_record : goal.returns-clause-of_record
-returns-clause-of_record c = recommended_spelled
-
-pub returns-clause-twice : goal.returns-clause-twice
-returns-clause-twice c = recommended_twice
-
-pub returns-clause-one_key : goal.returns-clause-one_key
-returns-clause-one_key c = alike_recommended
+returns c = record {
+  case = c.capitalise_pieces.ensures ∙ ap recommended_text c.make_ascii_lowercase.ensures.after ∙ recommended-fold c.args.text.now;
+  each_subtag = λ t subtag k there. recommended_each t subtag k there;
+  alike = recommended_alike;
+  of_record = recommended_spelled;
+  twice = recommended_twice;
+  one_key = alike_recommended;
+}
