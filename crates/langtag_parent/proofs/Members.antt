@@ -9,7 +9,7 @@ use Rattle.langtag_text.proofs.FieldClasses.{from_region, from_script}
 use Rattle.langtag_text.specs.FieldClasses.{is_language_field, is_region_field, is_script_field}
 use Rattle.langtag_text.specs.Fields.{Fields, subtag_of}
 use Rattle.langtag_cldr.specs.Definitions.{Likely, are_alike_fields, language_alone, likely_for, likely_subtags, looked_up, without_region, without_script}
-use Rattle.langtag_cldr.proofs.AddedTwice.{found_of, found_row}
+use Rattle.langtag_cldr.proofs.AddedTwice.{either_way, found_of, found_row, some_value}
 use Rattle.langtag_cldr.proofs.AlikeFields.{alike_fields, looked_up-alike}
 use Rattle.langtag_cldr.proofs.TableRows.{are_good, is_language_row, is_other_row, is_settled, is_there, is_whole, rows_listed}
 use Rattle.langtag_parent.specs.Chain.{IsChain, above, chain_of, endings, forms, given_form, hyphenated, line, rest_of, shorter, text_of, with_each}
@@ -108,15 +108,11 @@ two_steps f g h first second = record {
 }
 
 short_step : (f : Fields) → IsBase f → Step f (short f)
-short_step f base = by_test (has_likely_script f) refl
-  where
-    by_test : (b : Bool) → has_likely_script f ≡ b → Step f (cond b (without_script f) f)
-    by_test true likely = record {
-      base = record { language = base.language; script = refl; region = base.region };
-      written = (likely_written f.script (likely_script f.language f.region) (likely_script f.language f.region) likely).0;
-      kept = inl (refl, inr refl);
-    }
-    by_test false other = no_step f base
+short_step f base = either_way (has_likely_script f) (λ likely. rw likely (record {
+  base = record { language = base.language; script = refl; region = base.region };
+  written = (likely_written f.script (likely_script f.language f.region) (likely_script f.language f.region) likely).0;
+  kept = inl (refl, inr refl);
+})) (λ other. rw other (no_step f base))
 
 -- ---- the parent in a row
 
@@ -223,13 +219,10 @@ parent_step f g base is = stated_step f g (usual_parent f) (usual_step f g base)
 
 line_steps : (n : ℕ) (f g : Fields) → Step f g → AllByRecursion (Step f) (line n g)
 line_steps zero f g step = tt
-line_steps (suc n) f g step = (step, by_parent (line_steps n f) (parent_of (short g)) refl)
-  where
-    by_parent : ((h : Fields) → Step f h → AllByRecursion (Step f) (line n h)) → (o : Option Fields) → parent_of (short g) ≡ o → AllByRecursion (Step f) (option_map_or (line n) o [])
-    by_parent later None is = tt
-    by_parent later (Some h) is =
-        let to_short = short_step g step.base in
-        later h (two_steps f (short g) h (two_steps f g (short g) step to_short) (parent_step (short g) h to_short.base is))
+line_steps (suc n) f g step =
+    let to_short = short_step g step.base in
+    let above = λ (h : Fields) (is : parent_of (short g) ≡ Some h). two_steps f (short g) h (two_steps f g (short g) step to_short) (parent_step (short g) h to_short.base is) in
+    (step, some_value (parent_of (short g)) (λ none. rw none tt) (λ h is. rw is (line_steps n f h (above h is))))
 
 -- ---- what holds of each text of some endings
 
@@ -266,13 +259,9 @@ no_longer_rest vs others short =
 each_ending :
     (P : List ℕ → Type 0) (vs others : List (List ℕ)) → AllByRecursion IsFree vs → P (hyphenated (vs ++ others)) → AtEach P vs →
     AllByRecursion P (endings (hyphenated vs) (hyphenated (vs ++ others)))
-each_ending P vs others free whole all = (whole, by_test (nat_lt (length (hyphenated vs)) (length (hyphenated (vs ++ others)))) refl)
-  where
-    by_test :
-        (b : Bool) → nat_lt (length (hyphenated vs)) (length (hyphenated (vs ++ others))) ≡ b →
-        AllByRecursion P (cond b (hyphenated vs ∷ shorter (hyphenated vs)) (shorter (hyphenated (vs ++ others))))
-    by_test true is = (all vs [] (append-nil vs), each_shorter P vs free all)
-    by_test false is = subst (λ t. AllByRecursion P (shorter t)) (sym (no_longer_rest vs others is)) (each_shorter P vs free all)
+each_ending P vs others free whole all =
+    let shorter = each_shorter P vs free all in
+    (whole, either_way (nat_lt (length (hyphenated vs)) (length (hyphenated (vs ++ others)))) (λ is. rw is (all vs [] (append-nil vs), shorter)) (λ is. rw (is, no_longer_rest vs others is) shorter))
 
 each_form :
     (P : List ℕ → Type 0) (f : Fields) (es : List (List ℕ)) → AllByRecursion (λ e. P (text_of f e)) es → AllByRecursion (λ e. P (text_of (short f) e)) es →
@@ -379,14 +368,10 @@ members_plain r g well step =
 
 members_above :
     (r : Record) (f : Fields) → IsWellFormed r → IsBase (fields_of r) → Step (fields_of r) f → AllByRecursion (Member r) (above (fields_of r) (hyphenated r.variants) (parent_of f))
-members_above r f well own step = by_parent (parent_of f) refl
-  where
-    by_parent : (o : Option Fields) → parent_of f ≡ o → AllByRecursion (Member r) (above (fields_of r) (hyphenated r.variants) o)
-    by_parent None is = tt
-    by_parent (Some g) is =
-        each_fields (Member r) (Step (fields_of r)) (λ h. with_each (hyphenated r.variants ∷ shorter (hyphenated r.variants)) (named (fields_of r) h)) (line 8 g)
-        (λ h to_h. members_plain r (named (fields_of r) h) well (two_steps (fields_of r) h (named (fields_of r) h) to_h (named_step (fields_of r) h own to_h.base)))
-        (line_steps 8 (fields_of r) g (two_steps (fields_of r) f g step (parent_step f g step.base is)))
+members_above r f well own step = some_value (parent_of f) (λ none. rw none tt) (λ g is. rw is (
+    each_fields (Member r) (Step (fields_of r)) (λ h. with_each (hyphenated r.variants ∷ shorter (hyphenated r.variants)) (named (fields_of r) h)) (line 8 g)
+    (λ h to_h. members_plain r (named (fields_of r) h) well (two_steps (fields_of r) h (named (fields_of r) h) to_h (named_step (fields_of r) h own to_h.base)))
+    (line_steps 8 (fields_of r) g (two_steps (fields_of r) f g step (parent_step f g step.base is)))))
 
 given_member : (r : Record) → IsWellFormed r → Step (fields_of r) (fields_of r) → (b : Bool) → AllByRecursion (Member r) (cond b (text_of (fields_of r) (rest_of r) ∷ []) [])
 given_member r well step true = (whole_member r (fields_of r) well step, tt)

@@ -7,9 +7,6 @@ use Rattle.langtag_parent.specs.declared.tables.TheConstants.{PARENT_LANGUAGES, 
 use Rattle.langtag_parent.proofs.Rows.{column_at, columns_listed, fields_equal, index_good, parents_listed, row_good}
 use Rattle.langtag_parent.proofs.stated.parent_at.Goals as goal
 
-pub bounds-index : goal.bounds-index
-bounds-index c = omega (arith, c.requires, parents_listed.count)
-
 pub named-requires : goal.named-requires
 named-requires c = omega (arith, c.parent_languages.ensures.count, subst (λ n. n < 9) (sym c.from-parent.ensures) (index_good c.args.index c.requires))
 
