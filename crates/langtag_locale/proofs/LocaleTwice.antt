@@ -4,6 +4,7 @@ use Rattle.langtag_keyword.proofs.Common.{each-weaker, common_steps, arith, ◌�
 use Rattle.langtag.specs.Repeat.{are_alike_bytes, repeat}
 use Rattle.langtag_text.specs.Fields.{Fields, subtag_of}
 use Rattle.langtag.specs.Definitions.{singletons}
+use Rattle.langtag_cldr.proofs.AddedTwice.{some_value}
 use Rattle.langtag_cldr.specs.Matching.{language_replaced}
 use Rattle.langtag_scan.proofs.Laws.{test_from_each, alike_parts}
 use Rattle.langtag_scan.specs.Case.{fold_byte}
@@ -110,12 +111,7 @@ language-is_form (s ∷ ss) is =
     record {
       none = identifier-no_field new new_vs subtags variants;
       allowed = both_true _ _ subtags.language (identifier-variants new new_vs subtags variants (new_variants-apart vs f));
-      twice =
-          ap (λ g. identifier_flat (identifier_form (identifier_variants (after_language new new_vs)) g) (new_variants (identifier_variants (after_language new new_vs)) g))
-          (fields-again new new_vs subtags variants)
-          ∙ ap (λ ws. identifier_flat (identifier_form ws new) (new_variants ws new)) (variants-again new new_vs subtags variants)
-          ∙ ap (λ g. identifier_flat g (new_variants new_vs new)) (identifier_form-twice vs f)
-          ∙ ap (identifier_flat new) (new_variants-twice vs f);
+      twice = rw (fields-again new new_vs subtags variants, variants-again new new_vs subtags variants, identifier_form-twice vs f, new_variants-twice vs f) refl;
     }
 
 pub start-is_form : (ss : List (List ℕ)) → is_transform ss ≡ true → IsLanguageForm transform_language_form (before_key is_field_key ss)
@@ -143,14 +139,10 @@ unfolding locale_record
 locale_settled r fits locale =
     let form : Fields = identifier_form r.variants (record_fields r) in
     let subtags = form_subtags r.variants (record_fields r) (record_subtags r fits locale) in
-    let variants = new_variants r.variants (record_fields r) in
-    let extensions = extensions_in_order r.extensions in
-    both_true (is_unicode_language form.language && true && is_none (repeat are_alike variants) && is_none (repeat are_alike_bytes (map (λ e. e.singleton) extensions))) _
-    (both_true (is_unicode_language form.language && true && is_none (repeat are_alike variants)) _
-    (both_true (is_unicode_language form.language && true) _ (both_true (is_unicode_language form.language) true subtags.language refl)
-    (none_repeated are_alike variants (new_variants-apart r.variants (record_fields r))))
-    (none_repeated are_alike_bytes (map (λ e. e.singleton) extensions) (singletons-apart r.extensions)))
-    (forms-allowed r.extensions fits.extensions (all_allowed r locale) singletons)
+    let variants = none_repeated are_alike (new_variants r.variants (record_fields r)) (new_variants-apart r.variants (record_fields r)) in
+    let extensions = none_repeated are_alike_bytes (map (λ e. e.singleton) (extensions_in_order r.extensions)) (singletons-apart r.extensions) in
+    let allowed = forms-allowed r.extensions fits.extensions (all_allowed r locale) singletons in
+    rw (subtags.language, variants, extensions) allowed
 
 -- ---- the extension with a singleton, among the forms
 
@@ -177,15 +169,9 @@ extension-own e fits allowed =
 
 module _ (es : List Extension) (fits : AllByRecursion IsWellFormedExtension es) (allowed : list_all is_locale_extension es ≡ true) where
   at-own : (n : ℕ) → list_any (λ m. fold_byte m == fold_byte n) singletons ≡ true → extension_at (extensions_in_order es) n ≡ extension_at es n
-  at-own n among =
-      ap (λ o. option_map_or (λ e. locale_extension_form e ∷ []) o []) (found-again n es singletons ∙ ap (λ b. cond b (option_map locale_extension_form (find_extension n es)) None) among)
-      ∙ by_found (find_extension n es) refl
-    where
-      by_found :
-          (o : Option Extension) → find_extension n es ≡ o →
-          option_map_or (λ e. locale_extension_form e ∷ []) (option_map locale_extension_form o) [] ≡ option_map_or (λ e. locale_extension_form e ∷ []) o []
-      by_found None none = refl
-      by_found (Some e) found = ap (λ x. x ∷ []) (extension-own e (extension_found n es fits e found) (found_has is_locale_extension _ es e allowed found))
+  at-own n among = rw (found-again n es singletons, among) (some_value (find_extension n es) (λ none. rw none refl) (λ e found.
+      let own = extension-own e (extension_found n es fits e found) (found_has is_locale_extension _ es e allowed found) in
+      rw (found, own) refl))
 
   each-own :
       (ns : List ℕ) → list_all (λ n. list_any (λ m. fold_byte m == fold_byte n) singletons) ns ≡ true →
