@@ -90,10 +90,11 @@ Stays m f = line (suc (suc (suc (suc m)))) f ≡ line (suc (suc (suc m))) f
 settled : (n m : ℕ) (f : Fields) → parts f < n → n ≤ m → Stays m f
 settled zero m f small few = absurd (omega (arith, small))
 settled (suc n) zero f small few = absurd (omega (arith, few))
-settled (suc n) (suc m) f small few = ap (λ rest. f ∷ rest) (some_value (parent_of (short f)) (λ none. rw none refl) (λ g is. rw is (elim (way is_known all_known (short f) g is) [
-  | inl it ↦ known_case (Stays m) known g it (known_lines m)
-  | inr less ↦ settled n m g (omega (arith, less, short_parts f, small)) (omega (arith, few))
-])))
+settled (suc n) (suc m) f small few =
+    ap (λ rest. f ∷ rest) (some_value (parent_of (short f)) (λ none. rw none refl) (λ g is. rw is (elim (way is_known all_known (short f) g is) [
+      | inl it ↦ known_case (Stays m) known g it (known_lines m)
+      | inr less ↦ settled n m g (omega (arith, less, short_parts f, small)) (omega (arith, few))
+    ])))
 
 -- no line is longer than seven
 pub whole_line : (f : Fields) → line 8 f ≡ line 7 f

@@ -3,7 +3,7 @@ use Rattle.langtag_scan.proofs.Prelude.{◌≡◌, ℕ, zero, suc, eqb, nil_from
 use Rattle.langtag_scan.specs.Grammar.{Alike, EachRecord, Extension, IsNormal, IsWellFormed, IsWellFormedExtension, IsWellFormedPrivateUse, PrivateUse, Record, Spells, are_alike, are_alike-decides, extension_flat, is_region, is_script, is_primary, is_variant, join, language_part, one_flat, private_part_flat, spell}
 use Rattle.langtag_scan.proofs.Laws.{each-append, hyphenated-append, join-hyphenated, no_hyphen_each, of_variant, region_two_three, script_four, spelled_once}
 use Rattle.langtag_text.proofs.Alike.{AlikeFields, alike_is, same_fields}
-use Rattle.langtag.specs.Definitions.{IsLanguage}
+use Rattle.langtag.specs.Definitions.{IsLanguage, SpellsLanguage}
 use Rattle.langtag.proofs.PartRules.{language_spelled}
 use Rattle.langtag_text.proofs.FieldClasses.{from_region, from_script}
 use Rattle.langtag_text.specs.FieldClasses.{is_language_field, is_region_field, is_script_field}
@@ -135,8 +135,9 @@ row_base : (to : Fields) → is_there to.language ≡ true → (is_language_fiel
 row_base to some good =
     let first = and_parts (is_language_field to.language) _ good in
     let second = and_parts (is_script_field to.script) _ first.1 in
-    let language = there_language to.language first.0 some in
-    record { language = (to.language, [], record { first = language; others = tt; few = omega arith; short = inr refl; joined = refl }); script = second.0; region = second.1 }
+    let alone : SpellsLanguage to.language [] to.language =
+    record { first = there_language to.language first.0 some; others = tt; few = omega arith; short = inr refl; joined = refl } in
+    record { language = (to.language, [], alone); script = second.0; region = second.1 }
 
 row_step : (f to g : Fields) → likely_for parent_locales f ≡ Some to → stated to ≡ Some g → Step f g
 row_step f to g there is =
@@ -221,8 +222,8 @@ line_steps : (n : ℕ) (f g : Fields) → Step f g → AllByRecursion (Step f) (
 line_steps zero f g step = tt
 line_steps (suc n) f g step =
     let to_short = short_step g step.base in
-    let above = λ (h : Fields) (is : parent_of (short g) ≡ Some h). two_steps f (short g) h (two_steps f g (short g) step to_short) (parent_step (short g) h to_short.base is) in
-    (step, some_value (parent_of (short g)) (λ none. rw none tt) (λ h is. rw is (line_steps n f h (above h is))))
+    let both = two_steps f g (short g) step to_short in
+    (step, some_value (parent_of (short g)) (λ none. rw none tt) (λ h is. rw is (line_steps n f h (two_steps f (short g) h both (parent_step (short g) h to_short.base is)))))
 
 -- ---- what holds of each text of some endings
 
@@ -261,7 +262,8 @@ each_ending :
     AllByRecursion P (endings (hyphenated vs) (hyphenated (vs ++ others)))
 each_ending P vs others free whole all =
     let shorter = each_shorter P vs free all in
-    (whole, either_way (nat_lt (length (hyphenated vs)) (length (hyphenated (vs ++ others)))) (λ is. rw is (all vs [] (append-nil vs), shorter)) (λ is. rw (is, no_longer_rest vs others is) shorter))
+    let longer = nat_lt (length (hyphenated vs)) (length (hyphenated (vs ++ others))) in
+    (whole, either_way longer (λ is. rw is (all vs [] (append-nil vs), shorter)) (λ is. rw (is, no_longer_rest vs others is) shorter))
 
 each_form :
     (P : List ℕ → Type 0) (f : Fields) (es : List (List ℕ)) → AllByRecursion (λ e. P (text_of f e)) es → AllByRecursion (λ e. P (text_of (short f) e)) es →
