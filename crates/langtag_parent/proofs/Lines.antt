@@ -3,9 +3,9 @@ use Rattle.langtag_scan.proofs.Prelude.{◌≡◌, ℕ, zero, suc, ◌+◌, ◌<
 use Rattle.langtag_scan.specs.Grammar.{Record, fold_byte}
 use Rattle.langtag_text.specs.Fields.{Fields}
 use Rattle.langtag_cldr.proofs.AddedTwice.{either_way, some_value}
-use Rattle.langtag_cldr.specs.Definitions.{Likely, are_alike_fields, language_alone, language_rows, likely_for, likely_subtags, other_rows, without_region, without_script}
+use Rattle.langtag_cldr.specs.Definitions.{Likely, language_rows, likely_for, likely_subtags, other_rows}
 use Rattle.langtag_parent.specs.Chain.{above, bases_left, chain_of, endings, forms, given_form, hyphenated, line, rest_of, shorter, with_each}
-use Rattle.langtag_parent.specs.Parent.{fields_of, has_likely_script, is_empty, likely_script, named, other_script, parent_in_script, parent_of, parent_of_region, parent_of_script, short, stated, stated_or, usual_parent, with_script}
+use Rattle.langtag_parent.specs.Parent.{fields_of, is_empty, named, parent_of, parent_of_region, short, stated, stated_or, usual_parent}
 use Rattle.langtag_parent.specs.ParentLaws.{EndsWithin}
 use Rattle.langtag_parent.specs.Base.{base_fields}
 use Rattle.langtag_parent.specs.declared.base.Base.{Base}

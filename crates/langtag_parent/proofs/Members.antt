@@ -1,7 +1,7 @@
 -- Each member of the chain of a normal tag is a normal tag in the script of the tag, and adds nothing to it but what CLDR lists.
-use Rattle.langtag_scan.proofs.Prelude.{◌≡◌, ℕ, zero, suc, eqb, nil_from_length, ◌≤◌, ◌⊎◌, inl, inr, true, false, Bool, cond, IsTrue, List, [], ◌∷◌, ◌++◌, length, map, flat_map, Option, None, Some, IfSome, MatchOption, refl, sym, ap, ◌∙◌, subst, arith, ◌&&◌, ◌||◌, not, option_map, option_map_or, unwrap_or, nat_lt, AllByRecursion, append_assoc, append-nil, length-append, and_parts, nat_tests}
-use Rattle.langtag_scan.specs.Grammar.{Alike, EachRecord, Extension, IsNormal, IsWellFormed, IsWellFormedExtension, IsWellFormedPrivateUse, PrivateUse, Record, Spells, are_alike, are_alike-decides, extension_flat, is_region, is_script, is_primary, is_variant, join, language_part, one_flat, private_part_flat, spell}
-use Rattle.langtag_scan.proofs.Laws.{each-append, hyphenated-append, join-hyphenated, no_hyphen_each, of_variant, region_two_three, script_four, spelled_once}
+use Rattle.langtag_scan.proofs.Prelude.{◌≡◌, ℕ, zero, suc, eqb, nil_from_length, ◌⊎◌, inl, inr, true, false, Bool, cond, IsTrue, List, [], ◌∷◌, ◌++◌, length, map, flat_map, Option, None, Some, IfSome, MatchOption, refl, sym, ap, ◌∙◌, subst, arith, ◌&&◌, not, option_map, option_map_or, unwrap_or, nat_lt, AllByRecursion, append_assoc, append-nil, length-append, and_parts, nat_tests}
+use Rattle.langtag_scan.specs.Grammar.{Alike, EachRecord, Extension, IsNormal, IsWellFormed, IsWellFormedExtension, IsWellFormedPrivateUse, PrivateUse, Record, Spells, are_alike, are_alike-decides, extension_flat, is_region, is_script, is_primary, is_variant, join, language_part, one_flat, private_part_flat}
+use Rattle.langtag_scan.proofs.Laws.{each-append, hyphenated-append, join-hyphenated, no_hyphen_each, of_variant, spelled_once}
 use Rattle.langtag_text.proofs.Alike.{AlikeFields, alike_is, same_fields}
 use Rattle.langtag.specs.Definitions.{IsLanguage, SpellsLanguage}
 use Rattle.langtag.proofs.PartRules.{language_spelled}
@@ -11,9 +11,9 @@ use Rattle.langtag_text.specs.Fields.{Fields, subtag_of}
 use Rattle.langtag_cldr.specs.Definitions.{Likely, are_alike_fields, language_alone, likely_for, likely_subtags, looked_up, without_region, without_script}
 use Rattle.langtag_cldr.proofs.AddedTwice.{either_way, found_of, found_row, some_value}
 use Rattle.langtag_cldr.proofs.AlikeFields.{alike_fields, looked_up-alike}
-use Rattle.langtag_cldr.proofs.TableRows.{are_good, is_language_row, is_other_row, is_settled, is_there, is_whole, rows_listed}
+use Rattle.langtag_cldr.proofs.TableRows.{are_good, is_settled, is_there, rows_listed}
 use Rattle.langtag_parent.specs.Chain.{IsChain, above, chain_of, endings, forms, given_form, hyphenated, line, rest_of, shorter, text_of, with_each}
-use Rattle.langtag_parent.specs.Parent.{fields_of, has_likely_script, is_empty, likely_script, named, other_script, parent_in_script, parent_of, parent_of_region, parent_of_script, short, stated, stated_or, unless_alike, usual_parent, with_script}
+use Rattle.langtag_parent.specs.Parent.{fields_of, has_likely_script, is_empty, likely_script, named, other_script, parent_in_script, parent_of, parent_of_region, short, stated, stated_or, unless_alike, usual_parent, with_script}
 use Rattle.langtag_parent.specs.ParentLaws.{AddsNothing, EachMember, IsInOneScript, IsKept, IsKeptOrListed, IsListed, IsWrittenAs, script_of}
 use Rattle.langtag_parent.specs.ParentLocales.{parent_locales}
 use Rattle.langtag_parent.proofs.Latin.{all_written, is_written, row_written}
@@ -154,20 +154,17 @@ stated_step f g other later is = grind (arith, row_step f)
 -- ---- the script that a tag names
 
 named_step : (tag f : Fields) → IsBase tag → IsBase f → Step f (named tag f)
-named_step tag f of_tag base = by_test (are_alike_fields f (language_alone tag) && has_likely_script (without_region tag)) refl
-  where
-    by_test : (b : Bool) → (are_alike_fields f (language_alone tag) && has_likely_script (without_region tag)) ≡ b → Step f (cond b (with_script f tag.script) f)
-    by_test true both =
-        let parts = and_parts (are_alike_fields f (language_alone tag)) (has_likely_script (without_region tag)) both in
-        let same = alike_fields f (language_alone tag) parts.0 in
-        let alone : IsWrittenAs f (language_alone tag) = fields_alike (language_alone tag) f (record { language = sym same.language; script = sym same.script; region = sym same.region }) in
-        let likely = (likely_written tag.script (likely_script tag.language []) (likely_script f.language f.region) parts.1).1 in
-        record {
-          base = record { language = base.language; script = of_tag.script; region = base.region };
-          written = written_twice (script_of f) (likely_script tag.language []) (script_of (with_script f tag.script)) alone likely;
-          kept = inl (refl, inr refl);
-        }
-    by_test false other = no_step f base
+named_step tag f of_tag base =
+    either_way (are_alike_fields f (language_alone tag) && has_likely_script (without_region tag)) (λ both. rw both (
+    let parts = and_parts (are_alike_fields f (language_alone tag)) (has_likely_script (without_region tag)) both in
+    let same = alike_fields f (language_alone tag) parts.0 in
+    let alone : IsWrittenAs f (language_alone tag) = fields_alike (language_alone tag) f (record { language = sym same.language; script = sym same.script; region = sym same.region }) in
+    let likely = (likely_written tag.script (likely_script tag.language []) (likely_script f.language f.region) parts.1).1 in
+    record {
+      base = record { language = base.language; script = of_tag.script; region = base.region };
+      written = written_twice (script_of f) (likely_script tag.language []) (script_of (with_script f tag.script)) alone likely;
+      kept = inl (refl, inr refl);
+    })) (λ other. rw other (no_step f base))
 
 -- ---- the usual parent
 
