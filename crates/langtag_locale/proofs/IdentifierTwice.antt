@@ -1,6 +1,6 @@
 -- The form of a language identifier is its own form, in any case of its letters.
 use Rattle.std.proofs.lemmas.Bool.Decides.{nat_tests}
-use Rattle.langtag_keyword.proofs.Common.{rules, arith, ◌≡◌, ℕ, Bool, true, false, not, cond, List, [], ◌∷◌, ◌&&◌, ◌||◌, fold, Option, Some, None, find, refl, sym, ap, ◌∙◌, unwrap_or, common_steps, false_from_ne_true, false≢true, not-true, AllByRecursion, list_all, is_none, is_some, option_map_or, IsTrue, codes, each-append, each_from_test, Alike, are_alike, are_alike-decides, one_flat, segments, Alias, TypeAlias, alias_for, type_alias_for, both, found_has, fold_text-twice}
+use Rattle.langtag_keyword.proofs.Common.{rules, arith, ◌≡◌, ℕ, Bool, true, false, not, cond, List, [], ◌∷◌, ◌&&◌, ◌||◌, fold, Option, Some, None, find, refl, sym, ap, ◌∙◌, unwrap_or, common_steps, false_from_ne_true, false≢true, not-true, AllByRecursion, list_all, is_some, option_map_or, IsTrue, codes, each-append, each_from_test, Alike, are_alike, are_alike-decides, one_flat, segments, Alias, TypeAlias, alias_for, type_alias_for, both, found_has, fold_text-twice}
 use Rattle.std.proofs.lemmas.Bool.{cond_both, or_parts}
 use Rattle.langtag_cldr.proofs.AlikeFields.{likely_for-alike}
 use Rattle.langtag_text.proofs.Alike.{are_alike-left, are_alike-right}
@@ -15,7 +15,6 @@ use Rattle.langtag_keyword.proofs.AlphabetLaws.{in_alphabet-twice, each-alphabet
 use Rattle.langtag_locale.specs.LocaleAliases as list
 use Rattle.langtag_locale.specs.LocaleForm as form
 use Rattle.langtag_cldr.proofs.CanonicalFields.{none_is}
-use Rattle.langtag_scan.proofs.BoolFacts.{list_all-weaker}
 
 -- ---- what is not found
 

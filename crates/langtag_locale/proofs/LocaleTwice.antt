@@ -1,7 +1,7 @@
 -- The form of a Unicode locale identifier is its own form, and alike identifiers have the same form.
 use Rattle.std.proofs.lemmas.Bool.Decides.{nat_tests}
-use Rattle.langtag_keyword.proofs.Common.{each-weaker, common_steps, arith, ◌≡◌, ℕ, true, false, not, ◌||◌, ◌==◌, List, [], ◌∷◌, map, Some, refl, ap, ◌∙◌, eqb-true, Bool, cond, ◌&&◌, sym, Option, None, option_map, unwrap_or, not-true, IsTrue, AllByRecursion, flat_map, list_all, list_any, each-append, each_from_test, are_alike, fold_text, Extension, IsWellFormed, IsWellFormedExtension, Record, spell, is_unicode_key, unicode_form, are_different_variants, are_fields, is_language_or_none, is_of, is_transform, is_unicode_language, is_key, value_of, before_key, both, found_has, is_none, option_map_or, extension_found, is_field_key, find_extension, find}
-use Rattle.langtag.specs.Repeat.{are_alike_bytes, repeat}
+use Rattle.langtag_keyword.proofs.Common.{each-weaker, common_steps, arith, ◌≡◌, ℕ, true, false, not, ◌||◌, ◌==◌, List, [], ◌∷◌, map, Some, refl, ap, ◌∙◌, eqb-true, Bool, cond, ◌&&◌, sym, None, option_map, unwrap_or, not-true, IsTrue, AllByRecursion, flat_map, list_all, list_any, each-append, each_from_test, are_alike, fold_text, Extension, IsWellFormed, IsWellFormedExtension, Record, spell, is_unicode_key, unicode_form, are_different_variants, are_fields, is_language_or_none, is_of, is_transform, is_unicode_language, is_key, value_of, before_key, both, found_has, extension_found, is_field_key, find_extension, find}
+use Rattle.langtag.specs.Repeat.{are_alike_bytes}
 use Rattle.langtag_text.specs.Fields.{Fields, subtag_of}
 use Rattle.langtag.specs.Definitions.{singletons}
 use Rattle.langtag_cldr.proofs.AddedTwice.{some_value}
@@ -19,8 +19,8 @@ use Rattle.langtag_keyword.proofs.KeywordLaws.{AreNoKeys}
 use Rattle.langtag_locale.proofs.LocaleRecords.{locale_form_by, locale_form_tested, transform_allowed, all_allowed, new_variants_good, locale_well_formed}
 use Rattle.langtag_keyword.proofs.Found.{found_is}
 use Rattle.langtag_keyword.proofs.IdentifierParts.{Apart, alphabet-apart, none_repeated, different_variants, fields_good}
-use Rattle.langtag_keyword.specs.Identifier.{identifier_fields, identifier_flat, identifier_variants}
-use Rattle.langtag_keyword.proofs.FormTwice.{IsLanguageForm, after_language, fields-again, variants-again, with-allowed, unicode-twice, with-twice}
+use Rattle.langtag_keyword.specs.Identifier.{identifier_fields, identifier_variants}
+use Rattle.langtag_keyword.proofs.FormTwice.{IsLanguageForm, fields-again, variants-again, with-allowed, unicode-twice, with-twice}
 use Rattle.langtag_locale.proofs.IdentifierForms.{form_subtags, record_subtags, form_is}
 use Rattle.langtag_locale.proofs.IdentifierTwice.{identifier_form-twice, new_variants-twice}
 use Rattle.langtag_keyword.proofs.TransformParts.{identifier-no_field, identifier-variants}

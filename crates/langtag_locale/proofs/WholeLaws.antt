@@ -1,5 +1,5 @@
 -- The form of any tag is that of a Unicode locale identifier, and its own form; alike tags have the same form.
-use Rattle.langtag_keyword.proofs.Common.{◌≡◌, ℕ, ◌+◌, Bool, true, false, List, [], ◌∷◌, ◌++◌, drop, length, Option, Some, None, inl, inr, refl, sym, ap, ◌∙◌, arith, append_assoc, map, false≢true, length-append, IsCharBoundary-after_ascii, IsUtf8, flat_map, nat_tests, is_extended, EachRecord, IsWellFormed, Record, extension_flat, one_flat, private_part_flat, join, fold_text-twice, AlikeRecords, Alike, fold_text}
+use Rattle.langtag_keyword.proofs.Common.{◌≡◌, ℕ, ◌+◌, true, List, [], ◌∷◌, ◌++◌, drop, length, Option, Some, None, inl, inr, refl, sym, ap, ◌∙◌, arith, append_assoc, map, false≢true, length-append, IsCharBoundary-after_ascii, IsUtf8, flat_map, nat_tests, is_extended, EachRecord, IsWellFormed, Record, extension_flat, one_flat, private_part_flat, join, fold_text-twice, AlikeRecords, Alike, fold_text}
 use Rattle.langtag_scan.proofs.Prelude.{◌⊎◌, get_or-append_seam, drop_at, length_push, none-some, IsCharBoundary}
 use Rattle.langtag_scan.specs.Grammar.{Spells, IsNormal, fold_record}
 use Rattle.std.proofs.lemmas.Option.{same_Some}

@@ -1,11 +1,10 @@
 -- The text of a name, and that it is read as it stands: neither Android nor .NET writes a tag so.
-use Rattle.langtag_scan.proofs.Prelude.{◌≡◌, ℕ, ◌≤◌, not, true, false, Bool, cond, suc, List, [], ◌∷◌, ◌++◌, length, IfSome, refl, sym, ap, ◌∙◌, arith, flat_map, append_assoc, append-nil, unwrap_or, ◌<◌, ◌==◌, inl, inr, None, subst, ◌⊎◌, codes, length-append, AllByRecursion, after_first, before_first, list_any, and_parts, or_parts, false_from_ne_true, nat_tests, map-append, list_any-append, take_while-cons, option_map, ◌&&◌, Some, Option, Bor, is_some, common_steps}
+use Rattle.langtag_scan.proofs.Prelude.{◌≡◌, ℕ, ◌≤◌, not, true, false, Bool, cond, suc, List, [], ◌∷◌, ◌++◌, length, IfSome, refl, sym, ap, ◌∙◌, arith, flat_map, append_assoc, append-nil, unwrap_or, ◌<◌, ◌==◌, inl, inr, None, subst, ◌⊎◌, codes, length-append, AllByRecursion, after_first, before_first, list_any, and_parts, or_parts, false_from_ne_true, nat_tests, map-append, list_any-append, take_while-cons, option_map, ◌&&◌, Option, Bor, is_some, common_steps}
 use Rattle.std.specs.Bool.{nat_le}
 use Rattle.langtag_scan.specs.Grammar.{Alike, fold_byte, are_alike, are_alphanumeric, is_alphanumeric, is_digit, is_letter, is_region, is_script, is_variant, Record, extension_flat, one_flat, private_part_flat, spell, join, is_hyphen, are_alike-decides}
 use Rattle.langtag_scan.proofs.Laws.{drop-join, hyphenated, hyphenated-append, join-hyphenated, alike_region, region_short, script_four, of_region, of_variant}
 use Rattle.langtag_range.specs.Wanted.{hyphened, hyphened_byte}
-use Rattle.langtag_cldr.specs.Definitions.{or_else}
-use Rattle.langtag_posix.specs.PlatformNames.{android_region, behind_nothing, has_marked_region, is_short_language, language_or_und}
+use Rattle.langtag_posix.specs.PlatformNames.{android_region, has_marked_region, is_short_language}
 use Rattle.langtag_posix.proofs.Definitions.{behind_gap, filled, is_of_language, nynorsk, platform_text, is_empty, is_script_code, after_variants, marked, is_plus, without_gap, marked_region, platform_behind, platform_read, read_place, region_now}
 use Rattle.langtag_text.proofs.Alike.{alike_is, alike_length}
 

@@ -1,18 +1,18 @@
 -- `from_posix` reads the name of a tag as the tag.
-use Rattle.langtag_scan.proofs.Prelude.{◌≡◌, ℕ, ◌+◌, ◌≤◌, not, true, false, Bool, cond, List, [], ◌∷◌, ◌++◌, length, Option, None, Some, IfSome, IsTrue, IsAscii, IsUtf8, ◌<◌, refl, sym, ap, subst, inl, inr, ◌∙◌, ◌⊎◌, arith, and-false, codes, find, flat_map, append_assoc, append-nil, length-append, option_map, unwrap_or, Bor, ◌&&◌, ◌||◌, take, leb, AllByRecursion, after_first, before_first, list_all, option_and_then, and_parts, leb-true, common_steps, nat_tests, IsAscii-append, IsUtf8-from_ascii, IsAscii-cons, IsAscii-nil, lowercase-uppercase}
+use Rattle.langtag_scan.proofs.Prelude.{◌≡◌, ℕ, ◌+◌, ◌≤◌, not, true, false, Bool, cond, List, [], ◌∷◌, ◌++◌, length, Option, None, Some, IfSome, IsTrue, IsAscii, IsUtf8, ◌<◌, refl, sym, ap, subst, inl, inr, ◌∙◌, ◌⊎◌, arith, and-false, codes, find, flat_map, append_assoc, append-nil, length-append, option_map, unwrap_or, Bor, ◌&&◌, leb, AllByRecursion, after_first, before_first, list_all, option_and_then, and_parts, common_steps, nat_tests, IsAscii-append, IsUtf8-from_ascii, IsAscii-cons, IsAscii-nil, lowercase-uppercase}
 use Rattle.langtag_scan.specs.Grammar.{Alike, are_alike, fold_byte, fold_text, are_alike-decides, are_alphanumeric, are_letters, is_alphanumeric, is_digit, is_letter, is_region, is_script, is_variant, language_part, variants_part, Extension, IsWellFormed, Record, extension_flat, one_flat, spell, join, IsNormal, IsTag}
 use Rattle.langtag_scan.proofs.Laws.{alike_primary, alike_region, fold_text-twice, length-fold, extended_three, region_short, hyphenated, length-join, IsAscii-each, alphanumeric_below, normal_or_not, letters_alphanumeric, of_primary, of_region, of_script, of_variant}
 use Rattle.langtag_text.specs.RecommendedCase.{capital_text}
 use Rattle.langtag_text.specs.Fields.{Fields}
 use Rattle.langtag.specs.Definitions.{with_script}
 use Rattle.langtag_text.proofs.Alike.{alike_is}
-use Rattle.langtag_range.specs.Definitions.{ends_locale, front_of, is_hash, locale_place, place_before, without_mark, hyphened}
+use Rattle.langtag_range.specs.Definitions.{ends_locale, front_of, is_hash, locale_place, hyphened}
 use Rattle.langtag_cldr.specs.Definitions.{language_alone, or_else, without_script}
 use Rattle.langtag_likely.proofs.Definitions.{fields_of}
-use Rattle.langtag_posix.proofs.Definitions.{is_empty, modifier_for, modifier_script, modifier_variant, modifiers, names, IsTagOfName, NamesTag, are_keywords, keywords_text, extensions_behind, is_java_place, place_of, place_read, text_of_name, without_java_field, is_at, is_underscore, modifier_of, posix_extension, posix_replaced, said_script, script_behind, with_said, with_said_script, with_said_variant, IsPosixName, IsReadBack, NameParts, ReadsBack, after_variants, is_likely, is_named, is_of_language, marked, name_modifier, name_parts, name_variant, read_place}
-use Rattle.langtag_posix.specs.KeywordNames.{key_named, key_names, keyword_texts, type_named, type_names}
+use Rattle.langtag_posix.proofs.Definitions.{is_empty, modifier_for, modifier_script, modifier_variant, modifiers, names, IsTagOfName, NamesTag, are_keywords, extensions_behind, is_java_place, place_of, place_read, text_of_name, is_at, is_underscore, modifier_of, posix_extension, posix_replaced, said_script, with_said, with_said_script, with_said_variant, IsPosixName, IsReadBack, NameParts, ReadsBack, after_variants, is_likely, is_named, is_of_language, marked, name_modifier, name_parts, name_variant, read_place}
+use Rattle.langtag_posix.specs.KeywordNames.{key_named, key_names, type_named, type_names}
 use Rattle.langtag_posix.specs.ToPosix.{name_text}
-use Rattle.langtag_posix.proofs.PosixNameLaws.{no_mark, place_kept, read_of_language, IsPlain, after_others, after_rest, alike_text, before_rest, marked_cut, others, place_free, place_hyphened, place_text, spelled_text, tag_text}
+use Rattle.langtag_posix.proofs.PosixNameLaws.{no_mark, place_kept, read_of_language, IsPlain, after_others, after_rest, alike_text, before_rest, marked_cut, others, place_free, place_hyphened, place_text, spelled_text}
 use Rattle.langtag_cldr.proofs.AddedTwice.{some_value}
 use Rattle.langtag_posix.proofs.PosixLaws.{said_well_formed, others_stay}
 use Rattle.langtag_text.proofs.Letters.{primary_length}
