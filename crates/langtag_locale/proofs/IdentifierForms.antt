@@ -50,12 +50,6 @@ row_found good (row ∷ rows) key to all found = grind (arith, common_steps, bot
 pub row_good : (good : Fields → Bool) (rows : List Likely) (key to : Fields) → list_all (λ row. good row.to) rows ≡ true → likely_for rows key ≡ Some to → good to ≡ true
 row_good good rows key to all found = let (row, is, alike, same) = row_found (λ row. good row.to) rows key to all found in ap good (sym same) ∙ is
 
--- the first of two values, if both have a region or none
-first_good :
-    (a b : Option Fields) → ((to : Fields) → a ≡ Some to → is_region_field to.region ≡ true) → ((to : Fields) → b ≡ Some to → is_region_field to.region ≡ true) →
-    (to : Fields) → or_else a b ≡ Some to → is_region_field to.region ≡ true
-first_good a b one two = grind (arith, nat_tests)
-
 either_good : (good : List ℕ → Bool) (text other : List ℕ) → good text ≡ true → good other ≡ true → good (or_other text other) ≡ true
 either_good good text other one two = grind (arith, nat_tests)
 
@@ -105,11 +99,7 @@ variant_region-subtags variants f are =
     other_region-subtags f _ are (either_good is_region_field f.region (form.variants_region variants list.variant_regions) are.region (grind (arith, common_steps, found_has, all_good.regions)))
 
 looked_up_good : (f to : Fields) → looked_up likely_subtags f ≡ Some to → is_region_field to.region ≡ true
-looked_up_good f =
-    first_good _ _ (found f) (first_good _ _ (found (likely.without_region f)) (first_good _ _ (found (likely.without_script f)) (found (language_alone f))))
-  where
-    found : (key to : Fields) → likely_for likely_subtags key ≡ Some to → is_region_field to.region ≡ true
-    found key to is = row_good (λ to. is_region_field to.region) likely_subtags key to classes.likely is
+looked_up_good f to is = grind (arith, nat_tests, row_good (λ to. is_region_field to.region) likely_subtags, classes.likely)
 
 likely_region_good : (f : Fields) → is_region_field (form.likely_region f) ≡ true
 unfolding form.likely_region

@@ -244,11 +244,8 @@ locale-alike r q alike = sym (locale-fold r) ∙ ap is_locale_record alike ∙ l
 
 -- ---- the form
 
-lower_subtag : (s : List ℕ) → option_map fold_text (subtag_of s) ≡ subtag_of (fold_text s)
-lower_subtag s = grind (arith, nat_tests)
-
 subtag-alike : (s t : List ℕ) → Alike s t → option_map fold_text (subtag_of s) ≡ option_map fold_text (subtag_of t)
-subtag-alike s t alike = lower_subtag s ∙ ap subtag_of alike ∙ sym (lower_subtag t)
+subtag-alike s t alike = grind (arith, nat_tests)
 
 private_use-twice : (o : Option PrivateUse) → option_map fold_private_use (option_map fold_private_use o) ≡ option_map fold_private_use o
 private_use-twice o = grind (arith, nat_tests, fold_byte-twice, lower-twice)

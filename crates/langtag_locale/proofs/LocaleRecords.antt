@@ -149,12 +149,6 @@ extensions_good es fits allowed (n ∷ ns) = each-append _ (extension_at es n) (
 
 -- ---- the tag
 
-script_part : (s : List ℕ) → is_script_field s ≡ true → IfSome (subtag_of s) (λ t. IsTrue (is_script t))
-script_part s is = grind (arith, nat_tests)
-
-region_part : (s : List ℕ) → is_region_field s ≡ true → IfSome (subtag_of s) (λ t. IsTrue (is_region t))
-region_part s is = grind (arith, nat_tests)
-
 -- ---- which texts are Unicode locale identifiers
 
 pub all_allowed : (r : Record) → is_locale_record r ≡ true → list_all is_locale_extension r.extensions ≡ true
@@ -170,8 +164,8 @@ locale_well_formed r fits locale =
       extended = tt;
       few = omega arith;
       short = inr refl;
-      script = script_part form.script subtags.script;
-      region = region_part form.region subtags.region;
+      script = grind (arith, subtags.script);
+      region = grind (arith, subtags.region);
       variants = new_variants_good r.variants (record_fields r) fits.variants;
       extensions = extensions_good r.extensions fits.extensions (all_allowed r locale) singletons;
       private_use = fits.private_use;
