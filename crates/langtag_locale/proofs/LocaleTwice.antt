@@ -90,11 +90,6 @@ keywords-may ss good may (key ∷ keys) = grind (arith, common_steps, keywords-m
 pub unicode_form-may : (ss : List (List ℕ)) → Good ss → MayBeInU ss → MayBeInU (unicode_form ss)
 unicode_form-may ss good may = grind (arith, common_steps, each-append, each-alphabet, unicode_subtag-fold, each-before, form-blocks, keywords-may)
 
--- ---- the form is allowed
-
-both_true : (x y : Bool) → x ≡ true → y ≡ true → (x && y) ≡ true
-both_true x y one two = grind (arith, nat_tests)
-
 -- ---- the extension `t`
 
 -- the form of the language of `t` is one, and its own form
@@ -110,7 +105,7 @@ language-is_form (s ∷ ss) is =
     let variants = new_variants_good vs f (different_variants vs parts.1) in
     record {
       none = identifier-no_field new new_vs subtags variants;
-      allowed = both_true _ _ subtags.language (identifier-variants new new_vs subtags variants (new_variants-apart vs f));
+      allowed = rw subtags.language (identifier-variants new new_vs subtags variants (new_variants-apart vs f));
       twice = rw (fields-again new new_vs subtags variants, variants-again new new_vs subtags variants, identifier_form-twice vs f, new_variants-twice vs f) refl;
     }
 
@@ -130,7 +125,7 @@ form-allowed e fits allowed =
 forms-allowed :
     (es : List Extension) → AllByRecursion IsWellFormedExtension es → list_all is_locale_extension es ≡ true → (ns : List ℕ) → list_all is_locale_extension (flat_map (extension_at es) ns) ≡ true
 forms-allowed es fits allowed [] = refl
-forms-allowed es fits allowed (n ∷ ns) = grind (arith, common_steps, forms-allowed es fits allowed ns, both_true, form-allowed, extension_found, found_has)
+forms-allowed es fits allowed (n ∷ ns) = grind (arith, common_steps, forms-allowed es fits allowed ns, form-allowed, extension_found, found_has)
 
 -- ---- the record
 

@@ -30,11 +30,7 @@ posix_well_formed r fits = grind arith
 
 -- ---- the text
 
--- the extensions and the private use part, with a hyphen before each subtag
-abbrev rest : Record → List ℕ
-rest r = hyphenated (flat_map extension_flat r.extensions ++ private_part_flat r.private_use)
-
-whole_text : (r : Record) → spell r ≡ join (to_region r) ++ (hyphenated r.variants ++ rest r)
+whole_text : (r : Record) → spell r ≡ join (to_region r) ++ (hyphenated r.variants ++ hyphenated (flat_map extension_flat r.extensions ++ private_part_flat r.private_use))
 whole_text r = simp (join-hyphenated, hyphenated-append, append_assoc)
 
 variants_end : (r : Record) → (ends_of r).variants ≡ length (join (to_region r)) + length (hyphenated r.variants)

@@ -185,10 +185,7 @@ no_at : (b : ℕ) → is_alphanumeric b ≡ true → is_at b ≡ false
 unfolding is_letter is_digit
 no_at b is = grind (arith, nat_tests)
 
-abbrev script_in : List ℕ → Option (List ℕ)
-script_in text = cond (is_script (before_first is_underscore text)) (Some (before_first is_underscore text)) None
-
-no_script : script_in [] ≡ None
+no_script : is_script [] ≡ false
 unfolding is_script
 no_script = refl
 
