@@ -51,9 +51,6 @@ known_lines k = (refl, (refl, (refl, (refl, (refl, (refl, (refl, (refl, tt))))))
 abbrev parts : Fields → ℕ
 parts f = cond (is_empty f.region) 0 2 + cond (is_empty f.script) 0 1
 
-few_parts : (f : Fields) → parts f < 4
-few_parts f = grind arith
-
 short_parts : (f : Fields) → parts (short f) ≤ parts f
 short_parts f = grind arith
 
@@ -98,7 +95,7 @@ settled (suc n) (suc m) f small few =
 
 -- no line is longer than seven
 pub whole_line : (f : Fields) → line 8 f ≡ line 7 f
-whole_line f = settled 4 4 f (few_parts f) (omega arith)
+whole_line f = settled 4 4 f (grind arith) (omega arith)
 
 ends_at : (n : ℕ) (f : Fields) → line (suc n) f ≡ line n f → EndsWithin n f
 ends_at zero f same = absurd cc
@@ -111,15 +108,13 @@ line_ends f = ends_at 7 f (whole_line f)
 
 -- ---- what an iterator has left
 
-same_endings : (v : List ℕ) → endings v v ≡ v ∷ shorter v
-same_endings v = grind (arith, nat_tests)
-
 pub above_step : (tag : Fields) (v : List ℕ) (p : Option Fields) → above tag v p ≡ option_map_or (λ g. with_each (endings v v) (named tag g) ++ above tag v (parent_of (short g))) p []
 above_step tag v None = refl
 above_step tag v (Some g) =
+    let same : endings v v ≡ v ∷ shorter v = grind (arith, nat_tests) in
     let above_it : option_map_or (line 7) (parent_of (short g)) [] ≡ option_map_or (line 8) (parent_of (short g)) [] = grind (arith, whole_line) in
     ap (λ list. with_each (v ∷ shorter v) (named tag g) ++ flat_map (λ f. with_each (v ∷ shorter v) (named tag f)) list) above_it
-    ∙ ap (λ es. with_each es (named tag g) ++ above tag v (parent_of (short g))) (sym (same_endings v))
+    ∙ ap (λ es. with_each es (named tag g) ++ above tag v (parent_of (short g))) (sym same)
 
 pub step_some :
     (tag : Fields) (base : Base) (v rest t : List ℕ) → endings v rest ≡ rest ∷ endings v t →

@@ -97,14 +97,11 @@ pub record Step (f g : Fields) : Type 0 where
 no_step : (f : Fields) → IsBase f → Step f f
 no_step f base = record { base = base; written = written_same (script_of f); kept = inl (refl, inr refl) }
 
-kept_twice : (f g h : Fields) → IsKept f g → IsKept g h → IsKept f h
-kept_twice f g h first second = grind arith
-
 two_steps : (f g h : Fields) → Step f g → Step g h → Step f h
 two_steps f g h first second = record {
   base = second.base;
   written = written_twice (script_of f) (script_of g) (script_of h) first.written second.written;
-  kept = grind (arith, kept_twice, first.kept, second.kept);
+  kept = grind (arith, first.kept, second.kept);
 }
 
 short_step : (f : Fields) → IsBase f → Step f (short f)
@@ -128,15 +125,12 @@ fields_alike f g same =
 stated_is : (to g : Fields) → stated to ≡ Some g → (is_there to.language ≡ true) × (to ≡ g)
 stated_is to g is = grind arith
 
-there_language : (l : List ℕ) → is_language_field l ≡ true → is_there l ≡ true → is_primary l ≡ true
-there_language l good some = grind arith
-
 row_base : (to : Fields) → is_there to.language ≡ true → (is_language_field to.language && (is_script_field to.script && is_region_field to.region)) ≡ true → IsBase to
 row_base to some good =
     let first = and_parts (is_language_field to.language) _ good in
     let second = and_parts (is_script_field to.script) _ first.1 in
     let alone : SpellsLanguage to.language [] to.language =
-    record { first = there_language to.language first.0 some; others = tt; few = omega arith; short = inr refl; joined = refl } in
+    record { first = grind (arith, first.0, some); others = tt; few = omega arith; short = inr refl; joined = refl } in
     record { language = (to.language, [], alone); script = second.0; region = second.1 }
 
 row_step : (f to g : Fields) → likely_for parent_locales f ≡ Some to → stated to ≡ Some g → Step f g
@@ -282,12 +276,6 @@ in_parts p es ss rs rest = simp (join-hyphenated, hyphenated-append, append_asso
 field_again : (text : List ℕ) → unwrap_or (subtag_of text) [] ≡ text
 field_again text = grind arith
 
-script_class : (text : List ℕ) → is_script_field text ≡ true → IfSome (subtag_of text) (λ s. IsTrue (is_script s))
-script_class text good = grind arith
-
-region_class : (text : List ℕ) → is_region_field text ≡ true → IfSome (subtag_of text) (λ s. IsTrue (is_region s))
-region_class text good = grind arith
-
 -- ---- a member of a chain
 
 pub record Member (r : Record) (text : List ℕ) : Type 0 where
@@ -325,8 +313,8 @@ member r g ws last es private_part well step is end =
       extended = language.others;
       few = language.few;
       short = language.short;
-      script = script_class g.script step.base.script;
-      region = region_class g.region step.base.region;
+      script = grind (arith, step.base.script);
+      region = grind (arith, step.base.region);
       variants = variants_before ws last (subst (AllByRecursion (λ s. IsTrue (is_variant s))) (sym is) well.variants);
       extensions = end.extensions_well;
       private_use = end.use_well;
