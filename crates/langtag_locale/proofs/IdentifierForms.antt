@@ -1,10 +1,10 @@
 -- The form of a language identifier has a language, and maybe a script and a region.
-use Rattle.langtag_keyword.proofs.Common.{each-weaker, ◌≡◌, ℕ, Bool, true, List, [], ◌∷◌, ◌++◌, ◌&&◌, length, fold, Option, Some, None, refl, sym, ap, ◌∙◌, append_assoc, arith, common_steps, length-map, flat_map, list_all, AllByRecursion, with_joined, of_primary, IsSubtag, of_variant, are_alike, is_region, is_script, is_variant, IsWellFormed, Record, extension_flat, one_flat, private_part_flat, spell, segments, Alias, TypeAlias, alias_for, is_unicode_language, both, found_has, nat_tests, each-append}
+use Rattle.langtag_keyword.proofs.Common.{each-weaker, ◌≡◌, ℕ, Bool, true, List, [], ◌∷◌, ◌++◌, ◌&&◌, length, fold, Some, None, refl, sym, ap, ◌∙◌, append_assoc, arith, common_steps, length-map, flat_map, list_all, AllByRecursion, with_joined, of_primary, IsSubtag, of_variant, are_alike, is_region, is_script, is_variant, IsWellFormed, Record, extension_flat, one_flat, private_part_flat, spell, segments, Alias, TypeAlias, alias_for, is_unicode_language, both, found_has, nat_tests, each-append}
 use Rattle.langtag_scan.specs.Grammar.{fold_byte, Spells, IsNormal}
 use Rattle.langtag_text.proofs.RecommendedLaws.{recommended_alike}
 use Rattle.langtag_text.specs.RecommendedCase.{recommended_text}
 use Rattle.langtag_text.proofs.FieldClasses.{from_region, from_script}
-use Rattle.langtag_cldr.specs.Definitions.{language_aliases, region_replacements, Likely, are_alike_fields, language_alone, likely_for, looked_up, or_else, or_other, language_rows, likely_subtags, other_rows, language_replaced, region_alone}
+use Rattle.langtag_cldr.specs.Definitions.{language_aliases, region_replacements, Likely, are_alike_fields, language_alone, likely_for, looked_up, or_other, language_rows, likely_subtags, other_rows, language_replaced, region_alone}
 use Rattle.langtag_text.specs.FieldClasses.{is_region_field, is_script_field}
 use Rattle.langtag_text.specs.Fields.{Fields, subtag_of}
 use Rattle.langtag_text.specs.Output.{with_subtag}
@@ -15,7 +15,6 @@ use Rattle.langtag_locale.specs.LocaleForm.{record_fields, sign_for, forms, vari
 use Rattle.langtag_keyword.specs.Identifier.{identifier_flat}
 use Rattle.langtag_locale.proofs.LocaleTables.{all_good, found_good, heir_good}
 use Rattle.langtag_keyword.proofs.IdentifierParts.{AreSubtags, language_primary, AreVariants}
-use Rattle.langtag_cldr.specs.Likely as likely
 use Rattle.langtag_scan.specs.Class as class
 use Rattle.langtag_locale.specs.LocaleAliases as list
 use Rattle.langtag_locale.specs.LocaleForm as form

@@ -1,6 +1,6 @@
 -- Each member of the chain of a normal tag is a normal tag in the script of the tag, and adds nothing to it but what CLDR lists.
 use Rattle.langtag_scan.proofs.Prelude.{◌≡◌, ℕ, zero, suc, eqb, nil_from_length, ◌⊎◌, inl, inr, true, false, Bool, cond, IsTrue, List, [], ◌∷◌, ◌++◌, length, map, flat_map, Option, None, Some, IfSome, MatchOption, refl, sym, ap, ◌∙◌, subst, arith, ◌&&◌, not, option_map, option_map_or, unwrap_or, nat_lt, AllByRecursion, append_assoc, append-nil, length-append, and_parts, nat_tests}
-use Rattle.langtag_scan.specs.Grammar.{Alike, EachRecord, Extension, IsNormal, IsWellFormed, IsWellFormedExtension, IsWellFormedPrivateUse, PrivateUse, Record, Spells, are_alike, are_alike-decides, extension_flat, is_region, is_script, is_primary, is_variant, join, language_part, one_flat, private_part_flat}
+use Rattle.langtag_scan.specs.Grammar.{Alike, EachRecord, Extension, IsNormal, IsWellFormed, IsWellFormedExtension, IsWellFormedPrivateUse, PrivateUse, Record, Spells, are_alike, are_alike-decides, extension_flat, is_script, is_variant, join, language_part, one_flat, private_part_flat}
 use Rattle.langtag_scan.proofs.Laws.{each-append, hyphenated-append, join-hyphenated, no_hyphen_each, of_variant, spelled_once}
 use Rattle.langtag_text.proofs.Alike.{AlikeFields, alike_is, same_fields}
 use Rattle.langtag.specs.Definitions.{IsLanguage, SpellsLanguage}

@@ -9,7 +9,7 @@ use Rattle.langtag_text.proofs.Alike.{alike_is}
 use Rattle.langtag_range.specs.Definitions.{ends_locale, front_of, is_hash, locale_place, hyphened}
 use Rattle.langtag_cldr.specs.Definitions.{language_alone, or_else, without_script}
 use Rattle.langtag_likely.proofs.Definitions.{fields_of}
-use Rattle.langtag_posix.proofs.Definitions.{is_empty, modifier_for, modifier_script, modifier_variant, modifiers, names, IsTagOfName, NamesTag, are_keywords, extensions_behind, is_java_place, place_of, place_read, text_of_name, is_at, is_underscore, modifier_of, posix_extension, posix_replaced, said_script, with_said, with_said_script, with_said_variant, IsPosixName, IsReadBack, NameParts, ReadsBack, after_variants, is_likely, is_named, is_of_language, marked, name_modifier, name_parts, name_variant, read_place}
+use Rattle.langtag_posix.proofs.Definitions.{is_empty, modifier_for, modifier_script, modifier_variant, modifiers, names, IsTagOfName, NamesTag, are_keywords, extensions_behind, is_java_place, place_of, place_read, text_of_name, is_at, modifier_of, posix_extension, posix_replaced, said_script, with_said, with_said_script, with_said_variant, IsPosixName, IsReadBack, NameParts, ReadsBack, after_variants, is_likely, is_named, is_of_language, marked, name_modifier, name_parts, name_variant, read_place}
 use Rattle.langtag_posix.specs.KeywordNames.{key_named, key_names, type_named, type_names}
 use Rattle.langtag_posix.specs.ToPosix.{name_text}
 use Rattle.langtag_posix.proofs.PosixNameLaws.{no_mark, place_kept, read_of_language, IsPlain, after_others, after_rest, alike_text, before_rest, marked_cut, others, place_free, place_hyphened, place_text, spelled_text}
