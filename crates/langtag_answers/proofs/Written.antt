@@ -6,7 +6,7 @@ use Rattle.std.proofs.lemmas.List.{take_at, get_or_at, take_more, take-append-le
 use Rattle.std.proofs.lemmas.List.Elements.{All-nil, All-cons, All-append}
 use Rattle.std.proofs.lemmas.List.Quantifiers.{position-Some}
 use Rattle.std.proofs.lemmas.List.Sums.{fails_before_first}
-use Rattle.std.proofs.lemmas.List.Splits.{slice_split-cons_yes, slice_split-cons_no, slice_split_none, slice_split_at}
+use Rattle.std.proofs.lemmas.List.Splits.{slice_split_none, slice_split_at}
 use Rattle.std.proofs.lemmas.Bool.Decides.{nat_tests}
 use Rattle.langtag_answers.specs.Lines.{IsCutInto, is_line_feed, ended, pieces, complete_lines, rest_of, NoLineFeed, last_line, lines_of}
 use Rattle.langtag_answers.specs.Report.{AreAnswersBy, none, one_more, AnswersBy, HasRun, HasStopped, HasStoppedIn, HavingRead, IsWanting}
@@ -18,31 +18,35 @@ use Rattle.std.proofs.Math.Seq.{take-add, take-append-add, take-length}
 use Rattle.langtag_answers.specs.declared.run_error.RunError.{RunError}
 use Rattle.langtag_answers.specs.declared.run_error.RunError.TheVariants.{Memory, Read}
 
--- ---- lines and a rest, from the pieces
+-- ---- the lines and the rest of an input
 
-complete_lines-pieces : (input : List ℕ) (lines : List (List ℕ)) (rest : List ℕ) → pieces input ≡ lines ++ rest ∷ [] → complete_lines input ≡ lines
-unfolding complete_lines
-complete_lines-pieces input lines rest are = rw are (take_at lines (rest ∷ []) _ (omega (arith, length-append lines (rest ∷ []))))
+pub record Holds (input : List ℕ) (all : List (List ℕ)) (left : List ℕ) : Type 0 where
+  pub lines : complete_lines input ≡ all
+  pub rest : rest_of input ≡ left
 
-rest_of-pieces : (input : List ℕ) (lines : List (List ℕ)) (rest : List ℕ) → pieces input ≡ lines ++ rest ∷ [] → rest_of input ≡ rest
-unfolding rest_of
-rest_of-pieces input lines rest are = rw are (get_or_at lines rest [] [] _ (omega (arith, length-append lines (rest ∷ []))))
+by_pieces : (input : List ℕ) (lines : List (List ℕ)) (rest : List ℕ) → pieces input ≡ lines ++ rest ∷ [] → Holds input lines rest
+unfolding complete_lines rest_of
+by_pieces input lines rest are = record {
+  lines = rw are (take_at lines (rest ∷ []) _ (omega (arith, length-append lines (rest ∷ []))));
+  rest = rw are (get_or_at lines rest [] [] _ (omega (arith, length-append lines (rest ∷ []))));
+}
 
--- an input as its complete lines and its rest, and what more bytes make of it
-record IsCutAs (input : List ℕ) (lines : List (List ℕ)) (rest : List ℕ) : Type 0 where
-  split : pieces input ≡ lines ++ rest ∷ []
-  cut : IsCutInto input lines rest
-  grows : (more : List ℕ) → pieces (input ++ more) ≡ lines ++ pieces (rest ++ more)
+-- the pieces of what follows lines come after the lines
+pieces-joined : (lines : List (List ℕ)) (more : List ℕ) → AllByRecursion NoLineFeed lines → pieces (flat_map ended lines ++ more) ≡ lines ++ pieces more
+pieces-joined [] more free = refl
+pieces-joined (l ∷ ls) more (free, others) = grind (arith, nat_tests, append_assoc, slice_split_at is_line_feed l 10, pieces-joined ls more others)
 
-cut_of_cons : (b : ℕ) (bs : List ℕ) (t : Bool) → is_line_feed b ≡ t → ((lines : List (List ℕ)) × (rest : List ℕ) × IsCutAs bs lines rest)
-    → (lines : List (List ℕ)) × (rest : List ℕ) × IsCutAs (b ∷ bs) lines rest
-cut_of_cons b bs true feed (lines, rest, cut) =
-    ([] ∷ lines, rest, grind (arith, nat_tests, eqb-true b 10 feed, All-nil, slice_split-cons_yes is_line_feed b))
-cut_of_cons b bs false plain ([], rest, cut) = ([], b ∷ rest, grind (arith, nat_tests, slice_split-cons_no is_line_feed b, All-cons))
-cut_of_cons b bs false plain (l ∷ ls, rest, cut) = ((b ∷ l) ∷ ls, rest, grind (arith, nat_tests, slice_split-cons_no is_line_feed b, All-cons))
+pieces_of : (input : List ℕ) (lines : List (List ℕ)) (rest : List ℕ) → IsCutInto input lines rest → pieces input ≡ lines ++ rest ∷ []
+pieces_of input lines rest cut = grind (arith, pieces-joined lines rest cut.lines_free, slice_split_none is_line_feed rest cut.rest_free)
 
-cut_of : (input : List ℕ) → (lines : List (List ℕ)) × (rest : List ℕ) × IsCutAs input lines rest
-cut_of [] = ([], [], record { split = refl; cut = record { joined = refl; lines_free = tt; rest_free = All-nil (λ x. is_line_feed x ≡ false) }; grows = λ more. refl })
+cut_of_cons : (b : ℕ) (bs : List ℕ) (t : Bool) → is_line_feed b ≡ t → ((lines : List (List ℕ)) × (rest : List ℕ) × IsCutInto bs lines rest)
+    → (lines : List (List ℕ)) × (rest : List ℕ) × IsCutInto (b ∷ bs) lines rest
+cut_of_cons b bs true feed (lines, rest, cut) = ([] ∷ lines, rest, grind (arith, nat_tests, eqb-true b 10 feed, All-nil))
+cut_of_cons b bs false plain ([], rest, cut) = ([], b ∷ rest, grind (arith, nat_tests, All-cons))
+cut_of_cons b bs false plain (l ∷ ls, rest, cut) = ((b ∷ l) ∷ ls, rest, grind (arith, nat_tests, All-cons))
+
+cut_of : (input : List ℕ) → (lines : List (List ℕ)) × (rest : List ℕ) × IsCutInto input lines rest
+cut_of [] = ([], [], record { joined = refl; lines_free = tt; rest_free = All-nil (λ x. is_line_feed x ≡ false) })
 cut_of (b ∷ bs) = cut_of_cons b bs (is_line_feed b) refl (cut_of bs)
 
 -- ---- the laws
@@ -51,56 +55,32 @@ cut_of (b ∷ bs) = cut_of_cons b bs (is_line_feed b) refl (cut_of bs)
 pub lines_cut : (input : List ℕ) → IsCutInto input (complete_lines input) (rest_of input)
 lines_cut input =
     let (lines, rest, cut) = cut_of input in
-    rw (complete_lines-pieces input lines rest cut.split, rest_of-pieces input lines rest cut.split) cut.cut
-
--- the pieces of a cut input are its lines and its rest
-pieces-joined :
-    (lines : List (List ℕ)) (rest : List ℕ) → AllByRecursion NoLineFeed lines → NoLineFeed rest →
-    pieces (flat_map ended lines ++ rest) ≡ lines ++ rest ∷ []
-pieces-joined [] rest lines_free rest_free = slice_split_none is_line_feed rest rest_free
-pieces-joined (l ∷ ls) rest (free, lines_free) rest_free =
-    grind (arith, nat_tests, append_assoc, slice_split_at is_line_feed l 10, pieces-joined ls rest lines_free rest_free)
-
--- so a cut is the complete lines and the rest
-cut_lines :
-    (input : List ℕ) (lines : List (List ℕ)) (rest : List ℕ) → IsCutInto input lines rest →
-    (lines ≡ complete_lines input) × (rest ≡ rest_of input)
-cut_lines input lines rest cut =
-    let are : pieces input ≡ lines ++ rest ∷ [] = ap pieces (sym cut.joined) ∙ pieces-joined lines rest cut.lines_free cut.rest_free in
-    (sym (complete_lines-pieces input lines rest are), sym (rest_of-pieces input lines rest are))
+    let are = by_pieces input lines rest (pieces_of input lines rest cut) in
+    rw (are.lines, are.rest) cut
 
 -- two cuts of an input are equal
 pub one_cut :
     (input : List ℕ) (lines others : List (List ℕ)) (rest other : List ℕ) → IsCutInto input lines rest →
     IsCutInto input others other → (lines ≡ others) × (rest ≡ other)
-one_cut input lines others rest other cut also = grind (arith, nat_tests, cut_lines input lines rest cut, cut_lines input others other also)
+one_cut input lines others rest other cut also =
+    grind (arith, nat_tests, by_pieces input lines rest, pieces_of input lines rest cut, by_pieces input others other, pieces_of input others other also)
 
 -- bytes after an input complete the lines that they complete after its rest
-pub complete_lines-append : (input more : List ℕ) → complete_lines (input ++ more) ≡ complete_lines input ++ complete_lines (rest_of input ++ more)
-complete_lines-append input more =
-    let (lines, rest, cut) = cut_of input in
-    let (lines', rest', cut') = cut_of (rest ++ more) in
-    grind (arith, nat_tests, append_assoc, complete_lines-pieces, rest_of-pieces input lines rest, cut.grows more)
-
-pub rest_of-append : (input more : List ℕ) → rest_of (input ++ more) ≡ rest_of (rest_of input ++ more)
-rest_of-append input more =
-    let (lines, rest, cut) = cut_of input in
-    let (lines', rest', cut') = cut_of (rest ++ more) in
-    grind (arith, nat_tests, append_assoc, rest_of-pieces input, rest_of-pieces (rest ++ more) lines', rest_of-pieces (input ++ more) (lines ++ lines'), cut.grows more)
+pub more_lines :
+    (input rest more : List ℕ) → rest ≡ rest_of input →
+    Holds (input ++ more) (complete_lines input ++ complete_lines (rest ++ more)) (rest_of (rest ++ more))
+more_lines input rest more is =
+    let cut = lines_cut input in
+    let whole = pieces_of (rest ++ more) _ _ (lines_cut (rest ++ more)) in
+    by_pieces _ _ _ (grind (arith, append_assoc, whole, pieces-joined (complete_lines input) (rest ++ more)))
 
 -- a text without LF is a rest
-pub complete_lines-free : (text : List ℕ) → NoLineFeed text → complete_lines text ≡ []
-complete_lines-free text free = complete_lines-pieces text [] text (slice_split_none is_line_feed text free)
-
-pub rest_of-free_text : (text : List ℕ) → NoLineFeed text → rest_of text ≡ text
-rest_of-free_text text free = rest_of-pieces text [] text (slice_split_none is_line_feed text free)
+pub free_lines : (text : List ℕ) → NoLineFeed text → Holds text [] text
+free_lines text free = by_pieces text [] text (slice_split_none is_line_feed text free)
 
 -- such a text and LF is a line
-pub complete_lines-ended : (text : List ℕ) (b : ℕ) → NoLineFeed text → is_line_feed b ≡ true → complete_lines (text ++ b ∷ []) ≡ text ∷ []
-complete_lines-ended text b free feed = complete_lines-pieces (text ++ b ∷ []) (text ∷ []) [] (slice_split_at is_line_feed text b [] free feed)
-
-pub rest_of-ended : (text : List ℕ) (b : ℕ) → NoLineFeed text → is_line_feed b ≡ true → rest_of (text ++ b ∷ []) ≡ []
-rest_of-ended text b free feed = rest_of-pieces (text ++ b ∷ []) (text ∷ []) [] (slice_split_at is_line_feed text b [] free feed)
+pub ended_lines : (text : List ℕ) → NoLineFeed text → Holds (ended text) (text ∷ []) []
+ended_lines text free = by_pieces (ended text) (text ∷ []) [] (slice_split_at is_line_feed text 10 [] free refl)
 
 -- what stands before the first LF has none, and is a line with it
 pub record IsFirstLine (bytes : List ℕ) (len : ℕ) : Type 0 where
@@ -138,14 +118,6 @@ append_known-empty a page empty = grind (arith, common_steps, nat_tests, append-
 
 -- ---- the line in hand, as bytes come
 
-pub rest_more : (input rest more : List ℕ) → rest ≡ rest_of input → rest_of (rest ++ more) ≡ rest_of (input ++ more)
-rest_more input rest more is = ap (λ r. rest_of (r ++ more)) is ∙ sym (rest_of-append input more)
-
-lines_more :
-    (input rest more : List ℕ) → rest ≡ rest_of input →
-    complete_lines (input ++ more) ≡ complete_lines input ++ complete_lines (rest ++ more)
-lines_more input rest more is = complete_lines-append input more ∙ ap (λ r. complete_lines input ++ complete_lines (r ++ more)) (sym is)
-
 pub free_rest : (input rest : List ℕ) → rest ≡ rest_of input → NoLineFeed rest
 free_rest input rest is = subst NoLineFeed (sym is) (lines_cut input).rest_free
 
@@ -155,23 +127,21 @@ last_line-none rest empty = grind (arith, common_steps, nat_tests)
 pub last_line-some : (rest : List ℕ) → 0 < length rest → last_line rest ≡ rest ∷ []
 last_line-some rest full = grind (arith, common_steps, nat_tests)
 
--- a text that ends the line in hand, and its LF
-pub record EndsLine (line end : List ℕ) : Type 0 where
-  pub lines : complete_lines (line ++ ended end) ≡ (line ++ end) ∷ []
-  pub rest : rest_of (line ++ ended end) ≡ []
+-- `rest` is in hand, and `end` ends it
+pub ends_line :
+    (line taken end rest : List ℕ) → rest ≡ rest_of (line ++ taken) → NoLineFeed end →
+    Holds (line ++ (taken ++ ended end)) (complete_lines (line ++ taken) ++ (rest ++ end) ∷ []) []
+ends_line line taken end rest is free =
+    let whole = ended_lines (rest ++ end) (All-append (λ x. is_line_feed x ≡ false) rest end (free_rest (line ++ taken) rest is) free) in
+    grind (arith, append_assoc, more_lines (line ++ taken) rest (ended end) is, whole)
 
-pub ends_line : (line end : List ℕ) → NoLineFeed line → NoLineFeed end → EndsLine line end
-ends_line line end line_free end_free =
-    grind (arith, nat_tests, All-append (λ x. is_line_feed x ≡ false) line end, append_assoc, complete_lines-ended (line ++ end) 10, rest_of-ended (line ++ end) 10)
-
--- and one that does not
-pub record LeavesLine (line more : List ℕ) : Type 0 where
-  pub lines : complete_lines (line ++ more) ≡ []
-  pub rest : rest_of (line ++ more) ≡ line ++ more
-
-pub leaves_line : (line more : List ℕ) → NoLineFeed line → NoLineFeed more → LeavesLine line more
-leaves_line line more line_free more_free =
-    grind (arith, nat_tests, All-append (λ x. is_line_feed x ≡ false) line more, complete_lines-free, rest_of-free_text)
+-- and `more` does not
+pub leaves_line :
+    (line taken more bytes rest : List ℕ) → taken ++ more ≡ bytes → rest ≡ rest_of (line ++ taken) → NoLineFeed more →
+    Holds (line ++ bytes) (complete_lines (line ++ taken)) (rest ++ more)
+leaves_line line taken more bytes rest are is free =
+    let whole = free_lines (rest ++ more) (All-append (λ x. is_line_feed x ≡ false) rest more (free_rest (line ++ taken) rest is) free) in
+    grind (arith, append_assoc, append-nil, more_lines (line ++ taken) rest more is, whole)
 
 -- ---- answers, whatever the answer to a line is
 
@@ -220,21 +190,16 @@ module _ {IsAnswer : List ℕ → List ℕ → Type 0} where
       (a b c : Option (List ℕ)) (input rest more : List ℕ) → rest ≡ rest_of input → AnswersBy IsAnswer a b (complete_lines input) →
       AnswersBy IsAnswer b c (complete_lines (rest ++ more))
       → AnswersBy IsAnswer a c (complete_lines (input ++ more))
-  written_more a b c input rest more is p q = Answers-same a c _ _ (sym (lines_more input rest more is)) (Answers-trans a b c _ _ p q)
+  written_more a b c input rest more is p q = rw (more_lines input rest more is).lines (Answers-trans a b c _ _ p q)
 
   -- where a run stopped in what came after a line in hand, it stopped in what came after the whole input
   pub stopped_more :
       (Wanting : List ℕ → List ℕ → Type 0) (a b c : Option (List ℕ)) (input rest more : List ℕ) → rest ≡ rest_of input → AnswersBy IsAnswer a b (complete_lines input) →
       HasStopped IsAnswer Wanting b c rest more → HasStopped IsAnswer Wanting a c input more
-  stopped_more Wanting a b c input rest more is p s = record {
-    taken = s.taken;
-    more = s.more;
-    after = s.after;
-    read = s.read;
-    free = s.free;
-    wanting = subst (λ held. Wanting held s.more) (rest_more input rest s.taken is) s.wanting;
-    written = written_more a b c input rest s.taken is p s.written;
-  }
+  stopped_more Wanting a b c input rest more is p s =
+      let wanting = rw (← (more_lines input rest s.taken is).rest) at s.wanting in
+      let written = written_more a b c input rest s.taken is p s.written in
+      record { taken = s.taken; more = s.more; after = s.after; read = s.read; free = s.free; wanting = wanting; written = written }
 
   -- or it stopped at the last line
   pub stopped_last :

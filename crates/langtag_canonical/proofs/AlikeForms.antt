@@ -5,10 +5,10 @@ use Rattle.langtag_scan.proofs.CaseLaw.{alike_normal, alike_parts, fold_byte-twi
 use Rattle.langtag.specs.Registered.{IsGrandfathered}
 use Rattle.langtag_canonical.specs.Canonical.{in_order, canonical_primary, canonical_extended, canonical_region, canonical_variants, canonical_record, IsCanonicalForm}
 use Rattle.langtag_fields.specs.Fields.{preferred_region, preferred_variant, preferred_tag}
-use Rattle.langtag_canonical.proofs.ReplacedSubtags.{replaced-alike, IgnoresCase, language-alike, region-alike, variant-alike, extlang-alike, replaced, IsSettled, language_settled, region_settled, variant_settled, extlang_cases}
+use Rattle.langtag_canonical.proofs.ReplacedSubtags.{replaced-alike, IgnoresCase, ignore_case, extlang-alike, extlang_small, replaced, IsSettled, language_settled, region_settled, variant_settled}
 use Rattle.langtag_canonical.proofs.OneForm.{Way, as_whole, as_it_is, by_parts, way_of}
 use Rattle.langtag_canonical.proofs.TwiceLaws.{itself}
-use Rattle.langtag_canonical.proofs.ExtensionOrder.{key, sorted_by-map, keys_of, in_order-risen, rises_from_in_order}
+use Rattle.langtag_canonical.proofs.ExtensionOrder.{key, sorted_by-map, keys_of, rising_stay}
 use Rattle.langtag_canonical.proofs.CanonicalParts.{record_stays, parts_stay, own_record, kept_form, preferred_goes}
 use Rattle.langtag_fields.proofs.Values.{registered_extlang-alike, preferred_tag-alike}
 use Rattle.langtag.proofs.RegisteredLaws.{grandfathered_alike}
@@ -16,17 +16,17 @@ use Rattle.langtag.proofs.RegisteredLaws.{grandfathered_alike}
 -- ---- the canonical record of a folded record
 
 primary-fold : (p : List ℕ) (es : List (List ℕ)) → Alike (canonical_primary (fold_text p) (map fold_text es)) (canonical_primary p es)
-primary-fold p es = grind (arith, common_steps, replaced-alike, language-alike, fold_text-twice, extlang-alike)
+primary-fold p es = grind (arith, common_steps, replaced-alike, ignore_case.0, fold_text-twice, extlang-alike)
 
 extended-fold : (es : List (List ℕ)) → map fold_text (canonical_extended (map fold_text es)) ≡ map fold_text (canonical_extended es)
 extended-fold es = grind (arith, common_steps, registered_extlang-alike, fold_text-twice, map-twice fold_text fold_text-twice)
 
 region-fold : (o : Option (List ℕ)) → option_map fold_text (canonical_region (option_map fold_text o)) ≡ option_map fold_text (canonical_region o)
-region-fold o = grind (arith, common_steps, replaced-alike preferred_region region-alike, region-alike, fold_text-twice)
+region-fold o = grind (arith, common_steps, replaced-alike preferred_region ignore_case.1, ignore_case.1, fold_text-twice)
 
 variants-fold : (vs : List (List ℕ)) → map fold_text (canonical_variants (map fold_text vs)) ≡ map fold_text (canonical_variants vs)
 variants-fold [] = refl
-variants-fold (v ∷ vs) = grind (arith, common_steps, replaced-alike preferred_variant variant-alike (fold_text v) v, fold_text-twice v, variants-fold vs)
+variants-fold (v ∷ vs) = grind (arith, common_steps, replaced-alike preferred_variant ignore_case.2 (fold_text v) v, fold_text-twice v, variants-fold vs)
 
 in_order-fold : (es : List Extension) → map fold_extension (in_order (map fold_extension es)) ≡ map fold_extension (in_order es)
 unfolding in_order
@@ -77,16 +77,16 @@ StaysLanguage primary extended = (canonical_primary primary extended ≡ primary
 language_stays :
     (p q : List ℕ) (es fs : List (List ℕ)) → Alike p q → map fold_text es ≡ map fold_text fs → StaysLanguage p es → StaysLanguage q fs
 language_stays p q es fs alike same stays =
-    grind (arith, common_steps, alike_stays, language_settled, language-alike, extlang_cases, extlang-alike, registered_extlang-alike)
+    grind (arith, common_steps, alike_stays, language_settled, ignore_case.0, extlang_small, extlang-alike, registered_extlang-alike)
 
 region_stays : (o u : Option (List ℕ)) → option_map fold_text o ≡ option_map fold_text u → canonical_region o ≡ o → canonical_region u ≡ u
-region_stays o u same stays = grind (arith, common_steps, alike_stays, region_settled, region-alike)
+region_stays o u same stays = grind (arith, common_steps, alike_stays, region_settled, ignore_case.1)
 
 variants_stay : (vs ws : List (List ℕ)) → map fold_text vs ≡ map fold_text ws → canonical_variants vs ≡ vs → canonical_variants ws ≡ ws
 variants_stay [] [] same stays = refl
 variants_stay [] (w ∷ ws) same stays = absurd cc
 variants_stay (v ∷ vs) [] same stays = absurd cc
-variants_stay (v ∷ vs) (w ∷ ws) same stays = grind (arith, common_steps, alike_stays preferred_variant variant_settled variant-alike v w, variants_stay vs ws)
+variants_stay (v ∷ vs) (w ∷ ws) same stays = grind (arith, common_steps, alike_stays preferred_variant variant_settled ignore_case.2 v w, variants_stay vs ws)
 
 keys_folded : (es : List Extension) → map (λ e. e.singleton) (map fold_extension es) ≡ keys_of es
 keys_folded [] = refl
@@ -96,7 +96,7 @@ keys_folded (e ∷ es) = ap (λ ns. fold_byte e.singleton ∷ ns) (keys_folded e
 
 alike_record_stays : (r q : Record) → IsWellFormed q → AlikeRecords r q → canonical_record r ≡ r → canonical_record q ≡ q
 alike_record_stays r q well alike stays =
-    grind (arith, common_steps, parts_stay r stays, record_stays q, language_stays r.primary q.primary r.extended q.extended, region_stays r.region, variants_stay r.variants, keys_folded, in_order-risen q.extensions, rises_from_in_order r.extensions)
+    grind (arith, common_steps, parts_stay r stays, record_stays q, language_stays r.primary q.primary r.extended q.extended, region_stays r.region, variants_stay r.variants, keys_folded, (rising_stay q.extensions).0, (rising_stay r.extensions).1)
 
 -- ---- the text
 

@@ -7,7 +7,7 @@ use Rattle.langtag_text.specs.Writes.{Writes}
 use Rattle.langtag_text.specs.WritesWhole.{WritesWhole}
 use Rattle.langtag_canonical.specs.Canonical.{canonical_primary, canonical_extended, canonical_region, canonical_variants, in_order, canonical_record, canonical_text, IsCanonicalForm}
 use Rattle.langtag_fields.specs.Fields.{preferred_tag}
-use Rattle.langtag_canonical.proofs.TwiceLaws.{whole_settled, preferred_record_stays, form_of, Form, whole_form, own_form, parts_form, again_form, canonical_record_well_formed}
+use Rattle.langtag_canonical.proofs.TwiceLaws.{whole_settled, preferred_record_stays, form_of, whole_form, own_form, parts_form, again_form, canonical_record_well_formed}
 use Rattle.langtag_fields.proofs.WholeTags.{record_of, preferred_spelled, preferred_is_tag}
 
 -- ---- where all stay
@@ -40,13 +40,13 @@ record_form old new r none other spells same = grind (arith, common_steps, spell
 -- it is a tag, as the text that it is of
 pub form_is_tag : (old new : List ℕ) → IsTag old → IsCanonicalForm old new → IsTag new
 unfolding IsTag IsNormal preferred_tag
-form_is_tag old new is p = by_form (form_of old new p)
-  where
-    by_form : Form old new → IsTag new
-    by_form (whole_form found) = preferred_is_tag old new found
-    by_form (own_form none why same) = subst IsTag (sym same) is
-    by_form (parts_form new_one r spells becomes none) = inl (canonical_record r, becomes)
-    by_form (again_form r spells found) = preferred_is_tag _ new found
+form_is_tag old new is p =
+    elim (form_of old new p) [
+      | whole_form found ↦ preferred_is_tag old new found
+      | own_form none why same ↦ subst IsTag (sym same) is
+      | parts_form new_one r spells becomes none ↦ inl (canonical_record r, becomes)
+      | again_form r spells found ↦ preferred_is_tag _ new found
+    ]
 
 -- a text that was written is written as the canonical form that it is
 pub form_written :
@@ -70,4 +70,4 @@ own_record text r spells same = by_option (preferred_tag (spell (canonical_recor
     by_option (Some w) is own =
         let s = preferred_spelled (spell (canonical_record r)) w is in
         let one : record_of w ≡ r = spelled_once (record_of w) r s.0 spells.0 (s.1 ∙ sym own ∙ sym spells.1) in
-        subst (λ q. canonical_record q ≡ q) one (preferred_record_stays (spell (canonical_record r)) w is)
+        rw one at (preferred_record_stays (spell (canonical_record r)) w is)

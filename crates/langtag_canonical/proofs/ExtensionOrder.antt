@@ -1,5 +1,5 @@
 -- Extensions in the order of their singletons: where they stand so, their text, and that they repeat no singleton where they repeated none before.
-use Rattle.langtag_scan.proofs.Prelude.{◌≡◌, ℕ, ◌+◌, ◌<◌, ◌≤◌, true, ◌==◌, Bool, leb, List, [], ◌∷◌, ◌++◌, length, map, refl, sym, ap, ◌∙◌, arith, ◌↔◌, false, cond, fold, length-append, append_assoc, append-nil, None, Some, subst, AllByRecursion, flat_map, list_any, and_parts, or_parts, nat_tests, eqb_tells, common_steps, fold-append, filter-append, filter}
+use Rattle.langtag_scan.proofs.Prelude.{◌≡◌, ℕ, ◌+◌, ◌<◌, ◌≤◌, true, ◌==◌, Bool, leb, List, [], ◌∷◌, ◌++◌, length, map, refl, sym, ap, ◌∙◌, arith, ◌↔◌, fold, Option, None, subst, AllByRecursion, flat_map, list_any, list_any-append, and_parts, nat_tests, eqb_tells, common_steps, fold-append, filter}
 use Rattle.langtag_scan.specs.Grammar.{fold_byte, Extension, IsWellFormedExtension, extension_flat, is_letter, is_digit, is_mark, is_singleton}
 use Rattle.langtag_canonical.specs.Canonical.{put_by, sorted_by, in_order}
 use Rattle.langtag_text.proofs.Rising.{rises_from}
@@ -43,14 +43,6 @@ module _ {A : Type 0} (key : A → ℕ) where
   sorted_by-each P [] all = tt
   sorted_by-each P (x ∷ xs) all = put_by-each P x (sorted_by key xs) all.0 (sorted_by-each P xs all.1)
 
-  put_by-counted : (p : A → Bool) (x : A) (xs : List A) → length (filter p (put_by key x xs)) ≡ length (filter p (x ∷ xs))
-  put_by-counted p x [] = refl
-  put_by-counted p x (y ∷ ys) = grind (arith, common_steps, put_by-counted p x ys)
-
-  pub sorted_by-counted : (p : A → Bool) (xs : List A) → length (filter p (sorted_by key xs)) ≡ length (filter p xs)
-  sorted_by-counted p [] = refl
-  sorted_by-counted p (x ∷ xs) = grind (arith, common_steps, put_by-counted p x (sorted_by key xs), sorted_by-counted p xs)
-
   -- ---- one key after the other
 
   abbrev has : ℕ → A → Bool
@@ -92,26 +84,14 @@ key e = fold_byte e.singleton
 abbrev pub keys_of : List Extension → List ℕ
 keys_of es = map key es
 
--- where each singleton is at most the next one, ignoring case, they stay
-pub in_order-risen : (es : List Extension) → rises_from 0 (keys_of es) ≡ true → in_order es ≡ es
+-- they stay where each singleton is at most the next one, ignoring case, and only there
+pub rising_stay : (es : List Extension) → (rises_from 0 (keys_of es) ≡ true) ↔ (in_order es ≡ es)
 unfolding in_order
-in_order-risen es rises = sorted_by-risen key 0 es rises
-
-pub in_order-rises : (es : List Extension) → rises_from 0 (keys_of (in_order es)) ≡ true
-unfolding in_order
-in_order-rises es = sorted_by-rises key es
-
--- and only there
-pub rises_from_in_order : (es : List Extension) → in_order es ≡ es → rises_from 0 (keys_of es) ≡ true
-rises_from_in_order es stays = ap (λ z. rises_from 0 (keys_of z)) (sym stays) ∙ in_order-rises es
+rising_stay es = (sorted_by-risen key 0 es, λ stays. subst (λ z. rises_from 0 (keys_of z) ≡ true) stays (sorted_by-rises key es))
 
 pub in_order-twice : (es : List Extension) → in_order (in_order es) ≡ in_order es
-in_order-twice es = in_order-risen (in_order es) (in_order-rises es)
-
--- what holds of each of them holds of each in order
-pub in_order-each : (P : Extension → Type 0) (es : List Extension) → AllByRecursion P es → AllByRecursion P (in_order es)
 unfolding in_order
-in_order-each P es all = sorted_by-each key P es all
+in_order-twice es = sorted_by-risen key 0 (in_order es) (sorted_by-rises key es)
 
 -- ---- the extensions in the order of their singletons: where they stand so, and their text
 
@@ -133,7 +113,7 @@ keys-spelled (e ∷ es) = grind (arith, common_steps, key-spelled e, keys-spelle
 
 -- they stand in order where their singletons rise, and only there
 pub rise_in_order : (es : List Extension) (b : Bool) → rises_from 0 (keys (spellings es)) ≡ b → (b ≡ true) ↔ (in_order es ≡ es)
-rise_in_order es b is = grind (arith, common_steps, keys-spelled es, in_order-risen es, rises_from_in_order es)
+rise_in_order es b is = grind (arith, common_steps, keys-spelled es, rising_stay es)
 
 -- ---- the texts in order
 
@@ -149,13 +129,10 @@ unfolding fold_byte is_singleton is_letter is_digit is_mark
 singleton_within b is = grind (arith, common_steps, nat_tests)
 
 -- all singletons are from `0` to `z`
-pub left_from-first : (es : List Extension) → AllByRecursion IsWellFormedExtension es → left_from 48 (spellings es) ≡ sorted (spellings es)
-left_from-first [] well = refl
-left_from-first (e ∷ es) well = grind (arith, common_steps, nat_tests, key-spelled e, singleton_within e.singleton well.0.singleton, left_from-first es well.1)
-
-pub left_from-last : (es : List Extension) → AllByRecursion IsWellFormedExtension es → left_from 123 (spellings es) ≡ []
-left_from-last [] well = refl
-left_from-last (e ∷ es) well = grind (arith, common_steps, nat_tests, key-spelled e, singleton_within e.singleton well.0.singleton, left_from-last es well.1)
+pub left_from-ends :
+    (es : List Extension) → AllByRecursion IsWellFormedExtension es → (left_from 48 (spellings es) ≡ sorted (spellings es)) × (left_from 123 (spellings es) ≡ [])
+left_from-ends [] well = (refl, refl)
+left_from-ends (e ∷ es) well = grind (arith, common_steps, nat_tests, key-spelled e, singleton_within e.singleton well.0.singleton, left_from-ends es well.1)
 
 -- ---- what is put
 
@@ -174,11 +151,6 @@ pub pushes_one_more :
 pushes_one_more byte texts old middle new one rest =
     pushes_same _ _ old new (sym (sorted_from-next small_singleton byte texts)) (pushes_both (of_singleton byte texts) (left_from (byte + 1) texts) old middle new one rest)
 
-pub of_singleton-next :
-    (small : ℕ) (texts rest : List (List ℕ)) (x : List ℕ) (b : Bool) → texts ≡ x ∷ rest → (small == small_singleton x) ≡ b →
-    of_singleton small texts ≡ cond b (x ∷ of_singleton small rest) (of_singleton small rest)
-of_singleton-next small texts rest x b first is = grind (arith, common_steps)
-
 -- where they stand in order already, their text is put as it is
 pub none_in_order : (es : List Extension) (text : List ℕ) (out : Output) → SpellsExtensions es text → text ≡ [] → Pushes (flat_map extension_flat (in_order es)) out out
 unfolding in_order
@@ -188,53 +160,33 @@ none_in_order (e ∷ es) text out spells none = grind (arith, common_steps, leng
 pub all_in_order :
     (es : List Extension) (text : List ℕ) (old new : Output) → SpellsExtensions es text → 1 ≤ length text → in_order es ≡ es → Pushes (text ∷ []) old new →
     Pushes (flat_map extension_flat (in_order es)) old new
-all_in_order [] text old new spells some same these = absurd (omega (arith, some, ap length spells.joined))
+all_in_order [] text old new spells some same these = grind (arith, common_steps)
 all_in_order (e ∷ es) text old new spells some same these =
-    pushes_same _ _ old new (ap (flat_map extension_flat) (sym same))
-    (pushes_joined (e.singleton ∷ []) (e.subtags ++ flat_map extension_flat es) old new (omega arith) (pushes_same _ _ old new (ap (λ t. t ∷ []) (sym spells.joined)) these))
+    rw same (pushes_joined (e.singleton ∷ []) (e.subtags ++ flat_map extension_flat es) old new (omega arith) (rw spells.joined these))
 
 -- ---- extensions in order repeat no singleton where they repeated none before
 
--- how often a byte stands in a list, in either case
-abbrev times : ℕ → List ℕ → ℕ
-times b bytes = length (filter (are_alike_bytes b) bytes)
+abbrev once_after : List ℕ → List ℕ → Option ℕ
+once_after seen bytes = repeat_after are_alike_bytes seen bytes
 
-abbrev AreOnce : List ℕ → Type 0
-AreOnce bytes = (b : ℕ) → times b bytes ≤ 1
+-- in which order others were seen changes nothing
+seen-same :
+    (seen also bytes : List ℕ) → ((b : ℕ) → list_any (are_alike_bytes b) seen ≡ list_any (are_alike_bytes b) also) → once_after seen bytes ≡ once_after also bytes
+seen-same seen also [] same = refl
+seen-same seen also (x ∷ bytes) same =
+    grind (arith, common_steps, same x, seen-same (seen ++ x ∷ []) (also ++ x ∷ []) bytes (λ b. grind (arith, common_steps, same b, list_any-append)))
 
-times-append : (b : ℕ) (xs ys : List ℕ) → times b (xs ++ ys) ≡ times b xs + times b ys
-times-append b xs ys = grind (arith, common_steps, filter-append, length-append)
+put_by-once : (seen : List ℕ) (x : ℕ) (bytes : List ℕ) → once_after seen (x ∷ bytes) ≡ None → once_after seen (put_by fold_byte x bytes) ≡ None
+put_by-once seen x [] none = none
+put_by-once seen x (y ∷ bytes) none =
+    let either = seen-same ((seen ++ x ∷ []) ++ y ∷ []) ((seen ++ y ∷ []) ++ x ∷ []) bytes in
+    grind (arith, common_steps, list_any-append, eqb_tells, put_by-once (seen ++ y ∷ []) x bytes, either)
 
-times-none : (b x : ℕ) (seen : List ℕ) → fold_byte b ≡ fold_byte x → list_any (are_alike_bytes x) seen ≡ false → times b seen ≡ 0
-times-none b x [] same none = refl
-times-none b x (s ∷ seen) same none = grind (arith, common_steps, or_parts, times-none b x seen same)
-
-times-some : (x : ℕ) (seen : List ℕ) → list_any (are_alike_bytes x) seen ≡ true → 1 ≤ times x seen
-times-some x [] some = absurd cc
-times-some x (s ∷ seen) some = grind (arith, common_steps, eqb_tells (fold_byte x) (fold_byte s), times-some x seen)
-
--- where none of some bytes after others repeats one, all stand once
-once_from_none : (seen xs : List ℕ) → AreOnce seen → repeat_after are_alike_bytes seen xs ≡ None → AreOnce (seen ++ xs)
-once_from_none seen [] once none = λ b. subst (λ all. times b all ≤ 1) (sym (append-nil seen)) (once b)
-once_from_none seen (x ∷ xs) once none = by_test (list_any (are_alike_bytes x) seen) refl none (once_from_none (seen ++ x ∷ []) xs)
-  where
-    by_test :
-        (t : Bool) → list_any (are_alike_bytes x) seen ≡ t → cond t (Some x) (repeat_after are_alike_bytes (seen ++ x ∷ []) xs) ≡ None →
-        (AreOnce (seen ++ x ∷ []) → repeat_after are_alike_bytes (seen ++ x ∷ []) xs ≡ None → AreOnce ((seen ++ x ∷ []) ++ xs)) → AreOnce (seen ++ x ∷ xs)
-    by_test t is none later = grind (arith, common_steps, append_assoc, times-append, eqb_tells, times-none)
-
--- and only there
-none_from_once : (seen xs : List ℕ) → AreOnce (seen ++ xs) → repeat_after are_alike_bytes seen xs ≡ None
-none_from_once seen [] once = refl
-none_from_once seen (x ∷ xs) once =
-    grind (arith, common_steps, append_assoc seen (x ∷ []) xs, times-append x seen (x ∷ xs), times-some x seen, eqb_tells, once x, none_from_once (seen ++ x ∷ []) xs)
-
-sorted-once : (bytes : List ℕ) → repeat are_alike_bytes bytes ≡ None → repeat are_alike_bytes (sorted_by fold_byte bytes) ≡ None
-sorted-once bytes none =
-    let once = once_from_none [] bytes (λ b. omega arith) (sym (repeat-after are_alike_bytes bytes) ∙ none) in
-    repeat-after are_alike_bytes (sorted_by fold_byte bytes)
-    ∙ none_from_once [] (sorted_by fold_byte bytes) (λ b. omega (arith, once b, sorted_by-counted fold_byte (are_alike_bytes b) bytes))
+sorted-once : (seen bytes : List ℕ) → once_after seen bytes ≡ None → once_after seen (sorted_by fold_byte bytes) ≡ None
+sorted-once seen [] none = none
+sorted-once seen (x ∷ bytes) none = put_by-once seen x (sorted_by fold_byte bytes) (grind (arith, common_steps, sorted-once (seen ++ x ∷ []) bytes))
 
 pub in_order-once : (es : List Extension) → repeat are_alike_bytes (map (λ e. e.singleton) es) ≡ None → repeat are_alike_bytes (map (λ e. e.singleton) (in_order es)) ≡ None
 unfolding in_order
-in_order-once es none = ap (repeat are_alike_bytes) (sorted_by-map (λ e. e.singleton) key fold_byte (λ e. refl) es) ∙ sorted-once (map (λ e. e.singleton) es) none
+in_order-once es none =
+    grind (arith, common_steps, repeat-after are_alike_bytes, sorted_by-map (λ e. e.singleton) key fold_byte (λ e. refl) es, sorted-once [] (map (λ e. e.singleton) es))

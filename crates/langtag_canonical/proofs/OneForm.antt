@@ -34,9 +34,9 @@ way_of old = by_whole (preferred_tag old) refl (is_grandfathered old) (normal_or
 
 -- two canonical forms of a text are equal
 pub one_form : (old new other : List ℕ) → IsCanonicalForm old new → IsCanonicalForm old other → new ≡ other
-one_form old new other p q = by_way (way_of old)
-  where
-    by_way : Way old → new ≡ other
-    by_way (as_whole w is) = p.whole w is ∙ sym (q.whole w is)
-    by_way (as_it_is none why) = p.kept none why ∙ sym (q.kept none why)
-    by_way (by_parts none new r spells) = p.parts none new r spells ∙ sym (q.parts none new r spells)
+one_form old new other p q =
+    elim (way_of old) [
+      | as_whole w is ↦ p.whole w is ∙ sym (q.whole w is)
+      | as_it_is none why ↦ p.kept none why ∙ sym (q.kept none why)
+      | by_parts none new r spells ↦ p.parts none new r spells ∙ sym (q.parts none new r spells)
+    ]

@@ -1,5 +1,5 @@
 -- What a subtag, a language or a whole tag becomes in a canonical form: one of its class, which is replaced by nothing more.
-use Rattle.langtag_scan.proofs.Prelude.{common_steps, ◌≡◌, ◌↔◌, ℕ, true, false, Bool, List, [], ◌∷◌, None, Some, refl, sym, ap, arith, ◌≤◌, not, leb, length, map, find, Option, is_some, IfSome, option_map, unwrap_or, ◌⊎◌, list_all, list_any, AllByRecursion, bytes_eq, bytes_decides, and_parts, leb-true, nat_tests}
+use Rattle.langtag_scan.proofs.Prelude.{common_steps, ◌≡◌, ◌↔◌, ℕ, true, false, Bool, List, [], ◌∷◌, None, Some, refl, sym, ap, arith, ◌≤◌, not, leb, length, map, find, Option, is_some, IfSome, option_map, unwrap_or, cond, list_all, list_any, AllByRecursion, bytes_eq, bytes_decides, and_parts, leb-true, nat_tests, ◌∙◌}
 use Rattle.langtag_scan.specs.Grammar.{fold_byte, fold_text, are_alike, Alike, are_alike-decides, is_primary, is_letter, is_extended, join}
 use Rattle.langtag_scan.proofs.Laws.{of_primary}
 use Rattle.langtag_fields.specs.Fields.{preferred_language, preferred_region, preferred_variant}
@@ -16,21 +16,14 @@ use Rattle.langtag_fields.proofs.Values.{value_good, found_good, value_for-alike
 
 found_small :
     (list : List (List ℕ)) (text : List ℕ) → list_all (λ t. bytes_eq (fold_text t) t) list ≡ true →
-    list_any (are_alike text) list ≡ true → find (are_alike text) list ≡ Some (fold_text text)
-found_small [] text small known = absurd cc
-found_small (t ∷ list) text small known = grind (arith, nat_tests, and_parts, are_alike-decides text t, bytes_decides (fold_text t) t, found_small list text)
+    find (are_alike text) list ≡ cond (list_any (are_alike text) list) (Some (fold_text text)) None
+found_small [] text small = refl
+found_small (t ∷ list) text small = grind (arith, nat_tests, and_parts, are_alike-decides text t, bytes_decides (fold_text t) t, found_small list text)
 
-pub extlang_small : (text : List ℕ) → is_registered_extlang text ≡ true → preferred_extlang text ≡ Some (fold_text text)
+-- an extended language is registered and becomes a language, or it is not and stays
+pub extlang_small : (text : List ℕ) → preferred_extlang text ≡ cond (is_registered_extlang text) (Some (fold_text text)) None
 unfolding is_registered_extlang preferred_extlang extlang_subtags fold_byte
-extlang_small text known = found_small extlang_subtags text refl known
-
-not_found : (list : List (List ℕ)) (text : List ℕ) → list_any (are_alike text) list ≡ false → find (are_alike text) list ≡ None
-not_found [] text other = refl
-not_found (t ∷ list) text other = grind (arith, common_steps, not_found list text)
-
-pub extlang_none : (text : List ℕ) → is_registered_extlang text ≡ false → preferred_extlang text ≡ None
-unfolding is_registered_extlang preferred_extlang
-extlang_none text other = not_found extlang_subtags text other
+extlang_small text = found_small extlang_subtags text refl
 
 -- ---- what each language becomes is put
 
@@ -39,8 +32,8 @@ pub several_pushed :
     (primary first second : List ℕ) (extended others : List (List ℕ)) (text : List ℕ) (old new : Output) → is_primary primary ≡ true → extended ≡ first ∷ second ∷ others →
     join (primary ∷ extended) ≡ text → Pushes (text ∷ []) old new → Pushes (canonical_primary primary extended ∷ canonical_extended extended) old new
 several_pushed primary first second extended others text old new class several joined these =
-    let stay : primary ∷ extended ≡ canonical_primary primary extended ∷ canonical_extended extended = rw several refl in
-    pushes_same _ _ old new stay (pushes_joined primary extended old new (of_primary primary class).some (pushes_same _ _ old new (ap (λ t. t ∷ []) (sym joined)) these))
+    let whole = sym joined ∙ ap (λ es. join (primary ∷ es)) several in
+    rw several (pushes_joined primary (first ∷ second ∷ others) old new (of_primary primary class).some (rw whole at these))
 
 -- one that is registered takes the place of the language, and becomes its Preferred-Value as a language
 pub extlang_pushed :
@@ -55,7 +48,7 @@ pub other_pushed :
     is_registered_extlang extlang ≡ false → value ≡ unwrap_or (preferred_language primary) primary → Pushes (value ∷ []) old middle →
     Pushes (extlang ∷ []) middle new → Pushes (canonical_primary primary extended ∷ canonical_extended extended) old new
 other_pushed primary value extlang extended old middle new one other same these those =
-    grind (arith, common_steps, extlang_none, pushes_both (value ∷ []) (extlang ∷ []) old middle new, pushes_same)
+    grind (arith, common_steps, extlang_small, pushes_both (value ∷ []) (extlang ∷ []) old middle new, pushes_same)
 
 -- ---- where it stays: `none` says that the primary subtag does
 
@@ -69,7 +62,7 @@ pub other_stays :
     (primary extlang : List ℕ) (extended : List (List ℕ)) (none : Bool) → extended ≡ extlang ∷ [] → is_registered_extlang extlang ≡ false →
     (none ≡ true) ↔ (unwrap_or (preferred_language primary) primary ≡ primary) →
     (none ≡ true) ↔ ((canonical_primary primary extended ≡ primary) × (canonical_extended extended ≡ extended))
-other_stays primary extlang extended none one other decided = grind (arith, common_steps, extlang_none)
+other_stays primary extlang extended none one other decided = grind (arith, common_steps, extlang_small)
 
 -- ---- what a subtag becomes in a canonical form: one of its class, which is replaced by nothing more
 
@@ -116,15 +109,16 @@ module _ (P : List ℕ → Type 0) (f : List ℕ → List ℕ) (step : (s : List
 values_settled : (list : List Entry) → list_all (λ n. not (is_some (value_for list n))) (map (λ e. e.value) list) ≡ true → IsSettled (value_for list)
 values_settled list none s new is = none_from_test (value_for list new) (value_good (λ n. not (is_some (value_for list n))) list s new none is)
 
+-- alike subtags have the same value
+pub ignore_case : IgnoresCase preferred_language × IgnoresCase preferred_region × IgnoresCase preferred_variant
+unfolding preferred_language preferred_region preferred_variant
+ignore_case = (value_for-alike language_preferred, value_for-alike region_preferred, value_for-alike variant_preferred)
+
 -- ---- languages
 
 pub language_settled : IsSettled preferred_language
 unfolding preferred_language language_preferred fold_byte
 language_settled = values_settled language_preferred refl
-
-pub language-alike : IgnoresCase preferred_language
-unfolding preferred_language
-language-alike a b alike = value_for-alike language_preferred a b alike
 
 pub new_language_short : (s new : List ℕ) → preferred_language s ≡ Some new → length new ≤ 3
 unfolding preferred_language language_preferred
@@ -136,31 +130,11 @@ pub region_settled : IsSettled preferred_region
 unfolding preferred_region region_preferred fold_byte
 region_settled = values_settled region_preferred refl
 
-pub region-alike : IgnoresCase preferred_region
-unfolding preferred_region
-region-alike a b alike = value_for-alike region_preferred a b alike
-
 pub variant_settled : IsSettled preferred_variant
 unfolding preferred_variant variant_preferred fold_byte
 variant_settled = values_settled variant_preferred refl
 
-pub variant-alike : IgnoresCase preferred_variant
-unfolding preferred_variant
-variant-alike a b alike = value_for-alike variant_preferred a b alike
-
 -- ---- extended languages
-
-is_some-find : (p : List ℕ → Bool) (list : List (List ℕ)) → is_some (find p list) ≡ list_any p list
-is_some-find p [] = refl
-is_some-find p (y ∷ list) = grind (arith, common_steps, is_some-find p list)
-
--- an extended language is registered and becomes a language, or it is not and stays
-pub extlang_cases :
-    (s : List ℕ) →
-    ((new : List ℕ) × (preferred_extlang s ≡ Some new) × (is_registered_extlang s ≡ true))
-    ⊎ ((preferred_extlang s ≡ None) × (is_registered_extlang s ≡ false))
-unfolding preferred_extlang is_registered_extlang
-extlang_cases s = grind (arith, common_steps, is_some-find (are_alike s) extlang_subtags)
 
 pub new_extlang_extended : (s new : List ℕ) → preferred_extlang s ≡ Some new → is_extended new ≡ true
 unfolding preferred_extlang extlang_subtags is_extended is_letter

@@ -2,12 +2,12 @@
 use Rattle.langtag_scan.proofs.Prelude.{◌≡◌, ℕ, ◌≤◌, ◌⊎◌, List, [], length, IsTrue, arith, true, Bool, not, ◌&&◌, ◌∷◌, Option, None, Some, is_some, unwrap_or, refl, sym, ap, subst, ◌∙◌, rules, AllByRecursion, list_all, common_steps, option_map_or, and_parts, nat_tests}
 use Rattle.langtag_scan.specs.Grammar.{is_primary, is_extended, Record, IsWellFormed, IsWellFormedExtension, Spells, spell, EachRecord, fold_byte, IsNormal}
 use Rattle.langtag_canonical.proofs.OneForm.{Way, as_whole, as_it_is, by_parts, way_of}
-use Rattle.langtag_canonical.specs.Canonical.{canonical_primary, canonical_extended, canonical_record, canonical_variants, IsCanonicalForm}
+use Rattle.langtag_canonical.specs.Canonical.{canonical_primary, canonical_extended, canonical_record, canonical_variants, in_order, IsCanonicalForm}
 use Rattle.langtag_fields.specs.Fields.{preferred_region, preferred_variant, preferred_language, preferred_tag}
 use Rattle.langtag_text.proofs.Letters.{extended_primary}
-use Rattle.langtag_canonical.proofs.ExtensionOrder.{in_order-each, in_order-twice, in_order-risen}
+use Rattle.langtag_canonical.proofs.ExtensionOrder.{key, sorted_by-each, in_order-twice}
 use Rattle.langtag_fields.proofs.FieldTables.{preferred_good, regions_good, variants_good}
-use Rattle.langtag_canonical.proofs.ReplacedSubtags.{replaced-holds, if_some-map, each-map, new_language_short, extlang_cases, new_extlang_extended, none_from_test, replaced-twice, language_settled, region_settled, variant_settled, variants_stay}
+use Rattle.langtag_canonical.proofs.ReplacedSubtags.{replaced-holds, if_some-map, each-map, new_language_short, extlang_small, new_extlang_extended, none_from_test, replaced-twice, language_settled, region_settled, variant_settled, variants_stay}
 use Rattle.langtag_scan.proofs.NormalTexts.{spelled_once}
 use Rattle.langtag.specs.Registered.{IsGrandfathered}
 use Rattle.langtag_fields.specs.Subtags.{language_preferred, region_preferred, variant_preferred, tag_preferred}
@@ -23,12 +23,12 @@ pub record IsLanguageOf (primary : List ℕ) (extended : List (List ℕ)) : Type
 
 pub canonical_language_well_formed :
     (p : List ℕ) (es : List (List ℕ)) → IsLanguageOf p es → IsLanguageOf (canonical_primary p es) (canonical_extended es)
-canonical_language_well_formed p es is = grind (arith, nat_tests, preferred_good, extlang_cases, extended_primary, new_extlang_extended, new_language_short)
+canonical_language_well_formed p es is = grind (arith, nat_tests, preferred_good, extlang_small, extended_primary, new_extlang_extended, new_language_short)
 
 pub canonical_record_well_formed : (r : Record) → IsWellFormed r → IsWellFormed (canonical_record r)
-unfolding canonical_record
+unfolding canonical_record in_order
 canonical_record_well_formed r well =
-    grind (arith, common_steps, canonical_language_well_formed r.primary r.extended, if_some-map, replaced-holds preferred_region, regions_good, each-map, replaced-holds preferred_variant, variants_good, in_order-each IsWellFormedExtension)
+    grind (arith, common_steps, canonical_language_well_formed r.primary r.extended, if_some-map, replaced-holds preferred_region, regions_good, each-map, replaced-holds preferred_variant, variants_good, sorted_by-each key IsWellFormedExtension)
 
 -- ---- the canonical record of a canonical record is itself
 
@@ -38,7 +38,7 @@ variants_twice (v ∷ vs) = grind (arith, common_steps, replaced-twice preferred
 
 pub canonical_record-twice : (r : Record) → canonical_record (canonical_record r) ≡ canonical_record r
 unfolding canonical_record
-canonical_record-twice r = grind (arith, common_steps, variants_twice, in_order-twice, replaced-twice, language_settled, extlang_cases, region_settled)
+canonical_record-twice r = grind (arith, common_steps, variants_twice, in_order-twice, replaced-twice, language_settled, extlang_small, region_settled)
 
 -- ---- the Preferred-Value of a whole tag stays: by computation
 
@@ -70,8 +70,8 @@ whole_settled text new is = none_from_test (preferred_tag new) (and_parts _ _ (s
 
 -- nor do its subtags
 pub preferred_record_stays : (text new : List ℕ) → preferred_tag text ≡ Some new → canonical_record (record_of new) ≡ record_of new
-unfolding canonical_record
-preferred_record_stays text new is = grind (arith, nat_tests, simple_record new, and_parts, stays_of text new is, none_from_test, variants_stay, in_order-risen)
+unfolding canonical_record in_order
+preferred_record_stays text new is = grind (arith, nat_tests, simple_record new, and_parts, stays_of text new is, none_from_test, variants_stay)
 
 pub preferred_itself : (text new : List ℕ) → preferred_tag text ≡ Some new → IsCanonicalForm new new
 preferred_itself text new is = search (rules, itself, whole_settled, preferred_spelled, preferred_record_stays)
@@ -103,10 +103,10 @@ each_from_one P text r spells holds q other = subst P (spelled_once r q spells.0
 
 -- a canonical form is its own
 pub form_twice : (old new : List ℕ) → IsCanonicalForm old new → IsCanonicalForm new new
-form_twice old new p = by_form (form_of old new p)
-  where
-    by_form : Form old new → IsCanonicalForm new new
-    by_form (whole_form is) = preferred_itself old new is
-    by_form (own_form none why same) = subst (λ z. IsCanonicalForm z new) (sym same) p
-    by_form (parts_form new_one r spells becomes none) = itself new (canonical_record r) none becomes (canonical_record-twice r)
-    by_form (again_form r spells is) = preferred_itself _ new is
+form_twice old new p =
+    elim (form_of old new p) [
+      | whole_form is ↦ preferred_itself old new is
+      | own_form none why same ↦ subst (λ z. IsCanonicalForm z new) (sym same) p
+      | parts_form new_one r spells becomes none ↦ itself new (canonical_record r) none becomes (canonical_record-twice r)
+      | again_form r spells is ↦ preferred_itself _ new is
+    ]

@@ -1,7 +1,7 @@
 -- The canonical form of a valid tag is valid where no two variants become the same, and only there; it has no extended language but for `zh-min`.
 use Rattle.langtag_fields.proofs.Values.{member_passes, preferred_tag-alike}
-use Rattle.langtag_scan.specs.Grammar.{are_alike-decides, fold_text, Alike, are_alike, fold_byte, is_letter, is_digit, is_variant, is_extended, grandfathered_tags, Grandfathered, Record, EachRecord, flat, IsWellFormed, Spells, segments, IsTag, IsNormal}
-use Rattle.langtag_scan.proofs.Prelude.{◌≡◌, ℕ, ◌≤◌, true, Bool, leb, List, [], ◌∷◌, length, map, None, Some, IsTrue, refl, sym, ap, arith, length-append, inl, inr, subst, ◌∙◌, rules, false, not, ◌||◌, codes, is_some, list_all, AllByRecursion, and_parts, leb-true, or_cases, both_ways, not-true, length-map, filter-append, common_steps, filter, nat_tests}
+use Rattle.langtag_scan.specs.Grammar.{are_alike-decides, Alike, are_alike, fold_byte, is_letter, is_digit, is_variant, is_extended, grandfathered_tags, Grandfathered, Record, EachRecord, flat, IsWellFormed, Spells, segments, IsTag, IsNormal}
+use Rattle.langtag_scan.proofs.Prelude.{◌≡◌, ℕ, ◌≤◌, true, Bool, leb, List, [], ◌∷◌, length, map, None, Some, IsTrue, refl, sym, ap, arith, length-append, inl, inr, subst, ◌∙◌, rules, false, not, ◌||◌, codes, is_some, list_all, AllByRecursion, and_parts, or_cases, both_ways, not-true, length-map, filter-append, common_steps, filter, nat_tests}
 use Rattle.langtag_scan.proofs.Laws.{alike_parts, spelled_segments, spelled_once, each_from_test}
 use Rattle.langtag.specs.Registered.{IsGrandfathered, IsGrandfatheredAt}
 use Rattle.langtag.specs.Repeat.{repeat}
@@ -11,9 +11,9 @@ use Rattle.langtag_fields.specs.Fields.{preferred_tag}
 use Rattle.langtag_fields.specs.Subtags.{tag_preferred}
 use Rattle.langtag_fields.specs.Registered.{is_registered_language, is_registered_extlang}
 use Rattle.langtag_fields.specs.Valid.{IsValidRecord, IsValid}
-use Rattle.langtag_canonical.proofs.ReplacedSubtags.{replaced-holds, if_some-map, each-map, extlang_cases}
+use Rattle.langtag_canonical.proofs.ReplacedSubtags.{replaced-holds, if_some-map, each-map, extlang_small}
 use Rattle.langtag_canonical.proofs.ExtensionOrder.{in_order-once}
-use Rattle.langtag_canonical.proofs.TwiceLaws.{canonical_record-twice, Form, whole_form, own_form, parts_form, form_of, again_form, each_from_one, canonical_record_well_formed}
+use Rattle.langtag_canonical.proofs.TwiceLaws.{canonical_record-twice, whole_form, own_form, parts_form, form_of, again_form, each_from_one, canonical_record_well_formed}
 use Rattle.langtag_fields.proofs.WholeTags.{record_of, simple_record, preferred_spelled, if_some_from_test, registered_from_bit, new_language_known, extlang_known, new_region_known, new_variant_known, whole_valid_of}
 
 -- ---- by computation
@@ -47,22 +47,22 @@ few_variants : (text : List ℕ) → IsAlikeOne has_few text → EachRecord text
 few_variants text (one, few, alike) = λ r spells.
     let like = alike_parts text one (sym alike) r spells in
     let same = ap (λ z. length z.variants) like.2 in
-    let all = ap (λ t. length (filter is_variant (segments t))) like.1.1 in
-    let found = ap (λ ss. length (filter is_variant ss)) (spelled_segments like.0 like.1.0) in
-    let most = leb-true (length (filter is_variant (segments one))) 1 few in
-    omega (arith, length-map r.variants fold_text, length-map like.0.variants fold_text, variants_counted like.0 like.1.0.variants, same, all, found, most)
+    grind (arith, common_steps, nat_tests, spelled_segments like.0 like.1.0, length-map, variants_counted like.0)
 
 one_apart : (vs : List (List ℕ)) → length vs ≤ 1 → repeat are_alike (canonical_variants vs) ≡ None
 one_apart [] few = refl
 one_apart (v ∷ []) few = refl
 one_apart (v ∷ w ∷ vs) few = absurd (omega (arith, few))
 
+abbrev AreApart : Record → Type 0
+AreApart r = repeat are_alike (canonical_variants r.variants) ≡ None
+
 -- so they stay apart
-pub preferred_apart : (text new : List ℕ) → preferred_tag text ≡ Some new → EachRecord text (λ r. repeat are_alike (canonical_variants r.variants) ≡ None)
+pub preferred_apart : (text new : List ℕ) → preferred_tag text ≡ Some new → EachRecord text AreApart
 unfolding preferred_tag tag_preferred is_variant is_letter is_digit
 preferred_apart text new is = λ r spells. one_apart r.variants (few_variants text (alike_subtag has_few tag_preferred text new refl is) r spells)
 
-pub grandfathered_apart : (text : List ℕ) → IsGrandfathered text → EachRecord text (λ r. repeat are_alike (canonical_variants r.variants) ≡ None)
+pub grandfathered_apart : (text : List ℕ) → IsGrandfathered text → EachRecord text AreApart
 unfolding IsGrandfathered IsGrandfatheredAt grandfathered_tags is_variant is_letter is_digit
 grandfathered_apart text (k, (entry, at, alike)) = λ r spells.
     one_apart r.variants (few_variants text (entry.text, member_passes (λ e. has_few e.text) grandfathered_tags k entry refl at, alike) r spells)
@@ -79,12 +79,10 @@ new_extlang_known s new is = extlang_known (are_alike s) new is
 pub no_extended : (es : List (List ℕ)) → AllByRecursion (λ s. IsTrue (is_registered_extlang s)) es → length es ≤ 1 → canonical_extended es ≡ []
 no_extended es known one = grind (arith, common_steps)
 
-canonical_record_valid :
-    (r : Record) → IsWellFormed r → IsValidRecord r → repeat are_alike (canonical_variants r.variants) ≡ None →
-    IsValidRecord (canonical_record r)
+canonical_record_valid : (r : Record) → IsWellFormed r → IsValidRecord r → AreApart r → IsValidRecord (canonical_record r)
 unfolding canonical_record
 canonical_record_valid r well valid once =
-    search (rules, no_extended, if_some-map, replaced-holds, new_region_known, each-map, new_variant_known, in_order-once, new_language_known, extlang_cases, new_extlang_known)
+    search (rules, no_extended, if_some-map, replaced-holds, new_region_known, each-map, new_variant_known, in_order-once, new_language_known, extlang_small, new_extlang_known)
 
 -- a text is valid that a valid record spells
 valid_spelled : (text : List ℕ) (r : Record) → Spells r text → IsValidRecord r → IsValid text
@@ -100,31 +98,24 @@ preferred_valid text new is =
 -- ---- every valid tag
 
 -- where no two variants become the same, the canonical form is valid
-pub valid_form :
-    (old new : List ℕ) → IsValid old → EachRecord old (λ r. repeat are_alike (canonical_variants r.variants) ≡ None) → IsCanonicalForm old new → IsValid new
+pub valid_form : (old new : List ℕ) → IsValid old → EachRecord old AreApart → IsCanonicalForm old new → IsValid new
 unfolding IsValid
-valid_form old new valid once p = by_form (form_of old new p)
-  where
-    by_form : Form old new → IsValid new
-    by_form (whole_form is) = preferred_valid old new is
-    by_form (own_form none why same) = subst IsValid (sym same) valid
-    by_form (parts_form new_one r spells becomes none) =
-        elim valid.1 [
-          | inl old_one ↦ absurd (new_one old_one)
-          | inr each ↦ valid_spelled new (canonical_record r) becomes (canonical_record_valid r spells.0 (each r spells) (once r spells))
-        ]
-    by_form (again_form r spells is) = preferred_valid _ new is
+valid_form old new valid once p =
+    elim (form_of old new p) [
+      | whole_form is ↦ preferred_valid old new is
+      | own_form none why same ↦ subst IsValid (sym same) valid
+      | parts_form new_one r spells becomes none ↦ grind (arith, common_steps, valid_spelled new (canonical_record r), canonical_record_valid r)
+      | again_form r spells is ↦ preferred_valid _ new is
+    ]
 
 -- ---- only where no two variants become the same
 
 -- the variants of the canonical record stay
-same_variants :
-    (r : Record) → repeat are_alike (canonical_variants (canonical_record r).variants) ≡ None →
-    repeat are_alike (canonical_variants r.variants) ≡ None
+same_variants : (r : Record) → AreApart (canonical_record r) → AreApart r
 unfolding canonical_record
 same_variants r none = ap (λ z. repeat are_alike z.variants) (sym (canonical_record-twice r)) ∙ none
 
-apart_where_valid : (r : Record) (text : List ℕ) → Spells (canonical_record r) text → IsValid text → repeat are_alike (canonical_variants r.variants) ≡ None
+apart_where_valid : (r : Record) (text : List ℕ) → Spells (canonical_record r) text → IsValid text → AreApart r
 unfolding IsValid canonical_record
 apart_where_valid r text spells valid =
     elim valid.1 [
@@ -132,20 +123,17 @@ apart_where_valid r text spells valid =
       | inr each ↦ (each (canonical_record r) spells).no_repeated_variant
     ]
 
-pub apart_form :
-    (old new : List ℕ) → IsCanonicalForm old new → IsValid new → EachRecord old (λ r. repeat are_alike (canonical_variants r.variants) ≡ None)
+pub apart_form : (old new : List ℕ) → IsCanonicalForm old new → IsValid new → EachRecord old AreApart
 unfolding IsNormal
-apart_form old new p valid = by_form (form_of old new p)
-  where
-    by_form : Form old new → EachRecord old (λ r. repeat are_alike (canonical_variants r.variants) ≡ None)
-    by_form (whole_form is) = preferred_apart old new is
-    by_form (own_form none (inl old_one) same) = grandfathered_apart old old_one
-    by_form (own_form none (inr no_normal) same) = λ r spells. absurd (no_normal (r, spells))
-    by_form (parts_form new_one r spells becomes none) =
-        each_from_one (λ q. repeat are_alike (canonical_variants q.variants) ≡ None) old r spells (apart_where_valid r new becomes valid)
-    by_form (again_form r spells is) =
-        each_from_one (λ q. repeat are_alike (canonical_variants q.variants) ≡ None) old r spells
-        (same_variants r (preferred_apart _ new is (canonical_record r) (canonical_record_well_formed r spells.0, refl)))
+apart_form old new p valid =
+    elim (form_of old new p) [
+      | whole_form is ↦ preferred_apart old new is
+      | own_form none (inl old_one) same ↦ grandfathered_apart old old_one
+      | own_form none (inr no_normal) same ↦ λ r spells. absurd (no_normal (r, spells))
+      | parts_form new_one r spells becomes none ↦ each_from_one AreApart old r spells (apart_where_valid r new becomes valid)
+      | again_form r spells is ↦
+          each_from_one AreApart old r spells (same_variants r (preferred_apart _ new is (canonical_record r) (canonical_record_well_formed r spells.0, refl)))
+    ]
 
 -- ---- the canonical form of a valid tag has no extended language, but for the grandfathered `zh-min`
 
@@ -183,18 +171,13 @@ grandfathered_none old none other (k, (entry, at, alike)) = λ r spells.
 preferred_none : (text new : List ℕ) → preferred_tag text ≡ Some new → EachRecord new HasNone
 preferred_none text new is = each_from_one HasNone new (record_of new) (preferred_spelled text new is) (simple_record new).extended
 
-pub no_extlang_form :
-    (old new : List ℕ) → IsValid old → (Alike (codes "zh-min") new → ⊥) → IsCanonicalForm old new → EachRecord new (λ r. r.extended ≡ [])
+pub no_extlang_form : (old new : List ℕ) → IsValid old → (Alike (codes "zh-min") new → ⊥) → IsCanonicalForm old new → EachRecord new HasNone
 unfolding IsValid IsNormal canonical_record
-no_extlang_form old new valid other p = by_form (form_of old new p)
-  where
-    by_form : Form old new → EachRecord new HasNone
-    by_form (whole_form is) = preferred_none old new is
-    by_form (own_form none (inl old_one) same) = grind (arith, common_steps, grandfathered_none old none)
-    by_form (own_form none (inr no_normal) same) = λ r spells. absurd (no_normal (r, (spells.0, spells.1 ∙ same)))
-    by_form (parts_form new_one r spells becomes none) =
-        elim valid.1 [
-          | inl old_one ↦ absurd (new_one old_one)
-          | inr each ↦ each_from_one HasNone new (canonical_record r) becomes (no_extended r.extended (each r spells).extended (each r spells).one_extended)
-        ]
-    by_form (again_form r spells is) = preferred_none _ new is
+no_extlang_form old new valid other p =
+    elim (form_of old new p) [
+      | whole_form is ↦ preferred_none old new is
+      | own_form none (inl old_one) same ↦ grind (arith, common_steps, grandfathered_none old none)
+      | own_form none (inr no_normal) same ↦ λ r spells. absurd (no_normal (r, (spells.0, spells.1 ∙ same)))
+      | parts_form new_one r spells becomes none ↦ each_from_one HasNone new (canonical_record r) becomes (grind (arith, common_steps, no_extended r.extended))
+      | again_form r spells is ↦ preferred_none _ new is
+    ]

@@ -44,6 +44,7 @@ const SPARE: usize = 32;
 /// canonical(alloc, LangTag::new("iw-BU")?)?.as_str(); // "he-MM"
 /// canonical(alloc, LangTag::new("zh-yue")?)?.as_str(); // "yue"
 /// ```
+#[tactic(auto, using(crate::proofs::OneForm::one_form, crate::proofs::TwiceLaws::form_twice, crate::proofs::ValidForms::valid_form, crate::proofs::ValidForms::apart_form, crate::proofs::ValidForms::no_extlang_form))]
 pub fn canonical(alloc: Global, tag: LangTag<'_>) -> Result<LangTagBuf, AllocError>
     ensures canonical { IfOk result (λ form. IsCanonicalForm (lang_tag_text tag.entry) (lang_tag_buf_text form)) }
 
@@ -90,6 +91,7 @@ pub fn is_canonical(tag: LangTag<'_>) -> bool
 /// let length = write_canonical(LangTag::new("en-BU")?, &mut buffer);
 /// buffer.get(..length); // Some(&b"en-MM"[..])
 /// ```
+#[tactic(auto, using(crate::proofs::CanonicalParts::form_written))]
 pub fn write_canonical(tag: LangTag<'_>, buffer: &mut [u8]) -> usize
     ensures canonical { WritesWhole (IsCanonicalForm (lang_tag_text tag.entry)) buffer.old buffer.new result }
     ensures untouched { length buffer.old < result → buffer.new ≡ buffer.old }
@@ -102,6 +104,7 @@ pub fn write_canonical(tag: LangTag<'_>, buffer: &mut [u8]) -> usize
 }
 
 /// Returns the canonical form of a tag. If it is a copy of the tag or of a Preferred-Value, it is not parsed again.
+#[tactic(auto, using(crate::proofs::CanonicalParts::form_is_tag, langtag::proofs::KeptFound::found_kept))]
 fn form_as_tag(alloc: Global, tag: LangTag<'_>) -> Result<LangTagBuf, AllocError>
     ensures { IfOk result (λ form. IsCanonicalForm (lang_tag_text tag.entry) (lang_tag_buf_text form)) }
 {

@@ -1,10 +1,10 @@
 -- The form of a language identifier has a language, and maybe a script and a region.
-use Rattle.langtag_keyword.proofs.Common.{each-weaker, ◌≡◌, ℕ, Bool, true, List, [], ◌∷◌, ◌++◌, ◌&&◌, length, fold, Option, Some, None, refl, sym, ap, ◌∙◌, append_assoc, arith, common_steps, length-map, flat_map, list_all, AllByRecursion, with_joined, of_primary, IsSubtag, of_variant, are_alike, is_region, is_script, is_variant, IsWellFormed, Record, extension_flat, one_flat, private_part_flat, spell, segments, Alias, TypeAlias, alias_for, is_unicode_language, both, found_has, nat_tests, each-append}
+use Rattle.langtag_keyword.proofs.Common.{each-weaker, ◌≡◌, ℕ, Bool, true, List, [], ◌∷◌, ◌++◌, ◌&&◌, length, fold, Some, None, refl, sym, ap, ◌∙◌, append_assoc, arith, common_steps, length-map, flat_map, list_all, AllByRecursion, with_joined, of_primary, IsSubtag, of_variant, are_alike, is_region, is_script, is_variant, IsWellFormed, Record, extension_flat, one_flat, private_part_flat, spell, segments, Alias, TypeAlias, alias_for, is_unicode_language, both, found_has, nat_tests, each-append}
 use Rattle.langtag_scan.specs.Grammar.{fold_byte, Spells, IsNormal}
 use Rattle.langtag_text.proofs.RecommendedLaws.{recommended_alike}
 use Rattle.langtag_text.specs.RecommendedCase.{recommended_text}
 use Rattle.langtag_text.proofs.FieldClasses.{from_region, from_script}
-use Rattle.langtag_cldr.specs.Definitions.{language_aliases, region_replacements, Likely, are_alike_fields, language_alone, likely_for, looked_up, or_else, or_other, language_rows, likely_subtags, other_rows, language_replaced, region_alone}
+use Rattle.langtag_cldr.specs.Definitions.{language_aliases, region_replacements, Likely, are_alike_fields, language_alone, likely_for, looked_up, or_other, language_rows, likely_subtags, other_rows, language_replaced, region_alone}
 use Rattle.langtag_text.specs.FieldClasses.{is_region_field, is_script_field}
 use Rattle.langtag_text.specs.Fields.{Fields, subtag_of}
 use Rattle.langtag_text.specs.Output.{with_subtag}
@@ -13,9 +13,8 @@ use Rattle.langtag_locale.specs.Locale.{is_locale_record}
 use Rattle.langtag_locale.specs.LocaleForm.{IsLocaleForm, extensions_in_order, identifier_form, language_after, locale_record, locale_text, new_variants}
 use Rattle.langtag_locale.specs.LocaleForm.{record_fields, sign_for, forms, variant_form}
 use Rattle.langtag_keyword.specs.Identifier.{identifier_flat}
-use Rattle.langtag_locale.proofs.LocaleTables.{found_good, heir_good, region_heirs_good, scripts_good, variant_regions_good}
+use Rattle.langtag_locale.proofs.LocaleTables.{all_good, found_good, heir_good}
 use Rattle.langtag_keyword.proofs.IdentifierParts.{AreSubtags, language_primary, AreVariants}
-use Rattle.langtag_cldr.specs.Likely as likely
 use Rattle.langtag_scan.specs.Class as class
 use Rattle.langtag_locale.specs.LocaleAliases as list
 use Rattle.langtag_locale.specs.LocaleForm as form
@@ -25,25 +24,18 @@ are_subtags f = is_unicode_language f.language && (is_script_field f.script && i
 
 -- ---- by computation
 
-languages_good : list_all (λ row. are_subtags row.to) language_aliases ≡ true
-unfolding language_aliases class.is_primary class.is_script class.is_region class.is_letter class.is_digit fold_byte
-languages_good = refl
+record AreClasses : Type 0 where
+  replaced : list_all (λ row. are_subtags row.to) language_aliases ≡ true
+  variants : list_all {X = TypeAlias} (λ alias. is_unicode_language alias.new) list.variant_languages ≡ true
+  signs : list_all {X = Alias} (λ alias. is_unicode_language alias.new) list.sign_languages ≡ true
+  regions : list_all (λ row. is_region_field row.to.region) region_replacements ≡ true
+  likely : list_all (λ row. is_region_field row.to.region) likely_subtags ≡ true
+  pairs : list_all {X = TypeAlias} (λ alias. is_variant alias.new) list.variant_pairs ≡ true
+  aliases : list_all {X = Alias} (λ alias. is_variant alias.new) list.variant_aliases ≡ true
 
-variant_languages_good : list_all {X = TypeAlias} (λ alias. is_unicode_language alias.new) list.variant_languages ≡ true
-unfolding list.variant_languages class.is_primary class.is_letter fold_byte
-variant_languages_good = refl
-
-sign_languages_good : list_all {X = Alias} (λ alias. is_unicode_language alias.new) list.sign_languages ≡ true
-unfolding list.sign_languages class.is_primary class.is_letter fold_byte
-sign_languages_good = refl
-
-regions_good : list_all (λ row. is_region_field row.to.region) region_replacements ≡ true
-unfolding region_replacements class.is_region class.is_letter class.is_digit fold_byte
-regions_good = refl
-
-likely_regions_good : list_all (λ row. is_region_field row.to.region) likely_subtags ≡ true
-unfolding likely_subtags language_rows other_rows class.is_region class.is_letter class.is_digit fold_byte
-likely_regions_good = refl
+classes : AreClasses
+unfolding language_aliases list.variant_languages list.sign_languages region_replacements likely_subtags language_rows other_rows list.variant_pairs list.variant_aliases class.is_primary class.is_script class.is_region class.is_variant class.is_letter class.is_digit fold_byte
+classes = record { replaced = refl; variants = refl; signs = refl; regions = refl; likely = refl; pairs = refl; aliases = refl }
 
 -- ---- what is found has what all have
 
@@ -57,12 +49,6 @@ row_found good (row ∷ rows) key to all found = grind (arith, common_steps, bot
 pub row_good : (good : Fields → Bool) (rows : List Likely) (key to : Fields) → list_all (λ row. good row.to) rows ≡ true → likely_for rows key ≡ Some to → good to ≡ true
 row_good good rows key to all found = let (row, is, alike, same) = row_found (λ row. good row.to) rows key to all found in ap good (sym same) ∙ is
 
--- the first of two values, if both have a region or none
-first_good :
-    (a b : Option Fields) → ((to : Fields) → a ≡ Some to → is_region_field to.region ≡ true) → ((to : Fields) → b ≡ Some to → is_region_field to.region ≡ true) →
-    (to : Fields) → or_else a b ≡ Some to → is_region_field to.region ≡ true
-first_good a b one two = grind (arith, nat_tests)
-
 either_good : (good : List ℕ → Bool) (text other : List ℕ) → good text ≡ true → good other ≡ true → good (or_other text other) ≡ true
 either_good good text other one two = grind (arith, nat_tests)
 
@@ -70,7 +56,7 @@ either_good good text other one two = grind (arith, nat_tests)
 
 replaced_subtags : (f : Fields) → AreSubtags f → AreSubtags (language_replaced f)
 unfolding language_replaced
-replaced_subtags f are = grind (arith, common_steps, row_good are_subtags language_aliases (language_alone f), languages_good, both, either_good)
+replaced_subtags f are = grind (arith, common_steps, row_good are_subtags language_aliases (language_alone f), classes.replaced, both, either_good)
 
 -- what holds of a language and of all new languages holds of the language after the aliases that fit
 pub fold_good :
@@ -82,7 +68,7 @@ fold_good good variants (a ∷ aliases) language all is = grind (arith, common_s
 variant_subtags : (variants : List (List ℕ)) (f : Fields) → AreSubtags f → AreSubtags (form.variant_language variants f)
 unfolding form.variant_language
 variant_subtags variants f are = record {
-  language = fold_good is_unicode_language variants list.variant_languages f.language variant_languages_good are.language;
+  language = fold_good is_unicode_language variants list.variant_languages f.language classes.variants are.language;
   script = are.script;
   region = are.region;
 }
@@ -101,7 +87,7 @@ sign_cases P f none some = grind (arith, common_steps)
 sign_subtags : (f : Fields) → AreSubtags f → AreSubtags (form.sign_language f)
 sign_subtags f are =
     sign_cases AreSubtags f (λ none. are)
-    (λ new found. record { language = sign_found is_unicode_language f new sign_languages_good found; script = are.script; region = refl })
+    (λ new found. record { language = sign_found is_unicode_language f new classes.signs found; script = are.script; region = refl })
 
 other_region-subtags : (f : Fields) (region : List ℕ) → AreSubtags f → is_region_field region ≡ true → AreSubtags (form.other_region f region)
 other_region-subtags f region are good = record { language = are.language; script = are.script; region = good }
@@ -109,14 +95,10 @@ other_region-subtags f region are good = record { language = are.language; scrip
 variant_region-subtags : (variants : List (List ℕ)) (f : Fields) → AreSubtags f → AreSubtags (form.variant_region variants f)
 unfolding form.variant_region
 variant_region-subtags variants f are =
-    other_region-subtags f _ are (either_good is_region_field f.region (form.variants_region variants list.variant_regions) are.region (grind (arith, common_steps, found_has, variant_regions_good)))
+    other_region-subtags f _ are (either_good is_region_field f.region (form.variants_region variants list.variant_regions) are.region (grind (arith, common_steps, found_has, all_good.regions)))
 
 looked_up_good : (f to : Fields) → looked_up likely_subtags f ≡ Some to → is_region_field to.region ≡ true
-looked_up_good f =
-    first_good _ _ (found f) (first_good _ _ (found (likely.without_region f)) (first_good _ _ (found (likely.without_script f)) (found (language_alone f))))
-  where
-    found : (key to : Fields) → likely_for likely_subtags key ≡ Some to → is_region_field to.region ≡ true
-    found key to is = row_good (λ to. is_region_field to.region) likely_subtags key to likely_regions_good is
+looked_up_good f to is = grind (arith, nat_tests, row_good (λ to. is_region_field to.region) likely_subtags, classes.likely)
 
 likely_region_good : (f : Fields) → is_region_field (form.likely_region f) ≡ true
 unfolding form.likely_region
@@ -128,8 +110,8 @@ new_region_good f are =
     let heir_fits : (regions : List ℕ) → alias_for list.region_heirs f.region ≡ Some regions → is_region_field (form.heir (form.likely_region f) (segments regions)) ≡ true =
     λ regions found.
     heir_good is_region_field (form.likely_region f) (segments regions) (λ has. likely_region_good f) refl
-    (found_good (λ text. list_all is_region_field (segments text)) (λ (alias : Alias). are_alike alias.old f.region) list.region_heirs regions region_heirs_good found) in
-    grind (arith, common_steps, are.region, heir_fits, row_good (λ to. is_region_field to.region) region_replacements (region_alone f), regions_good)
+    (found_good (λ text. list_all is_region_field (segments text)) (λ (alias : Alias). are_alike alias.old f.region) list.region_heirs regions all_good.heirs found) in
+    grind (arith, common_steps, are.region, heir_fits, row_good (λ to. is_region_field to.region) region_replacements (region_alone f), classes.regions)
 
 region_subtags : (f : Fields) → AreSubtags f → AreSubtags (form.with_new_region f)
 unfolding form.with_new_region
@@ -137,7 +119,7 @@ region_subtags f are = other_region-subtags f _ are (new_region_good f are)
 
 script_subtags : (f : Fields) → AreSubtags f → AreSubtags (form.with_new_script f)
 unfolding form.with_new_script
-script_subtags f are = record { language = are.language; script = grind (arith, common_steps, are.script, found_good is_script_field, scripts_good); region = are.region }
+script_subtags f are = record { language = are.language; script = grind (arith, common_steps, are.script, found_good is_script_field, all_good.scripts); region = are.region }
 
 pub form_subtags : (variants : List (List ℕ)) (f : Fields) → AreSubtags f → AreSubtags (identifier_form variants f)
 unfolding identifier_form
@@ -182,17 +164,9 @@ form_is old new r spells locale is = grind (arith, nat_tests, spelled_once r, sp
 
 -- ---- the forms of variants are variants
 
-pairs_good : list_all {X = TypeAlias} (λ alias. is_variant alias.new) list.variant_pairs ≡ true
-unfolding list.variant_pairs class.is_variant class.is_letter class.is_digit
-pairs_good = refl
-
-aliases_good : list_all {X = Alias} (λ alias. is_variant alias.new) list.variant_aliases ≡ true
-unfolding list.variant_aliases class.is_variant class.is_letter class.is_digit
-aliases_good = refl
-
 pub variant_good : (language : List ℕ) (variants : List (List ℕ)) (v : List ℕ) → is_variant v ≡ true → AreVariants (one_flat (subtag_of (variant_form language variants v)))
 unfolding variant_form
-variant_good language variants v is = grind (arith, nat_tests, found_good is_variant, aliases_good, found_has, pairs_good)
+variant_good language variants v is = grind (arith, nat_tests, found_good is_variant, classes.aliases, found_has, classes.pairs)
 
 pub forms_good : (language : List ℕ) (variants vs : List (List ℕ)) → AreVariants vs → AreVariants (forms language variants vs)
 forms_good language variants [] are = tt

@@ -1,21 +1,20 @@
 -- The form of a language identifier is its own form, in any case of its letters.
 use Rattle.std.proofs.lemmas.Bool.Decides.{nat_tests}
-use Rattle.langtag_keyword.proofs.Common.{rules, arith, ◌≡◌, ℕ, Bool, true, false, not, cond, List, [], ◌∷◌, ◌&&◌, ◌||◌, fold, Option, Some, None, find, refl, sym, ap, ◌∙◌, unwrap_or, common_steps, false_from_ne_true, false≢true, not-true, AllByRecursion, list_all, is_none, is_some, option_map_or, IsTrue, codes, each-append, each_from_test, Alike, are_alike, are_alike-decides, one_flat, segments, Alias, TypeAlias, alias_for, type_alias_for, both, found_has, fold_text-twice}
+use Rattle.langtag_keyword.proofs.Common.{rules, arith, ◌≡◌, ℕ, Bool, true, false, not, cond, List, [], ◌∷◌, ◌&&◌, ◌||◌, fold, Option, Some, None, find, refl, sym, ap, ◌∙◌, unwrap_or, common_steps, false_from_ne_true, false≢true, not-true, AllByRecursion, list_all, is_some, option_map_or, IsTrue, codes, each-append, each_from_test, Alike, are_alike, are_alike-decides, one_flat, segments, Alias, TypeAlias, alias_for, type_alias_for, both, found_has, fold_text-twice}
 use Rattle.std.proofs.lemmas.Bool.{cond_both, or_parts}
 use Rattle.langtag_cldr.proofs.AlikeFields.{likely_for-alike}
 use Rattle.langtag_text.proofs.Alike.{are_alike-left, are_alike-right}
 use Rattle.langtag_cldr.specs.Definitions.{language_aliases, region_replacements, language_alone, likely_for, language_replaced, region_alone}
 use Rattle.langtag_text.specs.Fields.{Fields, subtag_of}
-use Rattle.langtag_locale.specs.LocaleForm.{forms, has_variant, language_after, sign_for, variant_form, identifier_form, new_variants}
+use Rattle.langtag_locale.specs.LocaleForm.{forms, has_variant, heir, language_after, sign_for, variant_form, identifier_form, new_variants}
 use Rattle.langtag_locale.proofs.LocaleCase.{has_variant-alike, is_gone, region_by, replaced_by, replacement}
 use Rattle.langtag_keyword.proofs.Aliases.{alias_for-alike, type_alias_for-alike}
 use Rattle.langtag_locale.proofs.IdentifierForms.{row_good, sign_cases, sign_found, fold_good}
-use Rattle.langtag_locale.proofs.LocaleTables.{heirs_last, is_last_language, is_last_region, is_last_script, is_last_sign, is_last_variant, is_old_language, no_region_last, pairs_last, replaced_last, replacements_last, scripts_last, sign_languages_last, stays_always, variants_last, found_good, heir_good, languages_old, pairs_replaced, regions_dropped, variant_languages_last}
+use Rattle.langtag_locale.proofs.LocaleTables.{is_last_language, is_last_region, is_last_script, is_last_sign, is_last_variant, is_old_language, replaced_last, replacements_last, stays_always, found_good, heir_good, last_languages, last_places, last_variants}
 use Rattle.langtag_keyword.proofs.AlphabetLaws.{in_alphabet-twice, each-alphabet}
 use Rattle.langtag_locale.specs.LocaleAliases as list
 use Rattle.langtag_locale.specs.LocaleForm as form
 use Rattle.langtag_cldr.proofs.CanonicalFields.{none_is}
-use Rattle.langtag_scan.proofs.BoolFacts.{list_all-weaker}
 
 -- ---- what is not found
 
@@ -52,7 +51,7 @@ stays-with language v always = grind (arith, common_steps, both, is_last_variant
 
 variant_stays : (language : List ℕ) (variants : List (List ℕ)) (v : List ℕ) → AllByRecursion (Stays language) (one_flat (subtag_of (variant_form language variants v)))
 unfolding variant_form
-variant_stays language variants v = grind (arith, common_steps, cond_both, is_gone, replacement, or_parts, not_some, stays-with, found_good, stays_always, variants_last, replaced_by, found_has, pairs_last)
+variant_stays language variants v = grind (arith, common_steps, cond_both, is_gone, replacement, or_parts, not_some, stays-with, found_good, stays_always, last_variants.aliases, replaced_by, found_has, last_variants.pairs)
 
 pub forms-stay : (language : List ℕ) (variants vs : List (List ℕ)) → AllByRecursion (Stays language) (forms language variants vs)
 forms-stay language variants [] = tt
@@ -72,7 +71,7 @@ pub sign-last : (f : Fields) → sign_for (form.sign_language f) ≡ None
 sign-last f =
     sign_cases (λ x. sign_for x ≡ None) f (λ none. none)
     (λ new found.
-    let parts = both (is_last_language new) (not (are_alike new (codes "sgn"))) (sign_found is_last_sign f new sign_languages_last found) in
+    let parts = both (is_last_language new) (not (are_alike new (codes "sgn"))) (sign_found is_last_sign f new last_languages.no_sign found) in
     ap (λ b. cond b (alias_for list.sign_languages []) None) (not-true _ parts.1))
 
 -- an old language with a variant is not new: a language that is alike it was so before
@@ -101,24 +100,19 @@ fold_stays variants (a ∷ aliases) l all never = grind (arith, common_steps, bo
 
 pub new_region-last : (f : Fields) → is_last_region (form.new_region f) ≡ true
 unfolding form.new_region
-new_region-last f = by_row (likely_for region_replacements (region_alone f)) refl
-  where
-    by_heirs : (o : Option (List ℕ)) → likely_for region_replacements (region_alone f) ≡ None → alias_for list.region_heirs f.region ≡ o → is_last_region (region_by f None o) ≡ true
-    by_heirs None stays none = ap (λ o. is_none o && is_none (alias_for list.region_heirs f.region)) stays ∙ ap (λ o. is_none o) none
-    by_heirs (Some regions) stays found =
-        let all = found_good (λ text. list_all is_last_region (segments text)) (λ (alias : Alias). are_alike alias.old f.region) list.region_heirs regions heirs_last found in
-        heir_good is_last_region (form.likely_region f) (segments regions)
-        (among (λ r. IsTrue (is_last_region r)) (λ a b alike is. grind (arith, common_steps, likely_for-alike, alias_for-alike)) (segments regions) (each_from_test is_last_region (segments regions) all) (form.likely_region f)) no_region_last all
-
-    by_row : (o : Option Fields) → likely_for region_replacements (region_alone f) ≡ o → is_last_region (region_by f o (alias_for list.region_heirs f.region)) ≡ true
-    by_row None none = by_heirs (alias_for list.region_heirs f.region) none refl
-    by_row (Some to) found = row_good (λ to. is_last_region to.region) region_replacements (region_alone f) to replacements_last found
+new_region-last f =
+    let heir_last : (regions : List ℕ) → alias_for list.region_heirs f.region ≡ Some regions → is_last_region (heir (form.likely_region f) (segments regions)) ≡ true =
+    λ regions found.
+    let all = found_good (λ text. list_all is_last_region (segments text)) (λ (alias : Alias). are_alike alias.old f.region) list.region_heirs regions last_places.heirs found in
+    heir_good is_last_region (form.likely_region f) (segments regions)
+    (among (λ r. IsTrue (is_last_region r)) (λ a b alike is. grind (arith, common_steps, likely_for-alike, alias_for-alike)) (segments regions) (each_from_test is_last_region (segments regions) all) (form.likely_region f)) last_places.no_region all in
+    grind (arith, common_steps, heir_last, row_good (λ to. is_last_region to.region) region_replacements (region_alone f), replacements_last)
 
 pub sign-region : (f : Fields) → is_last_region f.region ≡ true → is_last_region (form.sign_language f).region ≡ true
-sign-region f is = sign_cases (λ x. is_last_region x.region ≡ true) f (λ none. is) (λ new found. no_region_last)
+sign-region f is = sign_cases (λ x. is_last_region x.region ≡ true) f (λ none. is) (λ new found. last_places.no_region)
 
 pub new_script-last : (f : Fields) → is_last_script (form.new_script f) ≡ true
-new_script-last f = grind (arith, common_steps, found_good is_last_script (λ (alias : Alias). are_alike alias.old f.script) list.script_aliases, scripts_last)
+new_script-last f = grind (arith, common_steps, found_good is_last_script (λ (alias : Alias). are_alike alias.old f.script) list.script_aliases, last_places.scripts)
 
 -- ---- the form of the form
 
@@ -151,14 +145,9 @@ module _ (variants : List (List ℕ)) (f : Fields) where
   last_language : is_last_language final.language ≡ true
   unfolding identifier_form form.with_new_script form.with_new_region form.variant_region form.variant_language
   last_language =
-      sign-good is_last_language after_region signs
-      (sign-good is_last_language (form.variant_language variants (language_replaced f)) signs
-      (fold_good is_last_language variants list.variant_languages language variant_languages_last (replaced-last f)))
-    where
-      signs : list_all {X = Alias} (λ alias. is_last_language alias.new) list.sign_languages ≡ true
-      signs =
-          list_all-weaker (λ (alias : Alias). is_last_sign alias.new) (λ (alias : Alias). is_last_language alias.new)
-          (λ alias last. (both (is_last_language alias.new) (not (are_alike alias.new (codes "sgn"))) last).0) list.sign_languages sign_languages_last
+      sign-good is_last_language after_region last_languages.signs
+      (sign-good is_last_language (form.variant_language variants (language_replaced f)) last_languages.signs
+      (fold_good is_last_language variants list.variant_languages language last_languages.variants (replaced-last f)))
 
   last_sign : sign_for final ≡ None
   unfolding identifier_form form.with_new_script
@@ -199,7 +188,7 @@ module _ (variants : List (List ℕ)) (f : Fields) where
 
   variant_again : form.variant_language news final ≡ final
   unfolding form.variant_language
-  variant_again = ap (form.other_language final) (fold_stays news list.variant_languages final.language languages_old none_left)
+  variant_again = ap (form.other_language final) (fold_stays news list.variant_languages final.language last_languages.old none_left)
 
   sign_again : form.sign_language final ≡ final
   unfolding form.sign_language
@@ -207,7 +196,7 @@ module _ (variants : List (List ℕ)) (f : Fields) where
 
   variant_region_again : form.variant_region news final ≡ final
   unfolding form.variant_region
-  variant_region_again = grind (arith, common_steps, none_found, is_last_variant, regions_dropped, false_from_ne_true, false≢true, not-true, new-stays)
+  variant_region_again = grind (arith, common_steps, none_found, is_last_variant, last_variants.regions, false_from_ne_true, false≢true, not-true, new-stays)
 
   region_again : form.with_new_region final ≡ final
   unfolding form.with_new_region form.new_region
@@ -226,7 +215,7 @@ module _ (variants : List (List ℕ)) (f : Fields) where
 
   stays_again : (v : List ℕ) → Stays language v → variant_form final.language news v ≡ v
   unfolding variant_form
-  stays_again v stays = search (rules, stays, both, replacement, none_found, is_old_language, languages_old, not_both, no_alias, not-true, replaced_by, is_last_variant, pairs_replaced, false≢true, new-stays, none_is)
+  stays_again v stays = search (rules, stays, both, replacement, none_found, is_old_language, last_languages.old, not_both, no_alias, not-true, replaced_by, is_last_variant, last_variants.seconds, false≢true, new-stays, none_is)
 
   forms-again : (vs : List (List ℕ)) → AllByRecursion (Stays language) vs → forms final.language news vs ≡ vs
   forms-again [] all = refl

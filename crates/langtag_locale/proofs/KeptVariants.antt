@@ -13,21 +13,15 @@ use Rattle.langtag_locale.proofs.IdentifierTwice.{none_found, not_both}
 is_listed : List ℕ → Bool
 is_listed v = list_any (λ n. n == order_number v) CHANGING_VARIANTS
 
-languages_listed : list_all {X = TypeAlias} (λ alias. is_listed alias.old) list.variant_languages ≡ true
-unfolding is_listed list.variant_languages fold_byte
-languages_listed = refl
+record AreListed : Type 0 where
+  languages : list_all {X = TypeAlias} (λ alias. is_listed alias.old) list.variant_languages ≡ true
+  dropped : list_all is_listed list.dropped_variants ≡ true
+  pairs : list_all {X = TypeAlias} (λ alias. is_listed alias.key) list.variant_pairs ≡ true
+  aliases : list_all {X = Alias} (λ alias. is_listed alias.old) list.variant_aliases ≡ true
 
-dropped_listed : list_all is_listed list.dropped_variants ≡ true
-unfolding is_listed list.dropped_variants fold_byte
-dropped_listed = refl
-
-pairs_listed : list_all {X = TypeAlias} (λ alias. is_listed alias.key) list.variant_pairs ≡ true
-unfolding is_listed list.variant_pairs fold_byte
-pairs_listed = refl
-
-aliases_listed : list_all {X = Alias} (λ alias. is_listed alias.old) list.variant_aliases ≡ true
-unfolding is_listed list.variant_aliases fold_byte
-aliases_listed = refl
+all_listed : AreListed
+unfolding is_listed list.variant_languages list.dropped_variants list.variant_pairs list.variant_aliases fold_byte
+all_listed = record { languages = refl; dropped = refl; pairs = refl; aliases = refl }
 
 -- alike texts have one number
 listed-alike : (a b : List ℕ) → are_alike a b ≡ true → is_listed a ≡ is_listed b
@@ -48,7 +42,7 @@ module _ (v : List ℕ) (absent : is_listed v ≡ false) where
   kept_form : (language : List ℕ) (variants : List (List ℕ)) → variant_form language variants v ≡ v
   unfolding variant_form
   kept_form language variants =
-      grind (arith, nat_tests, none_found, languages_listed, not_both, false≢true, apart, not_dropped, dropped_listed, pairs_listed, aliases_listed)
+      grind (arith, nat_tests, none_found, all_listed.languages, not_both, false≢true, apart, not_dropped, all_listed.dropped, all_listed.pairs, all_listed.aliases)
 
 -- a variant whose number is not in the table
 pub kept : (v : List ℕ) (n : ℕ) → order_number v ≡ n → list_any (λ m. m == n) CHANGING_VARIANTS ≡ false → (language : List ℕ) (variants : List (List ℕ)) → variant_form language variants v ≡ v

@@ -136,8 +136,7 @@ module _ (language other : List ℕ) (variants others : List (List ℕ)) (langua
     where
       gone : is_gone language v ≡ is_gone other w
       gone =
-          ap (λ o. is_some o || has_variant list.dropped_variants v) (type_alias_for-alike list.variant_languages language other v w languages same)
-          ∙ ap (λ b. is_some (type_alias_for list.variant_languages other w) || b) (has_variant-alike list.dropped_variants v w same)
+          rw (type_alias_for-alike list.variant_languages language other v w languages same, has_variant-alike list.dropped_variants v w same) refl
 
       same_new : replacement variants v ≡ replacement others w
       same_new =
@@ -146,22 +145,14 @@ module _ (language other : List ℕ) (variants others : List (List ℕ)) (langua
           ∙ ap (or_else (option_map (λ (a : TypeAlias). a.new) (find (is_pair_of others w) list.variant_pairs))) (alias_for-alike list.variant_aliases v w same)
 
   one-alike : (a b : List ℕ) → Alike a b → AreAlike (one_flat (subtag_of a)) (one_flat (subtag_of b))
-  one-alike [] [] same = refl
-  one-alike [] (y ∷ b) same = absurd cc
-  one-alike (x ∷ a) [] same = absurd cc
-  one-alike (x ∷ a) (y ∷ b) same = ap (λ t. t ∷ []) same
+  one-alike a b same = grind (arith, nat_tests)
 
   forms-alike : (vs ws : List (List ℕ)) → AreAlike vs ws → AreAlike (forms language variants vs) (forms other others ws)
   forms-alike [] [] same = refl
   forms-alike [] (w ∷ ws) same = absurd cc
   forms-alike (v ∷ vs) [] same = absurd cc
   forms-alike (v ∷ vs) (w ∷ ws) same =
-      let first : fold_text v ≡ fold_text w = cc in
-      let rest : map fold_text vs ≡ map fold_text ws = cc in
-      map-append fold_text (one_flat (subtag_of (variant_form language variants v))) (forms language variants vs)
-      ∙ ap (λ t. t ++ map fold_text (forms language variants vs)) (one-alike (variant_form language variants v) (variant_form other others w) (variant_form-alike v w first))
-      ∙ ap (λ t. map fold_text (one_flat (subtag_of (variant_form other others w))) ++ t) (forms-alike vs ws rest)
-      ∙ sym (map-append fold_text (one_flat (subtag_of (variant_form other others w))) (forms other others ws))
+      grind (arith, nat_tests, map-append, one-alike (variant_form language variants v) (variant_form other others w), variant_form-alike v w, forms-alike vs ws)
 
 -- identifiers that are equal but for case have the same variants in their forms
 pub new_variants-alike : (v w : List (List ℕ)) (f g : Fields) → AreAlike v w → AlikeFields f g → new_variants v f ≡ new_variants w g
@@ -253,11 +244,8 @@ locale-alike r q alike = sym (locale-fold r) ∙ ap is_locale_record alike ∙ l
 
 -- ---- the form
 
-lower_subtag : (s : List ℕ) → option_map fold_text (subtag_of s) ≡ subtag_of (fold_text s)
-lower_subtag s = grind (arith, nat_tests)
-
 subtag-alike : (s t : List ℕ) → Alike s t → option_map fold_text (subtag_of s) ≡ option_map fold_text (subtag_of t)
-subtag-alike s t alike = lower_subtag s ∙ ap subtag_of alike ∙ sym (lower_subtag t)
+subtag-alike s t alike = grind (arith, nat_tests)
 
 private_use-twice : (o : Option PrivateUse) → option_map fold_private_use (option_map fold_private_use o) ≡ option_map fold_private_use o
 private_use-twice o = grind (arith, nat_tests, fold_byte-twice, lower-twice)

@@ -1,6 +1,6 @@
 -- The form of a Unicode locale identifier is a tag.
-use Rattle.langtag_keyword.proofs.Common.{common_steps, flat_map-append, ◌≡◌, ◌<◌, List, ℕ, Bool, [], ◌∷◌, ◌++◌, ◌&&◌, true, false, cond, length, get_or, map, Option, None, Some, option_map, refl, sym, ap, ◌∙◌, arith, append-nil, ◌≤◌, inl, inr, false≢true, AllByRecursion, flat_map, list_all, option_map_or, extension_found, SpellsExtension, SpellsExtensions, extension_spelling, find_extension, fold_byte, length-join, is_primary, is_region, is_script, Extension, IsWellFormedExtension, extension_flat, IsWellFormed, Record, one_flat, spell, is_of, is_transform, unicode_form, is_language_or_none, nat_tests, IsTrue, IsSubtag, of_primary, of_variant, each-append, both, found_has}
-use Rattle.langtag_scan.proofs.Prelude.{list_all_at, IfSome}
+use Rattle.langtag_keyword.proofs.Common.{common_steps, flat_map-append, ◌≡◌, ◌<◌, List, ℕ, Bool, [], ◌∷◌, ◌++◌, ◌&&◌, true, false, cond, length, get_or, map, Option, None, Some, option_map, refl, sym, ap, ◌∙◌, arith, append-nil, ◌≤◌, inl, inr, false≢true, AllByRecursion, flat_map, list_all, option_map_or, extension_found, SpellsExtension, SpellsExtensions, extension_spelling, find_extension, fold_byte, length-join, is_primary, Extension, IsWellFormedExtension, extension_flat, IsWellFormed, Record, one_flat, spell, is_of, is_transform, unicode_form, is_language_or_none, nat_tests, IsSubtag, of_primary, of_variant, each-append, both, found_has}
+use Rattle.langtag_scan.proofs.Prelude.{list_all_at}
 use Rattle.langtag_scan.specs.Grammar.{is_singleton, is_extension_subtag, IsNormal, IsTag}
 use Rattle.langtag_extension.proofs.ExtensionLookUp.{first_byte-spelling}
 use Rattle.langtag_text.specs.FieldClasses.{is_region_field, is_script_field}
@@ -149,12 +149,6 @@ extensions_good es fits allowed (n ∷ ns) = each-append _ (extension_at es n) (
 
 -- ---- the tag
 
-script_part : (s : List ℕ) → is_script_field s ≡ true → IfSome (subtag_of s) (λ t. IsTrue (is_script t))
-script_part s is = grind (arith, nat_tests)
-
-region_part : (s : List ℕ) → is_region_field s ≡ true → IfSome (subtag_of s) (λ t. IsTrue (is_region t))
-region_part s is = grind (arith, nat_tests)
-
 -- ---- which texts are Unicode locale identifiers
 
 pub all_allowed : (r : Record) → is_locale_record r ≡ true → list_all is_locale_extension r.extensions ≡ true
@@ -170,8 +164,8 @@ locale_well_formed r fits locale =
       extended = tt;
       few = omega arith;
       short = inr refl;
-      script = script_part form.script subtags.script;
-      region = region_part form.region subtags.region;
+      script = grind (arith, subtags.script);
+      region = grind (arith, subtags.region);
       variants = new_variants_good r.variants (record_fields r) fits.variants;
       extensions = extensions_good r.extensions fits.extensions (all_allowed r locale) singletons;
       private_use = fits.private_use;

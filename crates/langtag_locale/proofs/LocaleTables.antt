@@ -9,59 +9,32 @@ use Rattle.langtag_cldr.specs.Definitions.{language_aliases, region_replacements
 use Rattle.langtag_locale.specs.LocaleAliases as list
 use Rattle.langtag_locale.specs.declared.locale_tables.TheConstants as table
 
-pub variant_language_rows : map (λ row. record { key = row.0.now; old = row.1.now; new = row.2.now }) table.VARIANT_LANGUAGES ≡ list.variant_languages
-unfolding list.variant_languages
-variant_language_rows = refl
+pub record AreRows : Type 0 where
+  pub languages : map (λ row. record { key = row.0.now; old = row.1.now; new = row.2.now }) table.VARIANT_LANGUAGES ≡ list.variant_languages
+  pub pairs : map (λ row. record { key = row.0.now; old = row.1.now; new = row.2.now }) table.VARIANT_PAIRS ≡ list.variant_pairs
+  pub aliases : map (λ row. record { old = row.0.now; new = row.1.now }) table.VARIANT_ALIASES ≡ list.variant_aliases
+  pub dropped : map (λ row. row.now) table.DROPPED_VARIANTS ≡ list.dropped_variants
+  pub signs : map (λ row. record { old = row.0.now; new = row.1.now }) table.SIGN_LANGUAGES ≡ list.sign_languages
+  pub regions : map (λ row. record { old = row.0.now; new = row.1.now }) table.VARIANT_REGIONS ≡ list.variant_regions
+  pub heirs : map (λ row. record { old = row.0.now; new = row.1.now }) table.REGION_HEIRS ≡ list.region_heirs
+  pub scripts : map (λ row. record { old = row.0.now; new = row.1.now }) table.SCRIPT_ALIASES ≡ list.script_aliases
 
-pub variant_pair_rows : map (λ row. record { key = row.0.now; old = row.1.now; new = row.2.now }) table.VARIANT_PAIRS ≡ list.variant_pairs
-unfolding list.variant_pairs
-variant_pair_rows = refl
-
-pub variant_alias_rows : map (λ row. record { old = row.0.now; new = row.1.now }) table.VARIANT_ALIASES ≡ list.variant_aliases
-unfolding list.variant_aliases
-variant_alias_rows = refl
-
-pub dropped_rows : map (λ row. row.now) table.DROPPED_VARIANTS ≡ list.dropped_variants
-unfolding list.dropped_variants
-dropped_rows = refl
-
-pub sign_language_rows : map (λ row. record { old = row.0.now; new = row.1.now }) table.SIGN_LANGUAGES ≡ list.sign_languages
-unfolding list.sign_languages
-sign_language_rows = refl
-
-pub variant_region_rows : map (λ row. record { old = row.0.now; new = row.1.now }) table.VARIANT_REGIONS ≡ list.variant_regions
-unfolding list.variant_regions
-variant_region_rows = refl
-
-pub region_heir_rows : map (λ row. record { old = row.0.now; new = row.1.now }) table.REGION_HEIRS ≡ list.region_heirs
-unfolding list.region_heirs
-region_heir_rows = refl
-
-pub script_rows : map (λ row. record { old = row.0.now; new = row.1.now }) table.SCRIPT_ALIASES ≡ list.script_aliases
-unfolding list.script_aliases
-script_rows = refl
+pub all_rows : AreRows
+unfolding list.variant_languages list.variant_pairs list.variant_aliases list.dropped_variants list.sign_languages list.variant_regions list.region_heirs list.script_aliases
+all_rows = record { languages = refl; pairs = refl; aliases = refl; dropped = refl; signs = refl; regions = refl; heirs = refl; scripts = refl }
 
 -- ---- classes
 
-pub variant_languages_good : list_all (λ alias. is_language_field alias.new) list.variant_languages ≡ true
-unfolding list.variant_languages is_primary is_letter fold_byte
-variant_languages_good = refl
+pub record AreGood : Type 0 where
+  pub languages : list_all (λ alias. is_language_field alias.new) list.variant_languages ≡ true
+  pub signs : list_all (λ alias. is_language_field alias.new) list.sign_languages ≡ true
+  pub regions : list_all (λ alias. is_region_field alias.new) list.variant_regions ≡ true
+  pub heirs : list_all (λ alias. list_all is_region_field (segments alias.new)) list.region_heirs ≡ true
+  pub scripts : list_all (λ alias. is_script_field alias.new) list.script_aliases ≡ true
 
-pub sign_languages_good : list_all (λ alias. is_language_field alias.new) list.sign_languages ≡ true
-unfolding list.sign_languages is_primary is_letter fold_byte
-sign_languages_good = refl
-
-pub variant_regions_good : list_all (λ alias. is_region_field alias.new) list.variant_regions ≡ true
-unfolding list.variant_regions is_region is_letter is_digit fold_byte
-variant_regions_good = refl
-
-pub region_heirs_good : list_all (λ alias. list_all is_region_field (segments alias.new)) list.region_heirs ≡ true
-unfolding list.region_heirs is_region is_letter is_digit fold_byte
-region_heirs_good = refl
-
-pub scripts_good : list_all (λ alias. is_script_field alias.new) list.script_aliases ≡ true
-unfolding list.script_aliases is_script is_letter fold_byte
-scripts_good = refl
+pub all_good : AreGood
+unfolding list.variant_languages list.sign_languages list.variant_regions list.region_heirs list.script_aliases is_primary is_region is_script is_letter is_digit fold_byte
+all_good = record { languages = refl; signs = refl; regions = refl; heirs = refl; scripts = refl }
 
 -- no language changes if there are no variants
 pub no_variants : (language : List ℕ) (aliases : List TypeAlias) → fold (language_after []) language aliases ≡ language
@@ -120,17 +93,9 @@ is_last_language l = is_none (likely_for language_aliases (record { language = l
 pub replaced_last : list_all (λ row. is_last_language row.to.language) language_aliases ≡ true
 replaced_last = all_new (λ row. language_alone row.to) language_aliases language_aliases languages_new
 
-pub variant_languages_last : list_all {X = TypeAlias} (λ alias. is_last_language alias.new) list.variant_languages ≡ true
-unfolding language_aliases list.variant_languages fold_byte
-variant_languages_last = refl
-
 -- a language that no alias replaces, and that is not `sgn`
 abbrev pub is_last_sign : List ℕ → Bool
 is_last_sign l = is_last_language l && not (are_alike l (codes "sgn"))
-
-pub sign_languages_last : list_all {X = Alias} (λ alias. is_last_sign alias.new) list.sign_languages ≡ true
-unfolding language_aliases list.sign_languages fold_byte
-sign_languages_last = refl
 
 -- the language of an alias with a variant has this alias, and no other language becomes it
 abbrev pub is_old_language : TypeAlias → Bool
@@ -139,9 +104,15 @@ is_old_language a =
     && (list_all {X = TypeAlias} (λ b. not (are_alike a.key b.new) || are_alike a.key b.key) list.variant_languages
     && list_all {X = Alias} (λ b. not (are_alike a.key b.new)) list.sign_languages)
 
-pub languages_old : list_all is_old_language list.variant_languages ≡ true
-unfolding list.variant_languages list.sign_languages fold_byte
-languages_old = refl
+pub record AreLastLanguages : Type 0 where
+  pub variants : list_all {X = TypeAlias} (λ alias. is_last_language alias.new) list.variant_languages ≡ true
+  pub signs : list_all {X = Alias} (λ alias. is_last_language alias.new) list.sign_languages ≡ true
+  pub no_sign : list_all {X = Alias} (λ alias. is_last_sign alias.new) list.sign_languages ≡ true
+  pub old : list_all is_old_language list.variant_languages ≡ true
+
+pub last_languages : AreLastLanguages
+unfolding language_aliases list.variant_languages list.sign_languages fold_byte
+last_languages = record { variants = refl; signs = refl; no_sign = refl; old = refl }
 
 -- ---- regions and scripts
 
@@ -149,34 +120,28 @@ languages_old = refl
 abbrev pub is_last_region : List ℕ → Bool
 is_last_region r = is_none (likely_for region_replacements (record { language = []; script = []; region = r })) && is_none (alias_for list.region_heirs r)
 
-pub no_region_last : is_last_region [] ≡ true
-unfolding region_replacements list.region_heirs fold_byte
-no_region_last = refl
+-- a script that no alias replaces
+abbrev pub is_last_script : List ℕ → Bool
+is_last_script s = is_none (alias_for list.script_aliases s)
 
-no_heirs : list_all (λ (row : Likely). is_none (alias_for list.region_heirs row.to.region)) region_replacements ≡ true
-unfolding region_replacements list.region_heirs fold_byte
-no_heirs = refl
+pub record AreLastPlaces : Type 0 where
+  pub no_region : is_last_region [] ≡ true
+  no_heirs : list_all (λ (row : Likely). is_none (alias_for list.region_heirs row.to.region)) region_replacements ≡ true
+  pub heirs : list_all {X = Alias} (λ alias. list_all is_last_region (segments alias.new)) list.region_heirs ≡ true
+  pub scripts : list_all {X = Alias} (λ alias. is_last_script alias.new) list.script_aliases ≡ true
+
+pub last_places : AreLastPlaces
+unfolding region_replacements list.region_heirs list.script_aliases fold_byte
+last_places = record { no_region = refl; no_heirs = refl; heirs = refl; scripts = refl }
 
 pub replacements_last : list_all (λ row. is_last_region row.to.region) region_replacements ≡ true
-replacements_last = each region_replacements (all_new (λ row. region_alone row.to) region_replacements region_replacements regions_new) no_heirs
+replacements_last = each region_replacements (all_new (λ row. region_alone row.to) region_replacements region_replacements regions_new) last_places.no_heirs
   where
     each :
         (rows : List Likely) → list_all (λ (row : Likely). is_none (likely_for region_replacements (region_alone row.to))) rows ≡ true →
         list_all (λ (row : Likely). is_none (alias_for list.region_heirs row.to.region)) rows ≡ true → list_all (λ (row : Likely). is_last_region row.to.region) rows ≡ true
     each [] new none = refl
     each (row ∷ rows) new none = grind (arith, nat_tests, each rows)
-
-pub heirs_last : list_all {X = Alias} (λ alias. list_all is_last_region (segments alias.new)) list.region_heirs ≡ true
-unfolding region_replacements list.region_heirs fold_byte
-heirs_last = refl
-
--- a script that no alias replaces
-abbrev pub is_last_script : List ℕ → Bool
-is_last_script s = is_none (alias_for list.script_aliases s)
-
-pub scripts_last : list_all {X = Alias} (λ alias. is_last_script alias.new) list.script_aliases ≡ true
-unfolding list.script_aliases fold_byte
-scripts_last = refl
 
 -- ---- variants
 
@@ -188,20 +153,14 @@ is_last_variant v = not (has_variant list.dropped_variants v) && is_none (alias_
 abbrev pub stays_always : List ℕ → Bool
 stays_always v = is_last_variant v && not (are_alike v []) && list_all {X = TypeAlias} (λ a. not (are_alike a.old v)) list.variant_languages
 
-pub pairs_last : list_all {X = TypeAlias} (λ alias. stays_always alias.new) list.variant_pairs ≡ true
-unfolding list.variant_pairs list.variant_aliases list.variant_languages list.dropped_variants fold_byte
-pairs_last = refl
+pub record AreLastVariants : Type 0 where
+  pub pairs : list_all {X = TypeAlias} (λ alias. stays_always alias.new) list.variant_pairs ≡ true
+  pub aliases : list_all {X = Alias} (λ alias. stays_always alias.new) list.variant_aliases ≡ true
+  -- a variant that brings a region is left out
+  pub regions : list_all {X = Alias} (λ alias. not (is_last_variant alias.old)) list.variant_regions ≡ true
+  -- the second variant of a pair is replaced alone, too
+  pub seconds : list_all {X = TypeAlias} (λ alias. not (is_last_variant alias.old)) list.variant_pairs ≡ true
 
-pub variants_last : list_all {X = Alias} (λ alias. stays_always alias.new) list.variant_aliases ≡ true
-unfolding list.variant_aliases list.variant_languages list.dropped_variants fold_byte
-variants_last = refl
-
--- a variant that brings a region is left out
-pub regions_dropped : list_all {X = Alias} (λ alias. not (is_last_variant alias.old)) list.variant_regions ≡ true
-unfolding list.variant_regions list.variant_aliases list.dropped_variants fold_byte
-regions_dropped = refl
-
--- the second variant of a pair is replaced alone, too
-pub pairs_replaced : list_all {X = TypeAlias} (λ alias. not (is_last_variant alias.old)) list.variant_pairs ≡ true
-unfolding list.variant_pairs list.variant_aliases list.dropped_variants fold_byte
-pairs_replaced = refl
+pub last_variants : AreLastVariants
+unfolding list.variant_pairs list.variant_aliases list.variant_languages list.variant_regions list.dropped_variants fold_byte
+last_variants = record { pairs = refl; aliases = refl; regions = refl; seconds = refl }

@@ -1,9 +1,10 @@
 -- The form of a Unicode locale identifier is its own form, and alike identifiers have the same form.
 use Rattle.std.proofs.lemmas.Bool.Decides.{nat_tests}
-use Rattle.langtag_keyword.proofs.Common.{each-weaker, common_steps, arith, ◌≡◌, ℕ, true, false, not, ◌||◌, ◌==◌, List, [], ◌∷◌, map, Some, refl, ap, ◌∙◌, eqb-true, Bool, cond, ◌&&◌, sym, Option, None, option_map, unwrap_or, not-true, IsTrue, AllByRecursion, flat_map, list_all, list_any, each-append, each_from_test, are_alike, fold_text, Extension, IsWellFormed, IsWellFormedExtension, Record, spell, is_unicode_key, unicode_form, are_different_variants, are_fields, is_language_or_none, is_of, is_transform, is_unicode_language, is_key, value_of, before_key, both, found_has, is_none, option_map_or, extension_found, is_field_key, find_extension, find}
-use Rattle.langtag.specs.Repeat.{are_alike_bytes, repeat}
+use Rattle.langtag_keyword.proofs.Common.{each-weaker, common_steps, arith, ◌≡◌, ℕ, true, false, not, ◌||◌, ◌==◌, List, [], ◌∷◌, map, Some, refl, ap, ◌∙◌, eqb-true, Bool, cond, ◌&&◌, sym, None, option_map, unwrap_or, not-true, IsTrue, AllByRecursion, flat_map, list_all, list_any, each-append, each_from_test, are_alike, fold_text, Extension, IsWellFormed, IsWellFormedExtension, Record, spell, is_unicode_key, unicode_form, are_different_variants, are_fields, is_language_or_none, is_of, is_transform, is_unicode_language, is_key, value_of, before_key, both, found_has, extension_found, is_field_key, find_extension, find}
+use Rattle.langtag.specs.Repeat.{are_alike_bytes}
 use Rattle.langtag_text.specs.Fields.{Fields, subtag_of}
 use Rattle.langtag.specs.Definitions.{singletons}
+use Rattle.langtag_cldr.proofs.AddedTwice.{some_value}
 use Rattle.langtag_cldr.specs.Matching.{language_replaced}
 use Rattle.langtag_scan.proofs.Laws.{test_from_each, alike_parts}
 use Rattle.langtag_scan.specs.Case.{fold_byte}
@@ -18,8 +19,8 @@ use Rattle.langtag_keyword.proofs.KeywordLaws.{AreNoKeys}
 use Rattle.langtag_locale.proofs.LocaleRecords.{locale_form_by, locale_form_tested, transform_allowed, all_allowed, new_variants_good, locale_well_formed}
 use Rattle.langtag_keyword.proofs.Found.{found_is}
 use Rattle.langtag_keyword.proofs.IdentifierParts.{Apart, alphabet-apart, none_repeated, different_variants, fields_good}
-use Rattle.langtag_keyword.specs.Identifier.{identifier_fields, identifier_flat, identifier_variants}
-use Rattle.langtag_keyword.proofs.FormTwice.{IsLanguageForm, after_language, fields-again, variants-again, with-allowed, unicode-twice, with-twice}
+use Rattle.langtag_keyword.specs.Identifier.{identifier_fields, identifier_variants}
+use Rattle.langtag_keyword.proofs.FormTwice.{IsLanguageForm, fields-again, variants-again, with-allowed, unicode-twice, with-twice}
 use Rattle.langtag_locale.proofs.IdentifierForms.{form_subtags, record_subtags, form_is}
 use Rattle.langtag_locale.proofs.IdentifierTwice.{identifier_form-twice, new_variants-twice}
 use Rattle.langtag_keyword.proofs.TransformParts.{identifier-no_field, identifier-variants}
@@ -89,11 +90,6 @@ keywords-may ss good may (key ∷ keys) = grind (arith, common_steps, keywords-m
 pub unicode_form-may : (ss : List (List ℕ)) → Good ss → MayBeInU ss → MayBeInU (unicode_form ss)
 unicode_form-may ss good may = grind (arith, common_steps, each-append, each-alphabet, unicode_subtag-fold, each-before, form-blocks, keywords-may)
 
--- ---- the form is allowed
-
-both_true : (x y : Bool) → x ≡ true → y ≡ true → (x && y) ≡ true
-both_true x y one two = grind (arith, nat_tests)
-
 -- ---- the extension `t`
 
 -- the form of the language of `t` is one, and its own form
@@ -109,13 +105,8 @@ language-is_form (s ∷ ss) is =
     let variants = new_variants_good vs f (different_variants vs parts.1) in
     record {
       none = identifier-no_field new new_vs subtags variants;
-      allowed = both_true _ _ subtags.language (identifier-variants new new_vs subtags variants (new_variants-apart vs f));
-      twice =
-          ap (λ g. identifier_flat (identifier_form (identifier_variants (after_language new new_vs)) g) (new_variants (identifier_variants (after_language new new_vs)) g))
-          (fields-again new new_vs subtags variants)
-          ∙ ap (λ ws. identifier_flat (identifier_form ws new) (new_variants ws new)) (variants-again new new_vs subtags variants)
-          ∙ ap (λ g. identifier_flat g (new_variants new_vs new)) (identifier_form-twice vs f)
-          ∙ ap (identifier_flat new) (new_variants-twice vs f);
+      allowed = rw subtags.language (identifier-variants new new_vs subtags variants (new_variants-apart vs f));
+      twice = rw (fields-again new new_vs subtags variants, variants-again new new_vs subtags variants, identifier_form-twice vs f, new_variants-twice vs f) refl;
     }
 
 pub start-is_form : (ss : List (List ℕ)) → is_transform ss ≡ true → IsLanguageForm transform_language_form (before_key is_field_key ss)
@@ -134,7 +125,7 @@ form-allowed e fits allowed =
 forms-allowed :
     (es : List Extension) → AllByRecursion IsWellFormedExtension es → list_all is_locale_extension es ≡ true → (ns : List ℕ) → list_all is_locale_extension (flat_map (extension_at es) ns) ≡ true
 forms-allowed es fits allowed [] = refl
-forms-allowed es fits allowed (n ∷ ns) = grind (arith, common_steps, forms-allowed es fits allowed ns, both_true, form-allowed, extension_found, found_has)
+forms-allowed es fits allowed (n ∷ ns) = grind (arith, common_steps, forms-allowed es fits allowed ns, form-allowed, extension_found, found_has)
 
 -- ---- the record
 
@@ -143,14 +134,10 @@ unfolding locale_record
 locale_settled r fits locale =
     let form : Fields = identifier_form r.variants (record_fields r) in
     let subtags = form_subtags r.variants (record_fields r) (record_subtags r fits locale) in
-    let variants = new_variants r.variants (record_fields r) in
-    let extensions = extensions_in_order r.extensions in
-    both_true (is_unicode_language form.language && true && is_none (repeat are_alike variants) && is_none (repeat are_alike_bytes (map (λ e. e.singleton) extensions))) _
-    (both_true (is_unicode_language form.language && true && is_none (repeat are_alike variants)) _
-    (both_true (is_unicode_language form.language && true) _ (both_true (is_unicode_language form.language) true subtags.language refl)
-    (none_repeated are_alike variants (new_variants-apart r.variants (record_fields r))))
-    (none_repeated are_alike_bytes (map (λ e. e.singleton) extensions) (singletons-apart r.extensions)))
-    (forms-allowed r.extensions fits.extensions (all_allowed r locale) singletons)
+    let variants = none_repeated are_alike (new_variants r.variants (record_fields r)) (new_variants-apart r.variants (record_fields r)) in
+    let extensions = none_repeated are_alike_bytes (map (λ e. e.singleton) (extensions_in_order r.extensions)) (singletons-apart r.extensions) in
+    let allowed = forms-allowed r.extensions fits.extensions (all_allowed r locale) singletons in
+    rw (subtags.language, variants, extensions) allowed
 
 -- ---- the extension with a singleton, among the forms
 
@@ -177,15 +164,9 @@ extension-own e fits allowed =
 
 module _ (es : List Extension) (fits : AllByRecursion IsWellFormedExtension es) (allowed : list_all is_locale_extension es ≡ true) where
   at-own : (n : ℕ) → list_any (λ m. fold_byte m == fold_byte n) singletons ≡ true → extension_at (extensions_in_order es) n ≡ extension_at es n
-  at-own n among =
-      ap (λ o. option_map_or (λ e. locale_extension_form e ∷ []) o []) (found-again n es singletons ∙ ap (λ b. cond b (option_map locale_extension_form (find_extension n es)) None) among)
-      ∙ by_found (find_extension n es) refl
-    where
-      by_found :
-          (o : Option Extension) → find_extension n es ≡ o →
-          option_map_or (λ e. locale_extension_form e ∷ []) (option_map locale_extension_form o) [] ≡ option_map_or (λ e. locale_extension_form e ∷ []) o []
-      by_found None none = refl
-      by_found (Some e) found = ap (λ x. x ∷ []) (extension-own e (extension_found n es fits e found) (found_has is_locale_extension _ es e allowed found))
+  at-own n among = rw (found-again n es singletons, among) (some_value (find_extension n es) (λ none. rw none refl) (λ e found.
+      let own = extension-own e (extension_found n es fits e found) (found_has is_locale_extension _ es e allowed found) in
+      rw (found, own) refl))
 
   each-own :
       (ns : List ℕ) → list_all (λ n. list_any (λ m. fold_byte m == fold_byte n) singletons) ns ≡ true →

@@ -1,5 +1,5 @@
 -- The form of any tag is that of a Unicode locale identifier, and its own form; alike tags have the same form.
-use Rattle.langtag_keyword.proofs.Common.{◌≡◌, ℕ, ◌+◌, Bool, true, false, List, [], ◌∷◌, ◌++◌, drop, length, Option, Some, None, inl, inr, refl, sym, ap, ◌∙◌, arith, append_assoc, map, false≢true, length-append, IsCharBoundary-after_ascii, IsUtf8, flat_map, nat_tests, is_extended, EachRecord, IsWellFormed, Record, extension_flat, one_flat, private_part_flat, join, fold_text-twice, AlikeRecords, Alike, fold_text}
+use Rattle.langtag_keyword.proofs.Common.{◌≡◌, ℕ, ◌+◌, true, List, [], ◌∷◌, ◌++◌, drop, length, Option, Some, None, inl, inr, refl, sym, ap, ◌∙◌, arith, append_assoc, map, false≢true, length-append, IsCharBoundary-after_ascii, IsUtf8, flat_map, nat_tests, is_extended, EachRecord, IsWellFormed, Record, extension_flat, one_flat, private_part_flat, join, fold_text-twice, AlikeRecords, Alike, fold_text}
 use Rattle.langtag_scan.proofs.Prelude.{◌⊎◌, get_or-append_seam, drop_at, length_push, none-some, IsCharBoundary}
 use Rattle.langtag_scan.specs.Grammar.{Spells, IsNormal, fold_record}
 use Rattle.std.proofs.lemmas.Option.{same_Some}
@@ -14,6 +14,7 @@ use Rattle.langtag_locale.specs.Locale.{IsLocale, is_locale_record}
 use Rattle.langtag_locale.specs.LocaleForm.{IsLocaleForm, IsWholeForm, extlang_replaced, locale_text, record_form, replace_language, IsOwnForm}
 use Rattle.langtag.proofs.RegisteredLaws.{grandfathered_alike}
 use Rattle.langtag_fields.proofs.Values.{preferred_tag-alike, registered_extlang-alike}
+use Rattle.langtag_cldr.proofs.AddedTwice.{either_way, some_value}
 use Rattle.langtag_locale.proofs.LocaleCase.{locale-alike, text-alike}
 use Rattle.langtag_locale.proofs.LocaleTwice.{text-own}
 
@@ -114,44 +115,26 @@ part_of_record text form new fits of = elim (normal_or_not text) [
 replaced_well_formed : (r : Record) → IsWellFormed r → IsWellFormed (extlang_replaced r)
 replaced_well_formed r fits = grind (arith, nat_tests, from_well_formed r)
 
+-- each record of it is one
+pub spelled_locale : (tag : List ℕ) (r : Record) → IsLocale tag → Spells r tag → is_locale_record r ≡ true
+spelled_locale tag r (q, also, locale) spells = ap is_locale_record (spelled_once r q spells.0 also.0 (spells.1 ∙ sym also.1)) ∙ locale
+
 pub locale_or_not : (tag : List ℕ) → IsLocale tag ⊎ (IsLocale tag → ⊥)
 unfolding IsNormal
-locale_or_not tag = by_normal (normal_or_not tag)
-  where
-    by_test : (r : Record) → Spells r tag → (b : Bool) → is_locale_record r ≡ b → IsLocale tag ⊎ (IsLocale tag → ⊥)
-    by_test r spells true locale = inl (r, spells, locale)
-    by_test r spells false other = grind (arith, nat_tests, false≢true, spelled_once r, spells.1)
-
-    by_normal : IsNormal tag ⊎ (IsNormal tag → ⊥) → IsLocale tag ⊎ (IsLocale tag → ⊥)
-    by_normal (inl (r, spells)) = by_test r spells (is_locale_record r) refl
-    by_normal (inr other) = grind (arith, nat_tests)
+locale_or_not tag = elim (normal_or_not tag) [
+  | inl (r, spells) ↦
+      either_way (is_locale_record r) (λ locale. inl (r, spells, locale)) (λ other. inr (λ is. false≢true (sym other ∙ spelled_locale tag r is spells)))
+  | inr other ↦ inr (λ is. other (is.0, is.1))
+]
 
 pub whole_of_record : (tag form : List ℕ) → IsWholeForm tag (Some form) → IsOfRecord form
 whole_of_record tag form of = elim (locale_or_not tag) [
   | inl is ↦ part_of_record tag form (λ r. r) (λ r fits. fits) (of.locale is)
-  | inr outside ↦ by_value outside (preferred_tag tag) refl
+  | inr outside ↦
+      some_value (preferred_tag tag)
+      (λ none. part_of_record tag form extlang_replaced replaced_well_formed (of.parts outside none (λ old. none-some form (sym (of.kept outside none old)))))
+      (λ value found. part_of_record value form (λ r. r) (λ r fits. fits) (of.whole outside value found))
 ]
-  where
-    by_value : (IsLocale tag → ⊥) → (o : Option (List ℕ)) → preferred_tag tag ≡ o → IsOfRecord form
-    by_value outside (Some value) found = part_of_record value form (λ r. r) (λ r fits. fits) (of.whole outside value found)
-    by_value outside None none = part_of_record tag form extlang_replaced replaced_well_formed (of.parts outside none (λ old. none-some form (sym (of.kept outside none old))))
-
--- no tag has a form and none
-part_once : (text form : List ℕ) (f : Record → Option (List ℕ)) → PartOf text f None (Some form) → PartOf text f None None → ⊥
-unfolding IsNormal
-part_once text form f p q = grind (arith, nat_tests, normal_or_not text, none-some form)
-
-pub not_both : (tag form : List ℕ) → IsWholeForm tag (Some form) → IsWholeForm tag None → ⊥
-not_both tag form p q = elim (locale_or_not tag) [
-  | inl is ↦ part_once tag form record_form (p.locale is) (q.locale is)
-  | inr outside ↦ by_value outside (preferred_tag tag) refl
-]
-  where
-    by_value : (IsLocale tag → ⊥) → (o : Option (List ℕ)) → preferred_tag tag ≡ o → ⊥
-    by_value outside (Some value) found = part_once value form record_form (p.whole outside value found) (q.whole outside value found)
-    by_value outside None none =
-        let new : IsGrandfathered tag → ⊥ = λ old. none-some form (sym (p.kept outside none old)) in
-        part_once tag form (λ r. record_form (extlang_replaced r)) (p.parts outside none new) (q.parts outside none new)
 
 pub whole-own : (tag form : List ℕ) → IsWholeForm tag (Some form) → IsOwnForm form
 whole-own tag form of =
@@ -202,18 +185,15 @@ module _ (tag other : List ℕ) (alike : Alike tag other) where
     by_forms none None (Some form) p q =
         by_parts none (λ old. none-some form (sym (q.kept (outside_too outside) (same_value ∙ none) (grandfathered_alike tag other alike old)))) None (Some form) p q
 
-    by_value : (o : Option (List ℕ)) → preferred_tag tag ≡ o → (x y : Option (List ℕ)) → IsWholeForm tag x → IsWholeForm other y → x ≡ y
-    by_value None none x y p q = by_forms none x y p q
-    by_value (Some value) found x y p q =
-        part-alike record_form record_form-alike value value x y refl (p.whole outside value found) (q.whole (outside_too outside) value (same_value ∙ found))
-
   pub whole-alike : (x y : Option (List ℕ)) → IsWholeForm tag x → IsWholeForm other y → x ≡ y
   whole-alike x y p q = elim (locale_or_not tag) [
     | inl is ↦ part-alike record_form record_form-alike tag other x y alike (p.locale is) (q.locale (locale_alike tag other alike is))
-    | inr outside ↦ by_value outside (preferred_tag tag) refl x y p q
+    | inr outside ↦
+        some_value (preferred_tag tag) (λ none. by_forms outside none x y p q)
+        (λ value found.
+        part-alike record_form record_form-alike value value x y refl (p.whole outside value found) (q.whole (outside_too outside) value (same_value ∙ found)))
   ]
 
--- ---- the record of a text
-
-pub spelled_locale : (tag : List ℕ) (r : Record) → IsLocale tag → Spells r tag → is_locale_record r ≡ true
-spelled_locale tag r (q, also, locale) spells = ap is_locale_record (spelled_once r q spells.0 also.0 (spells.1 ∙ sym also.1)) ∙ locale
+-- no tag has a form and none
+pub not_both : (tag form : List ℕ) → IsWholeForm tag (Some form) → IsWholeForm tag None → ⊥
+not_both tag form p q = none-some form (sym (whole-alike tag tag refl (Some form) None p q))

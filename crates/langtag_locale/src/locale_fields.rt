@@ -218,28 +218,28 @@ fn new_script<'a>(fields: TagFields<'a>) -> &'a [u8]
     }
 }
 
-#[tactic(auto, using(crate::proofs::LocaleTables::sign_language_rows))]
+#[tactic(auto, using(crate::proofs::LocaleTables::all_rows))]
 fn sign_languages() -> &'static [(&'static str, &'static str)]
     ensures { map (λ row. record { old = row.0.now; new = row.1.now }) result.now ≡ list.sign_languages }
 {
     &tables::SIGN_LANGUAGES
 }
 
-#[tactic(auto, using(crate::proofs::LocaleTables::variant_region_rows))]
+#[tactic(auto, using(crate::proofs::LocaleTables::all_rows))]
 fn variant_regions() -> &'static [(&'static str, &'static str)]
     ensures { map (λ row. record { old = row.0.now; new = row.1.now }) result.now ≡ list.variant_regions }
 {
     &tables::VARIANT_REGIONS
 }
 
-#[tactic(auto, using(crate::proofs::LocaleTables::region_heir_rows))]
+#[tactic(auto, using(crate::proofs::LocaleTables::all_rows))]
 fn region_heirs() -> &'static [(&'static str, &'static str)]
     ensures { map (λ row. record { old = row.0.now; new = row.1.now }) result.now ≡ list.region_heirs }
 {
     &tables::REGION_HEIRS
 }
 
-#[tactic(auto, using(crate::proofs::LocaleTables::script_rows))]
+#[tactic(auto, using(crate::proofs::LocaleTables::all_rows))]
 fn script_aliases() -> &'static [(&'static str, &'static str)]
     ensures { map (λ row. record { old = row.0.now; new = row.1.now }) result.now ≡ list.script_aliases }
 {

@@ -144,28 +144,28 @@ fn is_dropped(variant: &str) -> bool
     false
 }
 
-#[tactic(auto, using(crate::proofs::LocaleTables::variant_language_rows))]
+#[tactic(auto, using(crate::proofs::LocaleTables::all_rows))]
 pub(crate) fn variant_languages() -> &'static [(&'static str, &'static str, &'static str)]
     ensures { map (λ row. record { key = row.0.now; old = row.1.now; new = row.2.now }) result.now ≡ list.variant_languages }
 {
     &tables::VARIANT_LANGUAGES
 }
 
-#[tactic(auto, using(crate::proofs::LocaleTables::variant_pair_rows))]
+#[tactic(auto, using(crate::proofs::LocaleTables::all_rows))]
 fn variant_pairs() -> &'static [(&'static str, &'static str, &'static str)]
     ensures { map (λ row. record { key = row.0.now; old = row.1.now; new = row.2.now }) result.now ≡ list.variant_pairs }
 {
     &tables::VARIANT_PAIRS
 }
 
-#[tactic(auto, using(crate::proofs::LocaleTables::variant_alias_rows))]
+#[tactic(auto, using(crate::proofs::LocaleTables::all_rows))]
 fn variant_aliases() -> &'static [(&'static str, &'static str)]
     ensures { map (λ row. record { old = row.0.now; new = row.1.now }) result.now ≡ list.variant_aliases }
 {
     &tables::VARIANT_ALIASES
 }
 
-#[tactic(auto, using(crate::proofs::LocaleTables::dropped_rows))]
+#[tactic(auto, using(crate::proofs::LocaleTables::all_rows))]
 fn dropped_variants() -> &'static [&'static str]
     ensures { map (λ row. row.now) result.now ≡ list.dropped_variants }
 {

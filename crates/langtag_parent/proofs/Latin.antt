@@ -1,11 +1,11 @@
 -- The languages of CLDR's parents are written in Latin letters in each region, and a parent in a row in the script of its tag: by computation.
-use Rattle.langtag_scan.proofs.Prelude.{◌≡◌, ℕ, ◌<◌, true, false, Bool, cond, List, [], ◌∷◌, length, map, codes, Option, None, Some, IfSome, MatchOption, refl, sym, ap, ◌∙◌, arith, ◌&&◌, ◌||◌, not, option_map, list_all, list_any, bytes_eq, and_parts}
+use Rattle.langtag_scan.proofs.Prelude.{◌≡◌, ℕ, ◌<◌, true, false, Bool, cond, List, [], ◌∷◌, length, map, codes, Option, None, Some, IfSome, MatchOption, refl, sym, ap, ◌∙◌, arith, ◌&&◌, ◌||◌, not, option_map, option_map_or, list_all, list_any, bytes_eq, and_parts}
 use Rattle.langtag_scan.specs.Grammar.{Alike, are_alike, fold_byte}
 use Rattle.langtag_scan.proofs.Laws.{length-fold}
 use Rattle.langtag_text.specs.Fields.{Fields}
 use Rattle.langtag_text.proofs.Alike.{AlikeFields, alike_is}
 use Rattle.langtag_cldr.specs.Definitions.{Likely, language_rows, likely_for, likely_subtags, looked_up, other_rows}
-use Rattle.langtag_cldr.proofs.AddedTwice.{either_way, found_row}
+use Rattle.langtag_cldr.proofs.AddedTwice.{either_way, found_row, some_value}
 use Rattle.langtag_cldr.proofs.AlikeFields.{likely_for-alike}
 use Rattle.langtag_cldr.proofs.RowLaws.{all_other, either}
 use Rattle.langtag_cldr.proofs.TableRows.{is_there}
@@ -35,20 +35,16 @@ unfolding other_rows fold_byte
 all_elsewhere = refl
 
 region_none : (p region : List ℕ) → is_one p ≡ true → 0 < length region → likely_for other_rows (in_region p region) ≡ None
-region_none p region one there = by_option (likely_for other_rows (in_region p region)) refl
-  where
-    by_option : (o : Option Fields) → likely_for other_rows (in_region p region) ≡ o → o ≡ None
-    by_option None is = refl
-    by_option (Some to) is =
-        let it = found_row other_rows is_elsewhere (in_region p region) to all_elsewhere is in
-        let language : is_one it.row.from.language ≡ true = ap (λ t. list_any (λ one. bytes_eq (map fold_byte one) t) latin_languages) it.from_is.language ∙ one in
-        absurd (grind (arith, it.from_is, it.holds_of_it, length-fold))
+region_none p region one there =
+    some_value (likely_for other_rows (in_region p region)) (λ none. none) (λ to is.
+    let it = found_row other_rows is_elsewhere (in_region p region) to all_elsewhere is in
+    let language : is_one it.row.from.language ≡ true = ap (λ t. list_any (λ one. bytes_eq (map fold_byte one) t) latin_languages) it.from_is.language ∙ one in
+    absurd (grind (arith, it.from_is, it.holds_of_it, length-fold)))
 
 -- ---- each of them is written in Latin letters
 
 abbrev is_latin_row : Option Fields → Bool
-is_latin_row None = false
-is_latin_row (Some f) = are_alike f.script latin
+is_latin_row found = option_map_or (λ f. are_alike f.script latin) found false
 
 all_latin : list_all (λ language. is_latin_row (likely_for language_rows (in_region language []))) latin_languages ≡ true
 unfolding language_rows fold_byte
@@ -108,14 +104,10 @@ all_written = refl
 
 scripts_alike : (a b : List ℕ) (o p : Option (List ℕ)) → have_script a b ≡ true →
     IfSome (cond (is_empty b) p (Some b)) (λ script. MatchOption (cond (is_empty a) o (Some a)) ⊥ (λ own. Alike own script))
-scripts_alike [] b o p h = absurd cc
-scripts_alike (c ∷ a) [] o p h = absurd cc
-scripts_alike (c ∷ a) (d ∷ b) o p h = alike_is (c ∷ a) (d ∷ b) h
+scripts_alike a b o p h = grind (arith, alike_is a b)
 
 pub row_written : (row : Likely) → is_there row.to.language ≡ true → is_written row ≡ true → IsWrittenAs row.from row.to
 row_written row there h =
-    let held : ((is_latin row.from && is_latin row.to) || have_script row.from.script row.to.script) ≡ true =
-    sym (ap (λ b. not b || ((is_latin row.from && is_latin row.to) || have_script row.from.script row.to.script)) there) ∙ h in
     either_way (is_latin row.from && is_latin row.to)
     (λ both. let k = and_parts (is_latin row.from) (is_latin row.to) both in both_latin row.from row.to k.0 k.1)
-    (λ other. scripts_alike row.from.script row.to.script _ _ (sym (ap (λ b. b || have_script row.from.script row.to.script) other) ∙ held))
+    (λ other. scripts_alike row.from.script row.to.script _ _ (cc (ap (λ b. b || have_script row.from.script row.to.script) other)))

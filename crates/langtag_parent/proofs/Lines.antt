@@ -2,9 +2,10 @@
 use Rattle.langtag_scan.proofs.Prelude.{◌≡◌, ℕ, zero, suc, ◌+◌, ◌<◌, ◌≤◌, ◌⊎◌, inl, inr, true, false, Bool, cond, List, [], ◌∷◌, ◌++◌, codes, flat_map, Option, None, Some, refl, sym, ap, ◌∙◌, subst, arith, ◌&&◌, ◌||◌, option_map, list_all, list_any, option_map_or, AllByRecursion, append_assoc, append-nil, bytes_eq, bytes_decides, and_parts, nat_tests}
 use Rattle.langtag_scan.specs.Grammar.{Record, fold_byte}
 use Rattle.langtag_text.specs.Fields.{Fields}
-use Rattle.langtag_cldr.specs.Definitions.{Likely, are_alike_fields, language_alone, language_rows, likely_for, likely_subtags, other_rows, without_region, without_script}
+use Rattle.langtag_cldr.proofs.AddedTwice.{either_way, some_value}
+use Rattle.langtag_cldr.specs.Definitions.{Likely, language_rows, likely_for, likely_subtags, other_rows}
 use Rattle.langtag_parent.specs.Chain.{above, bases_left, chain_of, endings, forms, given_form, hyphenated, line, rest_of, shorter, with_each}
-use Rattle.langtag_parent.specs.Parent.{fields_of, has_likely_script, is_empty, likely_script, named, other_script, parent_in_script, parent_of, parent_of_region, parent_of_script, short, stated, stated_or, usual_parent, with_script}
+use Rattle.langtag_parent.specs.Parent.{fields_of, is_empty, named, parent_of, parent_of_region, short, stated, stated_or, usual_parent}
 use Rattle.langtag_parent.specs.ParentLaws.{EndsWithin}
 use Rattle.langtag_parent.specs.Base.{base_fields}
 use Rattle.langtag_parent.specs.declared.base.Base.{Base}
@@ -28,11 +29,7 @@ same-is a b is = grind (arith, and_parts, bytes_decides)
 
 known_case : (P : Fields → Type 0) (ks : List Fields) (g : Fields) → list_any (same g) ks ≡ true → AllByRecursion P ks → P g
 known_case P [] g is all = absurd cc
-known_case P (k ∷ ks) g is all = by_test (λ rest. known_case P ks g rest all.1) (same g k) refl
-  where
-    by_test : (list_any (same g) ks ≡ true → P g) → (b : Bool) → same g k ≡ b → P g
-    by_test later true alike = subst P (sym (same-is g k alike)) all.0
-    by_test later false differs = later (sym (ap (λ b. b || list_any (same g) ks) differs) ∙ is)
+known_case P (k ∷ ks) g is all = either_way (same g k) (λ alike. subst P (sym (same-is g k alike)) all.0) (λ other. known_case P ks g (grind arith) all.1)
 
 abbrev is_known : Fields → Bool
 is_known g = list_any (same g) known
@@ -54,21 +51,8 @@ known_lines k = (refl, (refl, (refl, (refl, (refl, (refl, (refl, (refl, tt))))))
 abbrev parts : Fields → ℕ
 parts f = cond (is_empty f.region) 0 2 + cond (is_empty f.script) 0 1
 
-few_parts : (f : Fields) → parts f < 4
-few_parts f = by_test (is_empty f.region) (is_empty f.script)
-  where
-    by_test : (a b : Bool) → cond a 0 2 + cond b 0 1 < 4
-    by_test true true = omega arith
-    by_test true false = omega arith
-    by_test false true = omega arith
-    by_test false false = omega arith
-
 short_parts : (f : Fields) → parts (short f) ≤ parts f
-short_parts f = by_test (has_likely_script f)
-  where
-    by_test : (b : Bool) → parts (cond b (without_script f) f) ≤ parts f
-    by_test true = omega arith
-    by_test false = omega arith
+short_parts f = grind arith
 
 module _ (t : Fields → Bool) where
   stated_is_named : (to g : Fields) → (is_empty to.language || t to) ≡ true → stated to ≡ Some g → t g ≡ true
@@ -76,49 +60,24 @@ module _ (t : Fields → Bool) where
 
   row_named : (rows : List Likely) (f to : Fields) → list_all (names t) rows ≡ true → likely_for rows f ≡ Some to → (is_empty to.language || t to) ≡ true
   row_named [] f to all there = absurd cc
-  row_named (row ∷ rows) f to all there = by_test (row_named rows f to (and_parts (names t row) (list_all (names t) rows) all).1) (are_alike_fields row.from f) there
-    where
-      by_test : (likely_for rows f ≡ Some to → (is_empty to.language || t to) ≡ true) → (b : Bool) → cond b (Some row.to) (likely_for rows f) ≡ Some to → (is_empty to.language || t to) ≡ true
-      by_test later true is = let same : row.to ≡ to = cc in subst (λ to. (is_empty to.language || t to) ≡ true) same (and_parts (names t row) (list_all (names t) rows) all).0
-      by_test later false is = later is
+  row_named (row ∷ rows) f to all there = grind (arith, and_parts (names t row) (list_all (names t) rows) all, row_named rows f to)
 
   abbrev IsNext : Fields → Fields → Type 0
   IsNext f g = (t g ≡ true) ⊎ (parts g < parts f)
 
   module _ (all : list_all (names t) parent_locales ≡ true) where
     stated_way : (f g : Fields) (other : Option Fields) → stated_or f other ≡ Some g → (t g ≡ true) ⊎ (other ≡ Some g)
-    stated_way f g other is = by_row (likely_for parent_locales f) refl is
-      where
-        by_row : (o : Option Fields) → likely_for parent_locales f ≡ o → option_map_or stated o other ≡ Some g → (t g ≡ true) ⊎ (other ≡ Some g)
-        by_row None there is = inr is
-        by_row (Some to) there is = inl (stated_is_named to g (row_named parent_locales f to all there) is)
+    stated_way f g other is = grind (arith, stated_is_named, row_named parent_locales f)
 
-    script_way : (f g : Fields) (o : Option (List ℕ)) → is_empty f.script ≡ false → option_map_or (λ s. None) o (Some (language_alone f)) ≡ Some g → IsNext f g
-    script_way f g None some is = let same : language_alone f ≡ g = cc in inr (subst (λ g. parts g < parts f) same (omega (arith, ap {B = ℕ} (λ b. cond b 0 1) some)))
-    script_way f g (Some s) some is = absurd cc
+    region_way : (f g : Fields) → is_empty f.region ≡ false → parent_of_region f ≡ Some g → IsNext f g
+    region_way f g some is = grind (arith, stated_way)
 
-    region_way : (f g : Fields) (o : Option (List ℕ)) → is_empty f.region ≡ false → option_map_or (λ s. parent_in_script (with_script f s)) o (Some (without_region f)) ≡ Some g → IsNext f g
-    region_way f g None some is = let same : without_region f ≡ g = cc in inr (subst (λ g. parts g < parts f) same (omega (arith, ap {B = ℕ} (λ b. cond b 0 2) some)))
-    region_way f g (Some s) some is = elim (stated_way (with_script f s) g (Some (without_region (with_script f s))) is) [
-      | inl it ↦ inl it
-      | inr cut ↦ let same : without_region (with_script f s) ≡ g = cc in inr (subst (λ g. parts g < parts f) same (omega (arith, ap {B = ℕ} (λ b. cond b 0 2) some, one_script (is_empty s))))
-    ]
-      where
-        one_script : (b : Bool) → cond b 0 1 ≤ 1
-        one_script true = omega arith
-        one_script false = omega arith
-
-    usual_way : (f g : Fields) (a b : Bool) → is_empty f.region ≡ a → is_empty f.script ≡ b → cond a (cond b None (parent_of_script f)) (parent_of_region f) ≡ Some g → IsNext f g
-    usual_way f g true true no_region no_script is = absurd cc
-    usual_way f g true false no_region script is = script_way f g (likely_script f.language []) script is
-    usual_way f g false b region script is = region_way f g (other_script f) region is
+    usual_way : (f g : Fields) → usual_parent f ≡ Some g → IsNext f g
+    usual_way f g is = grind (arith, region_way f g)
 
     way : (f g : Fields) → parent_of f ≡ Some g → IsNext f g
     unfolding parent_of
-    way f g is = elim (stated_way f g (usual_parent f) is) [
-      | inl it ↦ inl it
-      | inr usual ↦ usual_way f g (is_empty f.region) (is_empty f.script) refl refl usual
-    ]
+    way f g is = grind (arith, stated_way f g (usual_parent f), usual_way f g)
 
 -- ---- so the line ends
 
@@ -128,18 +87,15 @@ Stays m f = line (suc (suc (suc (suc m)))) f ≡ line (suc (suc (suc m))) f
 settled : (n m : ℕ) (f : Fields) → parts f < n → n ≤ m → Stays m f
 settled zero m f small few = absurd (omega (arith, small))
 settled (suc n) zero f small few = absurd (omega (arith, few))
-settled (suc n) (suc m) f small few = ap (λ rest. f ∷ rest) (by_parent (λ g less. settled n m g less (omega (arith, few))) (parent_of (short f)) refl)
-  where
-    by_parent : ((g : Fields) → parts g < n → Stays m g) → (o : Option Fields) → parent_of (short f) ≡ o → option_map_or (line (suc (suc (suc (suc m))))) o [] ≡ option_map_or (line (suc (suc (suc m)))) o []
-    by_parent later None is = refl
-    by_parent later (Some g) is = elim (way is_known all_known (short f) g is) [
+settled (suc n) (suc m) f small few =
+    ap (λ rest. f ∷ rest) (some_value (parent_of (short f)) (λ none. rw none refl) (λ g is. rw is (elim (way is_known all_known (short f) g is) [
       | inl it ↦ known_case (Stays m) known g it (known_lines m)
-      | inr less ↦ later g (omega (arith, less, short_parts f, small))
-    ]
+      | inr less ↦ settled n m g (omega (arith, less, short_parts f, small)) (omega (arith, few))
+    ])))
 
 -- no line is longer than seven
 pub whole_line : (f : Fields) → line 8 f ≡ line 7 f
-whole_line f = settled 4 4 f (few_parts f) (omega arith)
+whole_line f = settled 4 4 f (grind arith) (omega arith)
 
 ends_at : (n : ℕ) (f : Fields) → line (suc n) f ≡ line n f → EndsWithin n f
 ends_at zero f same = absurd cc
@@ -152,18 +108,13 @@ line_ends f = ends_at 7 f (whole_line f)
 
 -- ---- what an iterator has left
 
-same_endings : (v : List ℕ) → endings v v ≡ v ∷ shorter v
-same_endings v = grind (arith, nat_tests)
-
 pub above_step : (tag : Fields) (v : List ℕ) (p : Option Fields) → above tag v p ≡ option_map_or (λ g. with_each (endings v v) (named tag g) ++ above tag v (parent_of (short g))) p []
 above_step tag v None = refl
 above_step tag v (Some g) =
-    ap (λ list. with_each (v ∷ shorter v) (named tag g) ++ flat_map (λ f. with_each (v ∷ shorter v) (named tag f)) list) (by_parent (parent_of (short g)))
-    ∙ ap (λ es. with_each es (named tag g) ++ above tag v (parent_of (short g))) (sym (same_endings v))
-  where
-    by_parent : (o : Option Fields) → option_map_or (line 7) o [] ≡ option_map_or (line 8) o []
-    by_parent None = refl
-    by_parent (Some h) = sym (whole_line h)
+    let same : endings v v ≡ v ∷ shorter v = grind (arith, nat_tests) in
+    let above_it : option_map_or (line 7) (parent_of (short g)) [] ≡ option_map_or (line 8) (parent_of (short g)) [] = grind (arith, whole_line) in
+    ap (λ list. with_each (v ∷ shorter v) (named tag g) ++ flat_map (λ f. with_each (v ∷ shorter v) (named tag f)) list) above_it
+    ∙ ap (λ es. with_each es (named tag g) ++ above tag v (parent_of (short g))) (sym same)
 
 pub step_some :
     (tag : Fields) (base : Base) (v rest t : List ℕ) → endings v rest ≡ rest ∷ endings v t →
@@ -177,8 +128,7 @@ step_some tag base v rest t is =
 fields_left :
     (tag : Fields) (v : List ℕ) (o : Option Base) (p : Option Fields) → option_map base_fields o ≡ p →
     option_map_or (λ g. with_each (endings v v) (named tag g) ++ above tag v (parent_of (short g))) p [] ≡ bases_left tag o v v
-fields_left tag v None p is = ap (λ p. option_map_or (λ g. with_each (endings v v) (named tag g) ++ above tag v (parent_of (short g))) p []) (sym is)
-fields_left tag v (Some g) p is = ap (λ p. option_map_or (λ g. with_each (endings v v) (named tag g) ++ above tag v (parent_of (short g))) p []) (sym is)
+fields_left tag v o p is = grind arith
 
 pub step_none :
     (tag : Fields) (base : Base) (v rest : List ℕ) (o : Option Base) → endings v rest ≡ rest ∷ [] → option_map base_fields o ≡ parent_of (short (base_fields base)) →
@@ -194,20 +144,11 @@ step_none tag base v rest o is parent =
 
 -- a short form has no likely script, so it is its own short form
 short_twice : (f : Fields) → short (short f) ≡ short f
-short_twice f = by_test (has_likely_script f) refl
-  where
-    by_test : (b : Bool) → has_likely_script f ≡ b → short (cond b (without_script f) f) ≡ cond b (without_script f) f
-    by_test true is = refl
-    by_test false is = ap (λ b. cond b (without_script f) f) is
+short_twice f = grind arith
 
 pub chain_is :
     (r : Record) (given : List (List ℕ)) (tag f : Fields) (v rest : List ℕ) → given ≡ given_form tag rest → tag ≡ fields_of r → v ≡ hyphenated r.variants → rest ≡ rest_of r →
     f ≡ short (fields_of r) → given ++ (with_each (endings v rest) (named tag f) ++ above tag v (parent_of (short f))) ≡ chain_of r
 chain_is r given tag f v rest given_is tag_is v_is rest_is f_is =
     let above_is : parent_of (short f) ≡ parent_of (short (fields_of r)) = ap parent_of (ap short f_is ∙ short_twice (fields_of r)) in
-    ap (λ p. given ++ (with_each (endings v rest) (named tag f) ++ above tag v p)) above_is
-    ∙ ap (λ x. x ++ (with_each (endings v rest) (named tag f) ++ above tag v (parent_of (short (fields_of r))))) given_is
-    ∙ ap (λ t. given_form t rest ++ (with_each (endings v rest) (named t f) ++ above t v (parent_of (short (fields_of r))))) tag_is
-    ∙ ap (λ x. given_form (fields_of r) rest ++ (with_each (endings v rest) (named (fields_of r) x) ++ above (fields_of r) v (parent_of (short (fields_of r))))) f_is
-    ∙ ap (λ x. given_form (fields_of r) rest ++ (with_each (endings x rest) (named (fields_of r) (short (fields_of r))) ++ above (fields_of r) x (parent_of (short (fields_of r))))) v_is
-    ∙ ap (λ x. given_form (fields_of r) x ++ (with_each (endings (hyphenated r.variants) x) (named (fields_of r) (short (fields_of r))) ++ above (fields_of r) (hyphenated r.variants) (parent_of (short (fields_of r))))) rest_is
+    cc

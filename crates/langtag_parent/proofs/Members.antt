@@ -1,16 +1,19 @@
 -- Each member of the chain of a normal tag is a normal tag in the script of the tag, and adds nothing to it but what CLDR lists.
-use Rattle.langtag_scan.proofs.Prelude.{◌≡◌, ℕ, zero, suc, eqb, nil_from_length, ◌≤◌, ◌⊎◌, inl, inr, true, false, Bool, cond, IsTrue, List, [], ◌∷◌, ◌++◌, length, map, flat_map, Option, None, Some, IfSome, MatchOption, refl, sym, ap, ◌∙◌, subst, arith, ◌&&◌, ◌||◌, not, option_map, option_map_or, unwrap_or, nat_lt, AllByRecursion, append_assoc, append-nil, length-append, and_parts, nat_tests}
-use Rattle.langtag_scan.specs.Grammar.{Alike, EachRecord, Extension, IsNormal, IsWellFormed, IsWellFormedExtension, IsWellFormedPrivateUse, PrivateUse, Record, Spells, are_alike, are_alike-decides, extension_flat, is_region, is_script, is_primary, is_variant, join, one_flat, private_part_flat, spell}
-use Rattle.langtag_scan.proofs.Laws.{each-append, hyphenated-append, join-hyphenated, no_hyphen_each, of_variant, region_two_three, script_four, spelled_once}
-use Rattle.langtag_text.proofs.Alike.{AlikeFields, alike_is}
+use Rattle.langtag_scan.proofs.Prelude.{◌≡◌, ℕ, zero, suc, eqb, nil_from_length, ◌⊎◌, inl, inr, true, false, Bool, cond, IsTrue, List, [], ◌∷◌, ◌++◌, length, map, flat_map, Option, None, Some, IfSome, MatchOption, refl, sym, ap, ◌∙◌, subst, arith, ◌&&◌, not, option_map, option_map_or, unwrap_or, nat_lt, AllByRecursion, append_assoc, append-nil, length-append, and_parts, nat_tests}
+use Rattle.langtag_scan.specs.Grammar.{Alike, EachRecord, Extension, IsNormal, IsWellFormed, IsWellFormedExtension, IsWellFormedPrivateUse, PrivateUse, Record, Spells, are_alike, are_alike-decides, extension_flat, is_script, is_variant, join, language_part, one_flat, private_part_flat}
+use Rattle.langtag_scan.proofs.Laws.{each-append, hyphenated-append, join-hyphenated, no_hyphen_each, of_variant, spelled_once}
+use Rattle.langtag_text.proofs.Alike.{AlikeFields, alike_is, same_fields}
+use Rattle.langtag.specs.Definitions.{IsLanguage, SpellsLanguage}
+use Rattle.langtag.proofs.PartRules.{language_spelled}
+use Rattle.langtag_text.proofs.FieldClasses.{from_region, from_script}
 use Rattle.langtag_text.specs.FieldClasses.{is_language_field, is_region_field, is_script_field}
 use Rattle.langtag_text.specs.Fields.{Fields, subtag_of}
 use Rattle.langtag_cldr.specs.Definitions.{Likely, are_alike_fields, language_alone, likely_for, likely_subtags, looked_up, without_region, without_script}
-use Rattle.langtag_cldr.proofs.AddedTwice.{found_of, found_row}
+use Rattle.langtag_cldr.proofs.AddedTwice.{either_way, found_of, found_row, some_value}
 use Rattle.langtag_cldr.proofs.AlikeFields.{alike_fields, looked_up-alike}
-use Rattle.langtag_cldr.proofs.TableRows.{are_good, is_language_row, is_other_row, is_settled, is_there, is_whole, rows_listed}
+use Rattle.langtag_cldr.proofs.TableRows.{are_good, is_settled, is_there, rows_listed}
 use Rattle.langtag_parent.specs.Chain.{IsChain, above, chain_of, endings, forms, given_form, hyphenated, line, rest_of, shorter, text_of, with_each}
-use Rattle.langtag_parent.specs.Parent.{fields_of, has_likely_script, is_empty, likely_script, named, other_script, parent_in_script, parent_of, parent_of_region, parent_of_script, short, stated, stated_or, unless_alike, usual_parent, with_script}
+use Rattle.langtag_parent.specs.Parent.{fields_of, has_likely_script, is_empty, likely_script, named, other_script, parent_in_script, parent_of, parent_of_region, short, stated, stated_or, unless_alike, usual_parent, with_script}
 use Rattle.langtag_parent.specs.ParentLaws.{AddsNothing, EachMember, IsInOneScript, IsKept, IsKeptOrListed, IsListed, IsWrittenAs, script_of}
 use Rattle.langtag_parent.specs.ParentLocales.{parent_locales}
 use Rattle.langtag_parent.proofs.Latin.{all_written, is_written, row_written}
@@ -22,58 +25,37 @@ abbrev WrittenAs : Option (List ℕ) → Option (List ℕ) → Type 0
 WrittenAs own other = IfSome other (λ script. MatchOption own ⊥ (λ own. Alike own script))
 
 written_same : (o : Option (List ℕ)) → WrittenAs o o
-written_same None = tt
-written_same (Some s) = refl
+written_same o = grind arith
 
 written_twice : (a b c : Option (List ℕ)) → WrittenAs a b → WrittenAs b c → WrittenAs a c
-written_twice a b None x y = tt
-written_twice a None (Some s) x y = absurd y
-written_twice None (Some t) (Some s) x y = absurd x
-written_twice (Some u) (Some t) (Some s) x y = x ∙ y
+written_twice a b c x y = grind arith
 
--- the likely script is removed
-without_likely : (script : List ℕ) (o p : Option (List ℕ)) → cond (is_empty script) false (option_map_or (are_alike script) o false) ≡ true → WrittenAs (cond (is_empty script) p (Some script)) o
-without_likely [] o p likely = absurd cc
-without_likely (b ∷ script) None p likely = absurd cc
-without_likely (b ∷ script) (Some s) p likely = alike_is (b ∷ script) s likely
+-- a script that is likely is that of the fields without it
+likely_written :
+    (script : List ℕ) (o p : Option (List ℕ)) → cond (is_empty script) false (option_map_or (are_alike script) o false) ≡ true →
+    WrittenAs (cond (is_empty script) p (Some script)) o × WrittenAs o (cond (is_empty script) p (Some script))
+likely_written [] o p likely = absurd cc
+likely_written (b ∷ script) o p likely = grind (arith, alike_is (b ∷ script))
 
 -- the region is removed
 none_alone : (language region : List ℕ) → likely_script language region ≡ None → likely_script language [] ≡ None
 none_alone language region none = grind arith
 
-unless_written : (here alone : Option (List ℕ)) → (here ≡ None → alone ≡ None) → unless_alike here alone ≡ None → WrittenAs here alone
-unless_written here alone none is = grind (arith, are_alike-decides)
-
 without_place :
     (script : List ℕ) (here alone : Option (List ℕ)) → (here ≡ None → alone ≡ None) → cond (is_empty script) (unless_alike here alone) None ≡ None →
     WrittenAs (cond (is_empty script) here (Some script)) (cond (is_empty script) alone (Some script))
-without_place [] here alone none is = unless_written here alone none is
-without_place (b ∷ script) here alone none is = refl
+without_place script here alone none is = grind (arith, are_alike-decides)
 
 -- another script
-record IsOther (script s : List ℕ) (first : Option (List ℕ)) : Type 0 where
-  empty : is_empty script ≡ true
-  here : first ≡ Some s
-
-other_is : (script s : List ℕ) (here alone : Option (List ℕ)) → cond (is_empty script) (unless_alike here alone) None ≡ Some s → IsOther script s here
-other_is [] s None alone is = absurd cc
-other_is [] s (Some h) None is = absurd cc
-other_is [] s (Some h) (Some a) is = record { empty = refl; here = by_test (are_alike h a) is }
-  where
-    by_test : (b : Bool) → cond b None (Some h) ≡ Some s → Some h ≡ Some s
-    by_test true is = absurd cc
-    by_test false is = is
-other_is (b ∷ script) s here alone is = absurd cc
-
-there_script : (s : List ℕ) → is_script_field s ≡ true → is_there s ≡ true → is_script s ≡ true
-there_script s good some = grind arith
-
-whole_script : (row : Likely) → is_whole row ≡ true → is_there row.to.script ≡ true
-whole_script row h = grind (arith, and_parts)
+other_is :
+    (script s : List ℕ) (here alone : Option (List ℕ)) → cond (is_empty script) (unless_alike here alone) None ≡ Some s → (is_empty script ≡ true) × (here ≡ Some s)
+other_is script s here alone is = grind arith
 
 found_script : (o : Option Fields) (s : List ℕ) → option_map (λ f. f.script) o ≡ Some s → (to : Fields) × (o ≡ Some to) × (to.script ≡ s)
-found_script None s is = absurd cc
-found_script (Some to) s is = (to, refl, cc)
+found_script o s is = grind arith
+
+there_script : (row other : Likely) (to : Fields) → row.to ≡ to → other.to ≡ to → is_settled row ≡ true → are_good other ≡ true → is_script to.script ≡ true
+there_script row other to is also settled good = grind (arith, and_parts)
 
 likely_good : (language region s : List ℕ) → likely_script language region ≡ Some s → is_script s ≡ true
 likely_good language region s is =
@@ -81,10 +63,7 @@ likely_good language region s is =
     let found = found_of (record { language = language; script = []; region = region }) to there in
     let settled = found_row likely_subtags is_settled found.key to rows_listed.settled found.found in
     let good = found_row likely_subtags are_good found.key to rows_listed.good found.found in
-    let whole = (and_parts (is_whole settled.row) (is_language_row settled.row || is_other_row settled.row) settled.holds_of_it).0 in
-    let field = (and_parts (is_script_field good.row.to.script) _ (and_parts (is_language_field good.row.to.language) _ good.holds_of_it).1).0 in
-    let some : is_there to.script ≡ true = sym (ap (λ f. is_there f.script) settled.to_is) ∙ whole_script settled.row whole in
-    ap is_script (sym same) ∙ there_script to.script (sym (ap (λ f. is_script_field f.script) good.to_is) ∙ field) some
+    ap is_script (sym same) ∙ there_script settled.row good.row to settled.to_is good.to_is settled.holds_of_it good.holds_of_it
 
 script_there : (s : List ℕ) → is_script s ≡ true → is_empty s ≡ false
 unfolding is_script
@@ -94,15 +73,16 @@ script_there (b ∷ s) is = refl
 -- ---- fields that are those of a tag
 
 pub record IsBase (f : Fields) : Type 0 where
-  base : Record
-  well : IsWellFormed base
-  is : fields_of base ≡ f
+  language : IsLanguage f.language
+  script : is_script_field f.script ≡ true
+  region : is_region_field f.region ≡ true
 
-abbrev placed : Record → Option (List ℕ) → Option (List ℕ) → Record
-placed b script region = record { primary = b.primary; extended = b.extended; script = script; region = region; variants = []; extensions = []; private_use = None }
-
-placed_well : (b : Record) (script region : Option (List ℕ)) → IsWellFormed b → IfSome script (λ s. IsTrue (is_script s)) → IfSome region (λ s. IsTrue (is_region s)) → IsWellFormed (placed b script region)
-placed_well b script region w s g = record { primary = w.primary; extended = w.extended; few = w.few; short = w.short; script = s; region = g; variants = tt; extensions = tt; private_use = tt }
+own_base : (r : Record) → IsWellFormed r → IsBase (fields_of r)
+own_base r well = record {
+  language = (r.primary, r.extended, language_spelled r (language_part r) well refl);
+  script = grind (arith, from_script);
+  region = grind (arith, from_region);
+}
 
 -- ---- a step from fields to others
 
@@ -117,49 +97,24 @@ pub record Step (f g : Fields) : Type 0 where
 no_step : (f : Fields) → IsBase f → Step f f
 no_step f base = record { base = base; written = written_same (script_of f); kept = inl (refl, inr refl) }
 
-kept_twice : (f g h : Fields) → IsKept f g → IsKept g h → IsKept f h
-kept_twice f g h first second = (
-  second.0 ∙ first.0,
-  elim second.1 [
-    | inl none ↦ inl none
-    | inr same ↦ elim first.1 [
-      | inl none ↦ inl (same ∙ none)
-      | inr also ↦ inr (same ∙ also)
-    ]
-  ],
-)
-
 two_steps : (f g h : Fields) → Step f g → Step g h → Step f h
 two_steps f g h first second = record {
   base = second.base;
   written = written_twice (script_of f) (script_of g) (script_of h) first.written second.written;
-  kept = elim second.kept [
-    | inr listed ↦ inr listed
-    | inl kept ↦ elim first.kept [
-      | inl also ↦ inl (kept_twice f g h also kept)
-      | inr (k, listed, also) ↦ inr (k, listed, kept_twice k g h also kept)
-    ]
-  ];
+  kept = grind (arith, first.kept, second.kept);
 }
 
 short_step : (f : Fields) → IsBase f → Step f (short f)
-short_step f base = by_test (has_likely_script f) refl
-  where
-    by_test : (b : Bool) → has_likely_script f ≡ b → Step f (cond b (without_script f) f)
-    by_test true likely = record {
-      base = record { base = placed base.base None base.base.region; well = placed_well base.base None base.base.region base.well tt base.well.region; is = ap without_script base.is };
-      written = without_likely f.script (likely_script f.language f.region) (likely_script f.language f.region) likely;
-      kept = inl (refl, inr refl);
-    }
-    by_test false other = no_step f base
+short_step f base = either_way (has_likely_script f) (λ likely. rw likely (record {
+  base = record { language = base.language; script = refl; region = base.region };
+  written = (likely_written f.script (likely_script f.language f.region) (likely_script f.language f.region) likely).0;
+  kept = inl (refl, inr refl);
+})) (λ other. rw other (no_step f base))
 
 -- ---- the parent in a row
 
 script_alike : (script other : List ℕ) (o : Option (List ℕ)) → Alike script other → WrittenAs (cond (is_empty other) o (Some other)) (cond (is_empty script) o (Some script))
-script_alike [] [] o same = written_same o
-script_alike [] (c ∷ other) o same = absurd cc
-script_alike (b ∷ script) [] o same = absurd cc
-script_alike (b ∷ script) (c ∷ other) o same = sym same
+script_alike script other o same = grind arith
 
 fields_alike : (f g : Fields) → AlikeFields f g → IsWrittenAs g f
 fields_alike f g same =
@@ -170,93 +125,53 @@ fields_alike f g same =
 stated_is : (to g : Fields) → stated to ≡ Some g → (is_there to.language ≡ true) × (to ≡ g)
 stated_is to g is = grind arith
 
-field_again : (text : List ℕ) → unwrap_or (subtag_of text) [] ≡ text
-field_again [] = refl
-field_again (b ∷ text) = refl
-
-script_class : (text : List ℕ) → is_script_field text ≡ true → IfSome (subtag_of text) (λ s. IsTrue (is_script s))
-script_class [] good = tt
-script_class (b ∷ text) good = good
-
-region_class : (text : List ℕ) → is_region_field text ≡ true → IfSome (subtag_of text) (λ s. IsTrue (is_region s))
-region_class [] good = tt
-region_class (b ∷ text) good = good
-
-there_language : (l : List ℕ) → is_language_field l ≡ true → is_there l ≡ true → is_primary l ≡ true
-there_language l good some = grind arith
-
-base_good : (g : Fields) → is_language_field g.language ≡ true → is_script_field g.script ≡ true → is_region_field g.region ≡ true → is_there g.language ≡ true → IsBase g
-base_good g l s r some =
-    let b : Record = record { primary = g.language; extended = []; script = subtag_of g.script; region = subtag_of g.region; variants = []; extensions = []; private_use = None } in
-    let script = field_again g.script in
-    let region = field_again g.region in
-    record {
-      base = b;
-      well = record { primary = there_language g.language l some; extended = tt; few = omega arith; short = inr refl; script = script_class g.script s; region = region_class g.region r; variants = tt; extensions = tt; private_use = tt };
-      is = rw (script, region) refl;
-    }
+row_base : (to : Fields) → is_there to.language ≡ true → (is_language_field to.language && (is_script_field to.script && is_region_field to.region)) ≡ true → IsBase to
+row_base to some good =
+    let first = and_parts (is_language_field to.language) _ good in
+    let second = and_parts (is_script_field to.script) _ first.1 in
+    let alone : SpellsLanguage to.language [] to.language =
+    record { first = grind (arith, first.0, some); others = tt; few = omega arith; short = inr refl; joined = refl } in
+    record { language = (to.language, [], alone); script = second.0; region = second.1 }
 
 row_step : (f to g : Fields) → likely_for parent_locales f ≡ Some to → stated to ≡ Some g → Step f g
 row_step f to g there is =
     let (some, same) = stated_is to g is in
     let good = found_row parent_locales are_good f to parents_listed.good there in
     let row = found_row parent_locales is_written f to all_written there in
-    let first = and_parts (is_language_field good.row.to.language) _ good.holds_of_it in
-    let second = and_parts (is_script_field good.row.to.script) _ first.1 in
-    let of_to : IsBase to =
-    base_good to (sym (ap (λ f. is_language_field f.language) good.to_is) ∙ first.0) (sym (ap (λ f. is_script_field f.script) good.to_is) ∙ second.0) (sym (ap (λ f. is_region_field f.region) good.to_is) ∙ second.1) some in
     let written : IsWrittenAs f to =
     written_twice (script_of f) (script_of row.row.from) (script_of to) (fields_alike row.row.from f row.from_is) (subst (IsWrittenAs row.row.from) row.to_is (row_written row.row (ap (λ f. is_there f.language) row.to_is ∙ some) row.holds_of_it)) in
-    subst (Step f) same (record { base = of_to; written = written; kept = inr (to, (f, there), (refl, inr refl)) })
+    subst (Step f) same (record { base = row_base to some (rw good.to_is at good.holds_of_it); written = written; kept = inr (to, (f, there), (refl, inr refl)) })
 
 stated_step : (f g : Fields) (other : Option Fields) → (other ≡ Some g → Step f g) → stated_or f other ≡ Some g → Step f g
-stated_step f g other later is = by_row (likely_for parent_locales f) refl is
-  where
-    by_row : (o : Option Fields) → likely_for parent_locales f ≡ o → option_map_or stated o other ≡ Some g → Step f g
-    by_row None there is = later is
-    by_row (Some to) there is = row_step f to g there is
+stated_step f g other later is = grind (arith, row_step f)
 
 -- ---- the script that a tag names
 
-likely_written : (script : List ℕ) (o p : Option (List ℕ)) → cond (is_empty script) false (option_map_or (are_alike script) o false) ≡ true → WrittenAs o (cond (is_empty script) p (Some script))
-likely_written [] o p likely = absurd cc
-likely_written (b ∷ script) None p likely = absurd cc
-likely_written (b ∷ script) (Some s) p likely = sym (alike_is (b ∷ script) s likely)
-
 named_step : (tag f : Fields) → IsBase tag → IsBase f → Step f (named tag f)
-named_step tag f of_tag base = by_test (are_alike_fields f (language_alone tag) && has_likely_script (without_region tag)) refl
-  where
-    by_test : (b : Bool) → (are_alike_fields f (language_alone tag) && has_likely_script (without_region tag)) ≡ b → Step f (cond b (with_script f tag.script) f)
-    by_test true both =
-        let parts = and_parts (are_alike_fields f (language_alone tag)) (has_likely_script (without_region tag)) both in
-        let same = alike_fields f (language_alone tag) parts.0 in
-        let alone : IsWrittenAs f (language_alone tag) = fields_alike (language_alone tag) f (record { language = sym same.language; script = sym same.script; region = sym same.region }) in
-        record {
-          base = record {
-            base = placed base.base of_tag.base.script base.base.region;
-            well = placed_well base.base of_tag.base.script base.base.region base.well of_tag.well.script base.well.region;
-            is = ap (λ g. with_script g (unwrap_or of_tag.base.script [])) base.is ∙ ap (λ t. with_script f t.script) of_tag.is;
-          };
-          written = written_twice (script_of f) (likely_script tag.language []) (script_of (with_script f tag.script)) alone (likely_written tag.script (likely_script tag.language []) (likely_script f.language f.region) parts.1);
-          kept = inl (refl, inr refl);
-        }
-    by_test false other = no_step f base
+named_step tag f of_tag base =
+    either_way (are_alike_fields f (language_alone tag) && has_likely_script (without_region tag)) (λ both. rw both (
+    let parts = and_parts (are_alike_fields f (language_alone tag)) (has_likely_script (without_region tag)) both in
+    let same = alike_fields f (language_alone tag) parts.0 in
+    let alone : IsWrittenAs f (language_alone tag) = fields_alike (language_alone tag) f (record { language = sym same.language; script = sym same.script; region = sym same.region }) in
+    let likely = (likely_written tag.script (likely_script tag.language []) (likely_script f.language f.region) parts.1).1 in
+    record {
+      base = record { language = base.language; script = of_tag.script; region = base.region };
+      written = written_twice (script_of f) (likely_script tag.language []) (script_of (with_script f tag.script)) alone likely;
+      kept = inl (refl, inr refl);
+    })) (λ other. rw other (no_step f base))
 
 -- ---- the usual parent
 
-alone_step : (f g : Fields) (o : Option (List ℕ)) → IsBase f → likely_script f.language [] ≡ o → option_map_or (λ s. None) o (Some (language_alone f)) ≡ Some g → Step f g
-alone_step f g None base unknown is =
-    let same : language_alone f ≡ g = cc in
-    subst (Step f) same (record {
-      base = record { base = placed base.base None None; well = placed_well base.base None None base.well tt tt; is = ap language_alone base.is };
-      written = subst (WrittenAs (script_of f)) (sym unknown) tt;
-      kept = inl (refl, inl refl);
-    })
-alone_step f g (Some s) base known is = absurd cc
+alone_step : (f : Fields) → IsBase f → likely_script f.language [] ≡ None → Step f (language_alone f)
+alone_step f base unknown = record {
+  base = record { language = base.language; script = refl; region = refl };
+  written = subst (WrittenAs (script_of f)) (sym unknown) tt;
+  kept = inl (refl, inl refl);
+}
 
 place_step : (f : Fields) → IsBase f → other_script f ≡ None → Step f (without_region f)
 place_step f base none = record {
-  base = record { base = placed base.base base.base.script None; well = placed_well base.base base.base.script None base.well base.well.script tt; is = ap without_region base.is };
+  base = record { language = base.language; script = base.script; region = refl };
   written = without_place f.script (likely_script f.language f.region) (likely_script f.language []) (none_alone f.language f.region) none;
   kept = inl (refl, inl refl);
 }
@@ -264,46 +179,42 @@ place_step f base none = record {
 -- with the script that is another one
 scripted_step : (f : Fields) (s : List ℕ) → IsBase f → other_script f ≡ Some s → Step f (with_script f s)
 scripted_step f s base other =
-    let it = other_is f.script s (likely_script f.language f.region) (likely_script f.language []) other in
-    let good = likely_good f.language f.region s it.here in
-    let own : script_of f ≡ Some s = ap (λ b. cond b (likely_script f.language f.region) (Some f.script)) it.empty ∙ it.here in
-    let there : script_of (with_script f s) ≡ Some s = ap (λ b. cond b (likely_script f.language f.region) (Some s)) (script_there s good) in
+    let (empty, here) = other_is f.script s (likely_script f.language f.region) (likely_script f.language []) other in
+    let good = likely_good f.language f.region s here in
     record {
-      base = record { base = placed base.base (Some s) base.base.region; well = placed_well base.base (Some s) base.base.region base.well good base.well.region; is = ap (λ f. with_script f s) base.is };
-      written = rw (own, there) refl;
+      base = record { language = base.language; script = from_script s good; region = base.region };
+      written = rw (empty, here, script_there s good) refl;
       kept = inl (refl, inr refl);
     }
 
 some_script : (f : Fields) → is_empty f.script ≡ false → other_script f ≡ None
 some_script f some = ap (λ b. cond b (unless_alike (likely_script f.language f.region) (likely_script f.language [])) None) some
 
-region_step : (f g : Fields) (o : Option (List ℕ)) → IsBase f → other_script f ≡ o → option_map_or (λ s. parent_in_script (with_script f s)) o (Some (without_region f)) ≡ Some g → Step f g
-region_step f g None base other is = let same : without_region f ≡ g = cc in subst (Step f) same (place_step f base other)
-region_step f g (Some s) base other is =
-    let first = scripted_step f s base other in
-    let it = other_is f.script s (likely_script f.language f.region) (likely_script f.language []) other in
-    let none = some_script (with_script f s) (script_there s (likely_good f.language f.region s it.here)) in
-    two_steps f (with_script f s) g first (stated_step (with_script f s) g (Some (without_region (with_script f s)))
-    (λ cut. let same : without_region (with_script f s) ≡ g = cc in subst (Step (with_script f s)) same (place_step (with_script f s) first.base none)) is)
+region_step : (f g : Fields) → IsBase f → parent_of_region f ≡ Some g → Step f g
+region_step f g base is = by_script (other_script f) refl is
+  where
+    by_script : (o : Option (List ℕ)) → other_script f ≡ o → option_map_or (λ s. parent_in_script (with_script f s)) o (Some (without_region f)) ≡ Some g → Step f g
+    by_script None other is = let same : without_region f ≡ g = cc in subst (Step f) same (place_step f base other)
+    by_script (Some s) other is =
+        let first = scripted_step f s base other in
+        let (empty, here) = other_is f.script s (likely_script f.language f.region) (likely_script f.language []) other in
+        let none = some_script (with_script f s) (script_there s (likely_good f.language f.region s here)) in
+        two_steps f (with_script f s) g first (stated_step (with_script f s) g (Some (without_region (with_script f s)))
+        (λ cut. let same : without_region (with_script f s) ≡ g = cc in subst (Step (with_script f s)) same (place_step (with_script f s) first.base none)) is)
 
-usual_step : (f g : Fields) (a b : Bool) → IsBase f → cond a (cond b None (parent_of_script f)) (parent_of_region f) ≡ Some g → Step f g
-usual_step f g true true base is = absurd cc
-usual_step f g true false base is = alone_step f g (likely_script f.language []) base refl is
-usual_step f g false b base is = region_step f g (other_script f) base refl is
+usual_step : (f g : Fields) → IsBase f → usual_parent f ≡ Some g → Step f g
+usual_step f g base is = grind (arith, alone_step f base, region_step f g base)
 
 parent_step : (f g : Fields) → IsBase f → parent_of f ≡ Some g → Step f g
 unfolding parent_of
-parent_step f g base is = stated_step f g (usual_parent f) (usual_step f g (is_empty f.region) (is_empty f.script) base) is
+parent_step f g base is = stated_step f g (usual_parent f) (usual_step f g base) is
 
 line_steps : (n : ℕ) (f g : Fields) → Step f g → AllByRecursion (Step f) (line n g)
 line_steps zero f g step = tt
-line_steps (suc n) f g step = (step, by_parent (line_steps n f) (parent_of (short g)) refl)
-  where
-    by_parent : ((h : Fields) → Step f h → AllByRecursion (Step f) (line n h)) → (o : Option Fields) → parent_of (short g) ≡ o → AllByRecursion (Step f) (option_map_or (line n) o [])
-    by_parent later None is = tt
-    by_parent later (Some h) is =
-        let to_short = short_step g step.base in
-        later h (two_steps f (short g) h (two_steps f g (short g) step to_short) (parent_step (short g) h to_short.base is))
+line_steps (suc n) f g step =
+    let to_short = short_step g step.base in
+    let both = two_steps f g (short g) step to_short in
+    (step, some_value (parent_of (short g)) (λ none. rw none tt) (λ h is. rw is (line_steps n f h (two_steps f (short g) h both (parent_step (short g) h to_short.base is)))))
 
 -- ---- what holds of each text of some endings
 
@@ -340,23 +251,16 @@ no_longer_rest vs others short =
 each_ending :
     (P : List ℕ → Type 0) (vs others : List (List ℕ)) → AllByRecursion IsFree vs → P (hyphenated (vs ++ others)) → AtEach P vs →
     AllByRecursion P (endings (hyphenated vs) (hyphenated (vs ++ others)))
-each_ending P vs others free whole all = (whole, by_test (nat_lt (length (hyphenated vs)) (length (hyphenated (vs ++ others)))) refl)
-  where
-    by_test :
-        (b : Bool) → nat_lt (length (hyphenated vs)) (length (hyphenated (vs ++ others))) ≡ b →
-        AllByRecursion P (cond b (hyphenated vs ∷ shorter (hyphenated vs)) (shorter (hyphenated (vs ++ others))))
-    by_test true is = (all vs [] (append-nil vs), each_shorter P vs free all)
-    by_test false is = subst (λ t. AllByRecursion P (shorter t)) (sym (no_longer_rest vs others is)) (each_shorter P vs free all)
+each_ending P vs others free whole all =
+    let shorter = each_shorter P vs free all in
+    let longer = nat_lt (length (hyphenated vs)) (length (hyphenated (vs ++ others))) in
+    (whole, either_way longer (λ is. rw is (all vs [] (append-nil vs), shorter)) (λ is. rw (is, no_longer_rest vs others is) shorter))
 
 each_form :
     (P : List ℕ → Type 0) (f : Fields) (es : List (List ℕ)) → AllByRecursion (λ e. P (text_of f e)) es → AllByRecursion (λ e. P (text_of (short f) e)) es →
     AllByRecursion P (with_each es f)
 each_form P f [] long cut = tt
-each_form P f (e ∷ es) long cut = each-append P (forms f e) (with_each es f) (long.0, by_test (has_likely_script f)) (each_form P f es long.1 cut.1)
-  where
-    by_test : (b : Bool) → AllByRecursion P (cond b (text_of (short f) e ∷ []) [])
-    by_test true = (cut.0, tt)
-    by_test false = tt
+each_form P f (e ∷ es) long cut = each-append P (forms f e) (with_each es f) (grind (arith, long.0, cut.0)) (each_form P f es long.1 cut.1)
 
 each_fields :
     (P : List ℕ → Type 0) (Q : Fields → Type 0) (texts : Fields → List (List ℕ)) (fs : List Fields) → ((f : Fields) → Q f → AllByRecursion P (texts f)) → AllByRecursion Q fs →
@@ -366,27 +270,11 @@ each_fields P Q texts (f ∷ fs) each all = each-append P (texts f) (flat_map te
 
 -- ---- the text of a record
 
-some_subtag : (o : Option (List ℕ)) → IfSome o (λ s. 1 ≤ length s) → subtag_of (unwrap_or o []) ≡ o
-some_subtag None some = refl
-some_subtag (Some []) some = absurd (omega (arith, some))
-some_subtag (Some (b ∷ s)) some = refl
-
-some_script_there : (o : Option (List ℕ)) → IfSome o (λ s. IsTrue (is_script s)) → IfSome o (λ s. 1 ≤ length s)
-some_script_there None is = tt
-some_script_there (Some s) is = let it = script_four s is in omega (arith, it.0)
-
-some_region_there : (o : Option (List ℕ)) → IfSome o (λ s. IsTrue (is_region s)) → IfSome o (λ s. 1 ≤ length s)
-some_region_there None is = tt
-some_region_there (Some s) is = let it = region_two_three s is in grind (arith, it)
-
 in_parts : (p : List ℕ) (es ss rs rest : List (List ℕ)) → join (join (p ∷ es) ∷ (ss ++ rs)) ++ hyphenated rest ≡ join (p ∷ (es ++ (ss ++ (rs ++ rest))))
 in_parts p es ss rs rest = simp (join-hyphenated, hyphenated-append, append_assoc)
 
-spelled : (r : Record) → IsWellFormed r → text_of (fields_of r) (rest_of r) ≡ spell r
-spelled r well =
-    let script = some_subtag r.script (some_script_there r.script well.script) in
-    let region = some_subtag r.region (some_region_there r.region well.region) in
-    rw (script, region) (in_parts r.primary r.extended (one_flat r.script) (one_flat r.region) (r.variants ++ (flat_map extension_flat r.extensions ++ private_part_flat r.private_use)))
+field_again : (text : List ℕ) → unwrap_or (subtag_of text) [] ≡ text
+field_again text = grind arith
 
 -- ---- a member of a chain
 
@@ -415,17 +303,18 @@ member :
     (r : Record) (g : Fields) (ws last : List (List ℕ)) (es : List Extension) (private_part : Option PrivateUse) → IsWellFormed r → Step (fields_of r) g → ws ++ last ≡ r.variants → IsEnd r es private_part →
     Member r (text_of g (hyphenated (ws ++ (flat_map extension_flat es ++ private_part_flat private_part))))
 member r g ws last es private_part well step is end =
-    let b = step.base.base in
-    let w = step.base.well in
-    let q : Record = record { primary = b.primary; extended = b.extended; script = b.script; region = b.region; variants = ws; extensions = es; private_use = private_part } in
-    let same : fields_of q ≡ g = step.base.is in
+    let (p, extended, language) = step.base.language in
+    let script = subtag_of g.script in
+    let region = subtag_of g.region in
+    let q : Record = record { primary = p; extended = extended; script = script; region = region; variants = ws; extensions = es; private_use = private_part } in
+    let same : fields_of q ≡ g = same_fields (fields_of q) g language.joined (field_again g.script) (field_again g.region) in
     let fits : IsWellFormed q = record {
-      primary = w.primary;
-      extended = w.extended;
-      few = w.few;
-      short = w.short;
-      script = w.script;
-      region = w.region;
+      primary = language.first;
+      extended = language.others;
+      few = language.few;
+      short = language.short;
+      script = grind (arith, step.base.script);
+      region = grind (arith, step.base.region);
       variants = variants_before ws last (subst (AllByRecursion (λ s. IsTrue (is_variant s))) (sym is) well.variants);
       extensions = end.extensions_well;
       private_use = end.use_well;
@@ -433,7 +322,7 @@ member r g ws last es private_part well step is end =
     let adds : (f : Fields) → IsKept f g → AddsNothing f r q = λ f kept. record { kept = subst (IsKept f) (sym same) kept; variants = (last, is); extensions = end.extensions; private_use = end.private_use } in
     record {
       q = q;
-      spells = (fits, sym (spelled q fits) ∙ ap (λ f. text_of f (rest_of q)) same);
+      spells = (fits, sym (in_parts p extended (one_flat script) (one_flat region) _) ∙ ap (λ l. join (l ∷ (one_flat script ++ one_flat region)) ++ rest_of q) language.joined);
       written = subst (IsWrittenAs (fields_of r)) (sym same) step.written;
       kept = elim step.kept [
         | inl kept ↦ inl (adds (fields_of r) kept)
@@ -466,14 +355,10 @@ members_plain r g well step =
 
 members_above :
     (r : Record) (f : Fields) → IsWellFormed r → IsBase (fields_of r) → Step (fields_of r) f → AllByRecursion (Member r) (above (fields_of r) (hyphenated r.variants) (parent_of f))
-members_above r f well own step = by_parent (parent_of f) refl
-  where
-    by_parent : (o : Option Fields) → parent_of f ≡ o → AllByRecursion (Member r) (above (fields_of r) (hyphenated r.variants) o)
-    by_parent None is = tt
-    by_parent (Some g) is =
-        each_fields (Member r) (Step (fields_of r)) (λ h. with_each (hyphenated r.variants ∷ shorter (hyphenated r.variants)) (named (fields_of r) h)) (line 8 g)
-        (λ h to_h. members_plain r (named (fields_of r) h) well (two_steps (fields_of r) h (named (fields_of r) h) to_h (named_step (fields_of r) h own to_h.base)))
-        (line_steps 8 (fields_of r) g (two_steps (fields_of r) f g step (parent_step f g step.base is)))
+members_above r f well own step = some_value (parent_of f) (λ none. rw none tt) (λ g is. rw is (
+    each_fields (Member r) (Step (fields_of r)) (λ h. with_each (hyphenated r.variants ∷ shorter (hyphenated r.variants)) (named (fields_of r) h)) (line 8 g)
+    (λ h to_h. members_plain r (named (fields_of r) h) well (two_steps (fields_of r) h (named (fields_of r) h) to_h (named_step (fields_of r) h own to_h.base)))
+    (line_steps 8 (fields_of r) g (two_steps (fields_of r) f g step (parent_step f g step.base is)))))
 
 given_member : (r : Record) → IsWellFormed r → Step (fields_of r) (fields_of r) → (b : Bool) → AllByRecursion (Member r) (cond b (text_of (fields_of r) (rest_of r) ∷ []) [])
 given_member r well step true = (whole_member r (fields_of r) well step, tt)
@@ -482,7 +367,7 @@ given_member r well step false = tt
 members : (r : Record) → IsWellFormed r → AllByRecursion (Member r) (chain_of r)
 members r well =
     let f = fields_of r in
-    let own : IsBase f = record { base = r; well = well; is = refl } in
+    let own = own_base r well in
     let first = no_step f own in
     let second = short_step f own in
     let third = two_steps f (short f) (named f (short f)) second (named_step f (short f) own second.base) in

@@ -147,6 +147,7 @@ fn shortened<'a>(rest: &'a [u8], variants: &'a [u8]) -> Option<&'a [u8]>
 }
 
 /// Returns a string without its last subtag and the hyphen before it.
+#[tactic(auto, using(crate::proofs::Texts::no_longer))]
 fn without_last(text: &[u8]) -> Option<&[u8]>
     ensures fewer { IfSome result (λ shorter. length shorter.now ≤ length text.now) }
     ensures shorter { shorter text.now ≡ option_map_or (λ text. text.now ∷ shorter text.now) result [] }

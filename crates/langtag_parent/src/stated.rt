@@ -48,6 +48,7 @@ fn key_number(fields: TagFields<'_>) -> u128
     language * 72057594037927936 + (script * 16777216 + region)
 }
 
+#[tactic(auto, using(crate::proofs::Rows::parents_listed))]
 fn parent_keys() -> &'static [u128]
     ensures numbers { result.now ≡ map (λ row. key_number row.from) parent_locales }
     ensures climbs { IsTrue (climbs_from 0 result.now) }
@@ -57,6 +58,7 @@ fn parent_keys() -> &'static [u128]
 }
 
 /// Returns the right side of the row at an index.
+#[tactic(auto, using(crate::proofs::Rows::parents_listed))]
 fn parent_at(index: usize) -> TagFields<'static>
     requires { index < length parent_locales }
     ensures { field_texts result ≡ (slice_index_or parent_locales index no_row).to }

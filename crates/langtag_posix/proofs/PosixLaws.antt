@@ -3,6 +3,7 @@ use Rattle.langtag_scan.proofs.Prelude.{◌≡◌, ℕ, ◌+◌, ◌-◌, ◌≤
 use Rattle.langtag_scan.specs.Grammar.{are_alike, is_extension_subtag, is_mark, is_singleton, is_letter, is_digit, is_variant, is_script, ends_of, to_region, Extension, Record, IsWellFormed, extension_flat, private_part_flat, spell, EachRecord, Spells, join, IsNormal, IsTag}
 use Rattle.langtag_scan.proofs.Laws.{ends_in_order, length-spell, hyphenated, hyphenated-append, join-hyphenated, length-join, script_four, IsAscii-spelled, of_script, variant_four}
 use Rattle.langtag_text.proofs.Alike.{alike_length}
+use Rattle.langtag_range.specs.Definitions.{front_of}
 use Rattle.langtag_cldr.specs.Definitions.{or_else}
 use Rattle.langtag_posix.proofs.Definitions.{IsAroundPosix, is_posix_alone, posix_extension, posix_replaced, modifier_of, said_script, script_behind, with_said, with_said_script, with_said_variant, is_script_code, modifier_script, modifier_variant}
 use Rattle.langtag.specs.Definitions.{with_script, script_text, IsVariants, IsForm}
@@ -29,11 +30,7 @@ posix_well_formed r fits = grind arith
 
 -- ---- the text
 
--- the extensions and the private use part, with a hyphen before each subtag
-abbrev rest : Record → List ℕ
-rest r = hyphenated (flat_map extension_flat r.extensions ++ private_part_flat r.private_use)
-
-whole_text : (r : Record) → spell r ≡ join (to_region r) ++ (hyphenated r.variants ++ rest r)
+whole_text : (r : Record) → spell r ≡ join (to_region r) ++ (hyphenated r.variants ++ hyphenated (flat_map extension_flat r.extensions ++ private_part_flat r.private_use))
 whole_text r = simp (join-hyphenated, hyphenated-append, append_assoc)
 
 variants_end : (r : Record) → (ends_of r).variants ≡ length (join (to_region r)) + length (hyphenated r.variants)
@@ -111,12 +108,11 @@ posix_tag r new fits same = inl (posix_replaced r, (posix_well_formed r fits, sy
 pub is_variants : (variant : List ℕ) → IsTrue (is_variant variant) → IsVariants variant
 is_variants variant is = (variant ∷ [], record { members = (is, tt); joined = refl })
 
-module _ (r : Record) (fits : IsWellFormed r) where
-  variant_fits : (variant : Option (List ℕ)) → IfSome variant (λ v. IsTrue (is_variant v)) → IsWellFormed (with_said_variant variant r)
-  variant_fits variant is = grind arith
+variant_well_formed : (variant : Option (List ℕ)) → IfSome variant (λ v. IsTrue (is_variant v)) → (r : Record) → IsWellFormed r → IsWellFormed (with_said_variant variant r)
+variant_well_formed variant is r fits = grind arith
 
-  script_fits : (script : Option (List ℕ)) → IfSome script (λ s. IsTrue (is_script s)) → IsWellFormed (with_said_script script r)
-  script_fits script is = grind (arith, script-replaces)
+pub script_well_formed : (script : Option (List ℕ)) → IfSome script (λ s. IsTrue (is_script s)) → (r : Record) → IsWellFormed r → IsWellFormed (with_said_script script r)
+script_well_formed script is r fits = grind (arith, script-replaces)
 
 script_by :
     (a b c d : Bool) (m : List ℕ) → (d ≡ true → IsTrue (is_script m)) →
@@ -143,15 +139,12 @@ or_else-fits : (a b : Option (List ℕ)) → IfSome a (λ s. IsTrue (is_script s
 or_else-fits a b first second = grind arith
 
 pub said_script-fits : (name : List ℕ) → IfSome (said_script name) (λ s. IsTrue (is_script s))
-said_script-fits name = grind (arith, common_steps, modifier_script-fits, behind-fits, or_else-fits)
-
-pub script_well_formed : (script : Option (List ℕ)) → IfSome script (λ s. IsTrue (is_script s)) → (r : Record) → IsWellFormed r → IsWellFormed (with_said_script script r)
-script_well_formed script is r fits = script_fits r fits script is
+said_script-fits name = or_else-fits _ _ (modifier_script-fits (modifier_of name)) (behind-fits (front_of name))
 
 pub said_well_formed : (name : List ℕ) (r : Record) → IsWellFormed r → IsWellFormed (with_said name r)
 said_well_formed name r fits =
-    variant_fits (with_said_script (said_script name) (posix_replaced r)) (script_fits (posix_replaced r) (posix_well_formed r fits) (said_script name) (said_script-fits name)) (modifier_variant (modifier_of name))
-    (modifier_variant-fits (modifier_of name))
+    variant_well_formed (modifier_variant (modifier_of name)) (modifier_variant-fits (modifier_of name)) _
+    (script_well_formed (said_script name) (said_script-fits name) (posix_replaced r) (posix_well_formed r fits))
 
 -- ---- values of the code
 

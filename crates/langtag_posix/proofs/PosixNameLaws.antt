@@ -1,11 +1,10 @@
 -- The text of a name, and that it is read as it stands: neither Android nor .NET writes a tag so.
-use Rattle.langtag_scan.proofs.Prelude.{◌≡◌, ℕ, ◌≤◌, not, true, false, Bool, cond, suc, List, [], ◌∷◌, ◌++◌, length, IfSome, refl, sym, ap, ◌∙◌, arith, flat_map, append_assoc, append-nil, unwrap_or, ◌<◌, ◌==◌, inl, inr, None, subst, ◌⊎◌, codes, length-append, AllByRecursion, after_first, before_first, list_any, and_parts, or_parts, false_from_ne_true, nat_tests, map-append, list_any-append, take_while-cons, option_map, ◌&&◌, Some, Option, Bor, is_some, common_steps}
+use Rattle.langtag_scan.proofs.Prelude.{◌≡◌, ℕ, ◌≤◌, not, true, false, Bool, cond, suc, List, [], ◌∷◌, ◌++◌, length, IfSome, refl, sym, ap, ◌∙◌, arith, flat_map, append_assoc, append-nil, unwrap_or, ◌<◌, ◌==◌, inl, inr, None, subst, ◌⊎◌, codes, length-append, AllByRecursion, after_first, before_first, list_any, and_parts, or_parts, false_from_ne_true, nat_tests, map-append, list_any-append, take_while-cons, option_map, ◌&&◌, Option, Bor, is_some, common_steps}
 use Rattle.std.specs.Bool.{nat_le}
 use Rattle.langtag_scan.specs.Grammar.{Alike, fold_byte, are_alike, are_alphanumeric, is_alphanumeric, is_digit, is_letter, is_region, is_script, is_variant, Record, extension_flat, one_flat, private_part_flat, spell, join, is_hyphen, are_alike-decides}
 use Rattle.langtag_scan.proofs.Laws.{drop-join, hyphenated, hyphenated-append, join-hyphenated, alike_region, region_short, script_four, of_region, of_variant}
 use Rattle.langtag_range.specs.Wanted.{hyphened, hyphened_byte}
-use Rattle.langtag_cldr.specs.Definitions.{or_else}
-use Rattle.langtag_posix.specs.PlatformNames.{android_region, behind_nothing, has_marked_region, is_short_language, language_or_und}
+use Rattle.langtag_posix.specs.PlatformNames.{android_region, has_marked_region, is_short_language}
 use Rattle.langtag_posix.proofs.Definitions.{behind_gap, filled, is_of_language, nynorsk, platform_text, is_empty, is_script_code, after_variants, marked, is_plus, without_gap, marked_region, platform_behind, platform_read, read_place, region_now}
 use Rattle.langtag_text.proofs.Alike.{alike_is, alike_length}
 
@@ -80,9 +79,7 @@ module _ (a b c : List ℕ) (first : are_alphanumeric a ≡ true) (second : are_
 module _ (p : ℕ → Bool) where
   pub before_rest : (text rest : List ℕ) → list_any p text ≡ false → before_first p (text ++ rest) ≡ text ++ before_first p rest
   before_rest [] rest free = refl
-  before_rest (b ∷ text) rest free =
-      let k = or_parts (p b) (list_any p text) free in
-      take_while-cons (λ byte. not (p byte)) b (text ++ rest) ∙ rw k.0 (ap (λ t. b ∷ t) (before_rest text rest k.1))
+  before_rest (b ∷ text) rest free = grind (arith, nat_tests, or_parts, take_while-cons (λ byte. not (p byte)) b (text ++ rest), before_rest text rest)
 
   pub after_rest : (text rest : List ℕ) → list_any p text ≡ false → after_first p (text ++ rest) ≡ after_first p rest
   after_rest [] rest free = refl
@@ -97,8 +94,7 @@ pub region_now_few : (language region : List ℕ) → is_region region ≡ true 
 region_now_few language region is = grind (arith, region_short)
 
 pub begins_some : (text : List ℕ) → is_variant (before_first is_hyphen text) ≡ true → 1 ≤ length text
-begins_some [] is = absurd (let some = (of_variant [] is).some in omega (arith, some))
-begins_some (b ∷ text) is = omega arith
+begins_some text is = grind (arith, of_variant [])
 
 pub marked_some : (text : List ℕ) → 1 ≤ length text → marked 45 text ≡ 45 ∷ text
 marked_some text some = grind (arith, nat_tests)
@@ -109,18 +105,13 @@ region_now_marked language region is = marked_some (region_now language region) 
 -- ---- a region with Android's mark
 
 pub some_region : (o : Option (Bor (List ℕ))) (p : Option (List ℕ)) → option_map (λ region. region.now) o ≡ p → is_some o ≡ is_some p
-some_region None p is = ap is_some is
-some_region (Some region) p is = ap is_some is
+some_region o p is = grind arith
 
 pub marked_by :
     (text language behind region : List ℕ) (short found : Bool) → language ≡ before_first is_hyphen text → behind ≡ after_first is_hyphen text → region ≡ before_first is_hyphen behind →
     short ≡ is_short_language language → short ≡ true → found ≡ is_some (android_region language region) → found ≡ has_marked_region text
 marked_by text language behind region short found language_is behind_is region_is short_is is_short found_is =
-    found_is
-    ∙ ap (λ s. s && is_some (android_region language region)) (sym is_short ∙ short_is)
-    ∙ ap (λ r. is_short_language language && is_some (android_region language r)) region_is
-    ∙ ap (λ b. is_short_language language && is_some (android_region language (before_first is_hyphen b))) behind_is
-    ∙ ap (λ l. is_short_language l && is_some (android_region l (before_first is_hyphen (after_first is_hyphen text)))) language_is
+    found_is ∙ ap (λ s. s && is_some (android_region language region)) (sym is_short ∙ short_is) ∙ rw (region_is, behind_is, language_is) refl
 
 -- ---- the text behind a language
 
@@ -136,22 +127,14 @@ ordinary language behind is = grind (arith, nat_tests)
 
 -- ---- the four texts behind the language of a name
 
-no_code_in_posix : is_script_code (codes "POSIX") ≡ false
+no_codes : (is_script_code (codes "POSIX") ≡ false) × (is_script_code [] ≡ false)
 unfolding is_script
-no_code_in_posix = refl
-
-no_code_in_nothing : is_script_code [] ≡ false
-unfolding is_script
-no_code_in_nothing = refl
+no_codes = (refl, refl)
 
 -- .NET's names for Chinese are no regions, so neither is a region alike one of them
-no_regions : (is_region (codes "CHS") ≡ false) × (is_region (codes "CHT") ≡ false)
+no_regions : (is_region (codes "CHS") ≡ false) × (is_region (codes "CHT") ≡ false) × (is_region (codes "NO-NY") ≡ false)
 unfolding is_region is_digit
-no_regions = (refl, refl)
-
-no_nynorsk_region : is_region (codes "NO-NY") ≡ false
-unfolding is_region is_digit
-no_nynorsk_region = refl
+no_regions = (refl, refl, refl)
 
 other_than : (text region : List ℕ) → is_region text ≡ false → is_region region ≡ true → are_alike text region ≡ false
 other_than text region other is = grind (arith, alike_is, are_alike-decides, alike_region)
@@ -168,8 +151,7 @@ no_mark mark small b is = grind (arith, nat_tests)
 -- no field before or behind a region is empty
 region_gap : (region rest : List ℕ) → is_region region ≡ true → behind_gap (region ++ rest) ≡ None
 region_gap [] rest is = absurd (let some = (of_region [] is).some in omega (arith, some))
-region_gap (b ∷ region) rest is =
-    rw (no_mark 45 (omega arith) b (and_parts (is_alphanumeric b) (are_alphanumeric region) (of_region (b ∷ region) is).alphanumeric).0) refl
+region_gap (b ∷ region) rest is = grind (arith, no_mark 45 (omega arith) b, and_parts, of_region (b ∷ region) is)
 
 region_no_script : (region : List ℕ) → is_region region ≡ true → is_script region ≡ false
 region_no_script region is = false_from_ne_true (is_script region) (λ script. omega (arith, (script_four region script).0, region_short region is))
@@ -181,14 +163,10 @@ region_gapless region rest is ends =
     rw (region_gap region rest is, first, region_no_script region is) refl
 
 region_behind : (region : List ℕ) → is_region region ≡ true → IsOrdinary region
-region_behind region is = record {
-  simplified = other_than (codes "CHS") region no_regions.0 is;
-  traditional = other_than (codes "CHT") region no_regions.1 is;
-  unmarked = region_unmarked region is;
-  in_order =
-      let free = free_of is_hyphen (no_mark 45 (omega arith)) region (of_region region is).alphanumeric in
-      ap is_script_code (ap (after_first is_hyphen) (sym (append-nil region)) ∙ after_rest is_hyphen region [] free) ∙ no_code_in_nothing;
-}
+region_behind region is =
+    let free = free_of is_hyphen (no_mark 45 (omega arith)) region (of_region region is).alphanumeric in
+    let nothing = after_rest is_hyphen region [] free in
+    grind (arith, append-nil region, nothing, other_than (codes "CHS") region, other_than (codes "CHT") region, no_regions, region_unmarked region, no_codes)
 
 -- a text of six bytes or more is neither .NET's name for Chinese nor a region behind a mark
 long_unmarked : (text : List ℕ) → 5 ≤ length text → marked_region text ≡ None
@@ -203,12 +181,8 @@ both_behind region is =
     let text = region ++ 45 ∷ codes "POSIX" in
     let long : 5 ≤ length text = omega (arith, length-append region (45 ∷ codes "POSIX")) in
     let free = free_of is_hyphen (no_mark 45 (omega arith)) region (of_region region is).alphanumeric in
-    record {
-      simplified = long_other (codes "CHS") text refl long;
-      traditional = long_other (codes "CHT") text refl long;
-      unmarked = long_unmarked text long;
-      in_order = ap is_script_code (after_rest is_hyphen region (45 ∷ codes "POSIX") free) ∙ no_code_in_posix;
-    }
+    let posix = after_rest is_hyphen region (45 ∷ codes "POSIX") free in
+    grind (arith, posix, long_other (codes "CHS") text, long_other (codes "CHT") text, long_unmarked text, no_codes)
 
 -- ---- a name
 
@@ -232,9 +206,7 @@ gapless_behind b c (inr is) (inl plain) = rw (plain, marked_some b (of_region b 
 gapless_behind b c (inr is) (inr posix) = rw (posix, marked_some b (of_region b is).some) (region_gapless b (45 ∷ codes "POSIX") is refl)
 
 ends_first : (b c : List ℕ) → before_first is_hyphen (marked 45 b ++ (marked 45 c ++ [])) ≡ []
-ends_first [] [] = refl
-ends_first [] (x ∷ c) = refl
-ends_first (x ∷ b) c = refl
+ends_first b c = grind arith
 
 -- the text behind the language is not that of no_NO_NY
 not_nynorsk :
@@ -244,15 +216,11 @@ unfolding fold_byte
 not_nynorsk b c (inl none) (inl plain) = rw (none, plain) refl
 not_nynorsk b c (inl none) (inr posix) = rw (none, posix) refl
 not_nynorsk b c (inr is) (inl plain) =
-    rw (plain, marked_some b (of_region b is).some) (subst (λ t. are_alike (codes "NO-NY") t ≡ false) (sym (append-nil b)) (other_than (codes "NO-NY") b no_nynorsk_region is))
+    rw (plain, marked_some b (of_region b is).some) (subst (λ t. are_alike (codes "NO-NY") t ≡ false) (sym (append-nil b)) (other_than (codes "NO-NY") b no_regions.2 is))
 not_nynorsk b c (inr is) (inr posix) =
     let text = b ++ 45 ∷ codes "POSIX" in
     rw (posix, marked_some b (of_region b is).some)
     (false_from_ne_true (are_alike (codes "NO-NY") text) (λ same. omega (arith, alike_length (codes "NO-NY") text same, length-append b (45 ∷ codes "POSIX"))))
-
-none_and : (test : Bool) → cond (test && false) (Some (codes "nn-NO")) None ≡ None
-none_and true = refl
-none_and false = refl
 
 of_three : (few short sgn : Bool) (o : Option (List ℕ)) → few ≡ true → o ≡ None → (few && not (short && is_some (cond sgn None o))) ≡ true
 of_three few short sgn o is_few none = grind (arith, common_steps)
@@ -267,14 +235,6 @@ second_unmarked b c (inr is) variant =
     let free = free_of is_hyphen (no_mark 45 (omega arith)) b (of_region b is).alphanumeric in
     let first : before_first is_hyphen (b ++ (marked 45 c ++ [])) ≡ b = before_rest is_hyphen b (marked 45 c ++ []) free ∙ ap (λ t. b ++ t) (ends_first [] c) ∙ append-nil b in
     rw (marked_some b (of_region b is).some) (ap marked_region first ∙ region_unmarked b is)
-
-same_both : {X : Type 0} (test : Bool) (x : X) → cond test x x ≡ x
-same_both true x = refl
-same_both false x = refl
-
-some_not_empty : (text : List ℕ) → 2 ≤ length text → is_empty text ≡ false
-some_not_empty [] long = absurd (omega (arith, long))
-some_not_empty (b ∷ text) long = refl
 
 module _ (a b c : List ℕ) (first : are_alphanumeric a ≡ true) (second : are_alphanumeric b ≡ true) (third : are_alphanumeric c ≡ true) (long : 2 ≤ length a) (is : IsTerritory b c) where
   abbrev text : List ℕ
@@ -293,32 +253,23 @@ module _ (a b c : List ℕ) (first : are_alphanumeric a ≡ true) (second : are_
   before = before_rest is_hyphen a rest free ∙ ap (λ t. a ++ t) (ends_first b c) ∙ append-nil a
 
   no_nynorsk : nynorsk a behind ≡ None
-  no_nynorsk =
-      ap (λ test. cond (are_alike (codes "no") a && test) (Some (codes "nn-NO")) None) (not_nynorsk b c is.territory is.variant) ∙ none_and (are_alike (codes "no") a)
+  no_nynorsk = grind (arith, nat_tests, not_nynorsk b c is.territory is.variant)
 
   no_platform : platform_text a behind ≡ None
-  no_platform =
-      ap (λ o. cond (is_short_language a) (option_map (λ text. a ++ 45 ∷ text) o) None) (ordinary a behind (behind_is b c is.territory is.variant)) ∙ same_both (is_short_language a) None
+  no_platform = grind (arith, nat_tests, ordinary a behind (behind_is b c is.territory is.variant))
 
   no_field : filled a behind ≡ None
-  no_field =
-      ap (λ o. option_map (λ text. language_or_und a ++ 45 ∷ text) (or_else o (behind_nothing a behind))) (gapless_behind b c is.territory is.variant)
-      ∙ ap (λ empty. option_map (λ text. language_or_und a ++ 45 ∷ text) (cond (empty && not (is_empty behind)) (Some behind) None)) (some_not_empty a long)
+  no_field = grind (arith, nat_tests, gapless_behind b c is.territory is.variant)
 
   kept : platform_read text ≡ text
-  kept =
-      ap (λ l. unwrap_or (or_else (nynorsk l (after_first is_hyphen text)) (or_else (platform_text l (after_first is_hyphen text)) (filled l (after_first is_hyphen text)))) text) before
-      ∙ ap (λ t. unwrap_or (or_else (nynorsk a t) (or_else (platform_text a t) (filled a t))) text) (after_rest is_hyphen a rest free)
-      ∙ ap (λ o. unwrap_or (or_else o (or_else (platform_text a behind) (filled a behind))) text) no_nynorsk
-      ∙ ap (λ o. unwrap_or (or_else o (filled a behind)) text) no_platform ∙ ap (λ o. unwrap_or o text) no_field
+  kept = rw (before, after_rest is_hyphen a rest free, no_nynorsk, no_platform, no_field) refl
 
   -- the language has at most three letters, and the region has no mark
   place_of_language : length a ≤ 3 → is_of_language text ≡ true
   place_of_language few =
-      ap (λ l. nat_le (length l) 3 && not (is_short_language l && is_some (android_region l (before_first is_hyphen (after_first is_hyphen text))))) before
-      ∙ ap (λ t. nat_le (length a) 3 && not (is_short_language a && is_some (android_region a (before_first is_hyphen t)))) (after_rest is_hyphen a rest free)
-      ∙ of_three (nat_le (length a) 3) (is_short_language a) (are_alike (codes "sgn") a) (marked_region (before_first is_hyphen behind)) (grind (arith, nat_tests))
-      (second_unmarked b c is.territory is.variant)
+      rw (before, after_rest is_hyphen a rest free)
+      (of_three (nat_le (length a) 3) (is_short_language a) (are_alike (codes "sgn") a) (marked_region (before_first is_hyphen behind)) (grind (arith, nat_tests))
+      (second_unmarked b c is.territory is.variant))
 
   unplussed : are_alike (codes "b") (before_first is_plus (place_text a b c)) ≡ false
   unplussed =

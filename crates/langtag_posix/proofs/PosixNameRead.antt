@@ -1,18 +1,18 @@
 -- `from_posix` reads the name of a tag as the tag.
-use Rattle.langtag_scan.proofs.Prelude.{◌≡◌, ℕ, ◌+◌, ◌≤◌, not, true, false, Bool, cond, List, [], ◌∷◌, ◌++◌, length, Option, None, Some, IfSome, IsTrue, IsAscii, IsUtf8, ◌<◌, refl, sym, ap, subst, inl, inr, ◌∙◌, ◌⊎◌, arith, codes, find, flat_map, append_assoc, append-nil, length-append, option_map, unwrap_or, Bor, ◌&&◌, ◌||◌, take, leb, AllByRecursion, after_first, before_first, list_all, option_and_then, and_parts, leb-true, common_steps, nat_tests, IsAscii-append, IsUtf8-from_ascii, IsAscii-cons, IsAscii-nil, lowercase-uppercase}
+use Rattle.langtag_scan.proofs.Prelude.{◌≡◌, ℕ, ◌+◌, ◌≤◌, not, true, false, Bool, cond, List, [], ◌∷◌, ◌++◌, length, Option, None, Some, IfSome, IsTrue, IsAscii, IsUtf8, ◌<◌, refl, sym, ap, subst, inl, inr, ◌∙◌, ◌⊎◌, arith, and-false, codes, find, flat_map, append_assoc, append-nil, length-append, option_map, unwrap_or, Bor, ◌&&◌, leb, AllByRecursion, after_first, before_first, list_all, option_and_then, and_parts, common_steps, nat_tests, IsAscii-append, IsUtf8-from_ascii, IsAscii-cons, IsAscii-nil, lowercase-uppercase}
 use Rattle.langtag_scan.specs.Grammar.{Alike, are_alike, fold_byte, fold_text, are_alike-decides, are_alphanumeric, are_letters, is_alphanumeric, is_digit, is_letter, is_region, is_script, is_variant, language_part, variants_part, Extension, IsWellFormed, Record, extension_flat, one_flat, spell, join, IsNormal, IsTag}
 use Rattle.langtag_scan.proofs.Laws.{alike_primary, alike_region, fold_text-twice, length-fold, extended_three, region_short, hyphenated, length-join, IsAscii-each, alphanumeric_below, normal_or_not, letters_alphanumeric, of_primary, of_region, of_script, of_variant}
 use Rattle.langtag_text.specs.RecommendedCase.{capital_text}
 use Rattle.langtag_text.specs.Fields.{Fields}
 use Rattle.langtag.specs.Definitions.{with_script}
 use Rattle.langtag_text.proofs.Alike.{alike_is}
-use Rattle.langtag_range.specs.Definitions.{ends_locale, front_of, is_hash, locale_place, place_before, without_mark, hyphened}
+use Rattle.langtag_range.specs.Definitions.{ends_locale, front_of, is_hash, locale_place, hyphened}
 use Rattle.langtag_cldr.specs.Definitions.{language_alone, or_else, without_script}
 use Rattle.langtag_likely.proofs.Definitions.{fields_of}
-use Rattle.langtag_posix.proofs.Definitions.{is_empty, modifier_for, modifier_script, modifier_variant, modifiers, names, IsTagOfName, NamesTag, are_keywords, keywords_text, extensions_behind, is_java_place, place_of, place_read, text_of_name, without_java_field, is_at, is_underscore, modifier_of, posix_extension, posix_replaced, said_script, script_behind, with_said, with_said_script, with_said_variant, IsPosixName, IsReadBack, NameParts, ReadsBack, after_variants, is_likely, is_named, is_of_language, marked, name_modifier, name_parts, name_variant, read_place}
-use Rattle.langtag_posix.specs.KeywordNames.{key_named, key_names, keyword_texts, type_named, type_names}
+use Rattle.langtag_posix.proofs.Definitions.{is_empty, modifier_for, modifier_script, modifier_variant, modifiers, names, IsTagOfName, NamesTag, are_keywords, extensions_behind, is_java_place, place_of, place_read, text_of_name, is_at, modifier_of, posix_extension, posix_replaced, said_script, with_said, with_said_script, with_said_variant, IsPosixName, IsReadBack, NameParts, ReadsBack, after_variants, is_likely, is_named, is_of_language, marked, name_modifier, name_parts, name_variant, read_place}
+use Rattle.langtag_posix.specs.KeywordNames.{key_named, key_names, type_named, type_names}
 use Rattle.langtag_posix.specs.ToPosix.{name_text}
-use Rattle.langtag_posix.proofs.PosixNameLaws.{no_mark, place_kept, read_of_language, IsPlain, after_others, after_rest, alike_text, before_rest, marked_cut, others, place_free, place_hyphened, place_text, spelled_text, tag_text}
+use Rattle.langtag_posix.proofs.PosixNameLaws.{no_mark, place_kept, read_of_language, IsPlain, after_others, after_rest, alike_text, before_rest, marked_cut, others, place_free, place_hyphened, place_text, spelled_text}
 use Rattle.langtag_cldr.proofs.AddedTwice.{some_value}
 use Rattle.langtag_posix.proofs.PosixLaws.{said_well_formed, others_stay}
 use Rattle.langtag_text.proofs.Letters.{primary_length}
@@ -92,10 +92,10 @@ variant_of_tag : (r : Record) (variant : List ℕ) → name_variant (others r) �
 variant_of_tag r variant is = by_text (others r) refl is
   where
     by_text : (text : List ℕ) → others r ≡ text → name_variant text ≡ Some variant → (extensions : List Extension) × IsVariantOf r variant extensions
-    by_text [] none is = let empty : [] ≡ variant = cc in ([], subst (λ v. IsVariantOf r v []) empty (no_variant r none))
+    by_text [] none is = let empty : [] ≡ variant = cc in ([], rw empty at (no_variant r none))
     by_text (b ∷ text) some is =
         let (same, posix) = cond_some (are_alike (codes "-u-va-posix") (b ∷ text)) (codes "POSIX") variant is in
-        (posix_extension ∷ [], subst (λ v. IsVariantOf r v (posix_extension ∷ [])) posix (posix_variant r (ap (are_alike (codes "-u-va-posix")) some ∙ same)))
+        (posix_extension ∷ [], rw posix at (posix_variant r (ap (are_alike (codes "-u-va-posix")) some ∙ same)))
 
 -- ---- the modifier of a name
 
@@ -111,17 +111,15 @@ found_in : {X : Type 0} (test is_good : X → Bool) (xs : List X) (x : X) → li
 found_in test is_good [] x all is = absurd cc
 found_in test is_good (y ∷ xs) x all is = grind (arith, common_steps, and_parts (is_good y), found_in test is_good xs x)
 
-not_true : (b : Bool) → not b ≡ true → b ≡ false
-not_true b is = grind (arith, common_steps)
+said_of :
+    (s v m : List ℕ) → names s v m ≡ true → ((leb (length m) 14 && are_letters m) && not (are_keywords m)) ≡ true → IsSaid s v m
+said_of s v m named good = grind (arith, nat_tests, and_parts, alike_is)
 
 modifier_said : (s v modifier : List ℕ) → modifier_for s v ≡ Some modifier → IsSaid s v modifier
 unfolding modifier_for is_letter key_named key_names type_named type_names fold_byte
 modifier_said s v modifier is =
     let (named, good) = found_in (names s v) (λ m. (leb (length m) 14 && are_letters m) && not (are_keywords m)) modifiers modifier refl is in
-    let both = and_parts (are_alike (unwrap_or (modifier_script modifier) []) s) (are_alike (unwrap_or (modifier_variant modifier) []) v) named in
-    let plain = and_parts (leb (length modifier) 14 && are_letters modifier) (not (are_keywords modifier)) good in
-    let size = and_parts (leb (length modifier) 14) (are_letters modifier) plain.0 in
-    record { script = alike_is _ s both.0; variants = alike_is _ v both.1; few = leb-true (length modifier) 14 size.0; letters = size.1; no_keywords = not_true (are_keywords modifier) plain.1 }
+    said_of s v modifier named good
 
 tried : (likely alone : Bool) (written left_out : Option (List ℕ)) (m : List ℕ) → cond (not likely) written (cond alone left_out (or_else written left_out)) ≡ Some m →
     (written ≡ Some m) ⊎ ((left_out ≡ Some m) × (likely ≡ true))
@@ -174,8 +172,7 @@ join-listed v = grind (arith, common_steps)
 -- ---- a name is cut in its parts
 
 before_modifier : (modifier : List ℕ) → before_first ends_locale (marked 64 modifier) ≡ []
-before_modifier [] = refl
-before_modifier (b ∷ modifier) = refl
+before_modifier modifier = grind arith
 
 after_at : (modifier : List ℕ) → after_first is_at (marked 64 modifier) ≡ modifier
 after_at modifier = grind arith
@@ -188,10 +185,7 @@ no_at : (b : ℕ) → is_alphanumeric b ≡ true → is_at b ≡ false
 unfolding is_letter is_digit
 no_at b is = grind (arith, nat_tests)
 
-abbrev script_in : List ℕ → Option (List ℕ)
-script_in text = cond (is_script (before_first is_underscore text)) (Some (before_first is_underscore text)) None
-
-no_script : script_in [] ≡ None
+no_script : is_script [] ≡ false
 unfolding is_script
 no_script = refl
 
@@ -209,29 +203,24 @@ name_cut :
 name_cut a b c modifier first second third =
     let place = place_text a b c in
     let hash = place_free a b c first second third is_hash (no_mark 35 (omega arith)) refl in
-    let front : front_of (place ++ marked 64 modifier) ≡ place =
-    before_rest ends_locale place (marked 64 modifier) (place_free a b c first second third ends_locale no_end refl)
-    ∙ ap (λ t. place ++ t) (before_modifier modifier) ∙ append-nil place in
+    let free = place_free a b c first second third ends_locale no_end refl in
+    let front : front_of (place ++ marked 64 modifier) ≡ place = rw (before_rest ends_locale place (marked 64 modifier) free, before_modifier modifier) (append-nil place) in
     let behind : after_first is_hash place ≡ [] = ap (after_first is_hash) (sym (append-nil place)) ∙ after_rest is_hash place [] hash in
-    let none : script_behind place ≡ None = ap script_in behind ∙ no_script in
     let said : modifier_of (place ++ marked 64 modifier) ≡ modifier =
     after_rest is_at place (marked 64 modifier) (place_free a b c first second third is_at no_at refl) ∙ after_at modifier in
     record {
       front = front;
-      place = ap place_before front ∙ ap (λ test. cond test (without_mark (without_mark (before_first is_hash place))) place) hash;
-      behind = ap (after_first is_hash) front ∙ behind;
+      place = rw (front, hash) refl;
+      behind = rw front behind;
       modifier = said;
-      script = ap (λ m. or_else (modifier_script m) (script_behind (front_of (place ++ marked 64 modifier)))) said ∙ ap (or_else (modifier_script modifier)) (ap script_behind front ∙ none);
+      script = rw (said, front, behind, no_script) refl;
     }
 
 -- ---- the text of a name
 
 no_java_field : (place : List ℕ) → is_java_place place [] ≡ false
 unfolding fold_byte
-no_java_field place = neither _ _
-  where
-    neither : (a b : Bool) → ((a && false) || (b && false)) ≡ false
-    neither a b = grind (arith, common_steps)
+no_java_field place = grind (arith, nat_tests)
 
 -- a name without extensions and keywords is read as its place
 record IsPlaceAlone (place name : List ℕ) : Type 0 where
@@ -243,26 +232,12 @@ record IsPlaceAlone (place name : List ℕ) : Type 0 where
 place_alone : (p m name : List ℕ) → IsCut p m name → are_keywords m ≡ false → IsPlaceAlone p name
 unfolding is_script place_read text_of_name
 place_alone p m name cut none =
-    let extensions : extensions_behind (front_of name) ≡ [] =
-    ap (λ t. cond (is_script (before_first is_underscore t)) (after_first is_underscore t) t) cut.behind in
-    let of_name : place_of name ≡ p =
-    ap (λ t. cond (is_empty (locale_place name) && not (is_empty t)) (codes "und") (locale_place name)) cut.behind
-    ∙ ap (λ b. cond b (codes "und") (locale_place name)) (and-no (is_empty (locale_place name))) ∙ cut.place in
-    let is_read : place_read name ≡ read_place p =
-    ap (without_java_field (read_place (place_of name))) extensions
-    ∙ ap (λ b. cond b (take 5 (read_place (place_of name))) (read_place (place_of name))) (no_java_field (read_place (place_of name))) ∙ ap read_place of_name in
-    record {
-      extensions = extensions;
-      place_of = of_name;
-      place_read = is_read;
-      text =
-          ap (λ t. (place_read name ++ marked 45 t) ++ keywords_text (modifier_of name)) extensions
-          ∙ ap (λ b. (place_read name ++ []) ++ cond b (codes "-u" ++ keyword_texts (modifier_of name)) []) (ap are_keywords cut.modifier ∙ none)
-          ∙ append-nil (place_read name ++ []) ∙ append-nil (place_read name) ∙ is_read;
-    }
-  where
-    and-no : (b : Bool) → (b && false) ≡ false
-    and-no b = grind (arith, common_steps)
+    let extensions : extensions_behind (front_of name) ≡ [] = rw cut.behind refl in
+    let of_name : place_of name ≡ p = rw (cut.behind, and-false (is_empty (locale_place name))) cut.place in
+    let is_read : place_read name ≡ read_place p = rw (extensions, no_java_field (read_place (place_of name)), of_name) refl in
+    let text : text_of_name name ≡ read_place p =
+    rw (extensions, cut.modifier, none, no_java_field (read_place (place_of name)), of_name) (append-nil (read_place p ++ []) ∙ append-nil (read_place p)) in
+    record { extensions = extensions; place_of = of_name; place_read = is_read; text = text }
 
 -- ---- the name is read back
 
@@ -319,9 +294,7 @@ module _ (r : Record) (fits : IsWellFormed r) (short : IsShort r) (v m s : List 
   spelled_place : spell (place_record r v) ≡ hyphened place
   spelled_place =
       spelled_text (place_record r v) plain_place
-      ∙ ap (λ t. tag_text (fold_text r.primary) [] t (join (listed v)) []) (unwrap-capital r.region)
-      ∙ ap (λ t. tag_text (fold_text r.primary) [] region t []) (join-listed v)
-      ∙ sym (place_hyphened (fold_text r.primary) region v letters_first letters_second variant.alphanumeric)
+      ∙ rw (unwrap-capital r.region, join-listed v, place_hyphened (fold_text r.primary) region v letters_first letters_second variant.alphanumeric) refl
 
   read_kept : read_place place ≡ hyphened place
   read_kept = grind (arith, common_steps, nat_tests, place_kept, letters_first, letters_second, primary_length, fits_place, unwrap-capital)
@@ -397,9 +370,7 @@ name_good r n fits named =
     let b = marked 95 (capital_text (unwrap_or r.region [])) in
     let c = marked 95 n.variant in
     let d = marked 64 n.modifier in
-    let text : (a ++ (b ++ c)) ++ d ≡ name_text n =
-    append_assoc a (b ++ c) d ∙ ap (λ t. a ++ t) (append_assoc b c d) ∙ ap (λ t. a ++ (marked 95 (capital_text t) ++ (c ++ d))) (sym named.territory)
-    ∙ ap (λ l. fold_text l ++ (marked 95 (capital_text n.territory) ++ (c ++ d))) (sym (named.language ∙ short.same)) in
+    let text : (a ++ (b ++ c)) ++ d ≡ name_text n = rw (named.territory, named.language, short.same) (simp append_assoc) in
     let good : (s : List ℕ) → IsSaid s (join r.variants) n.modifier → (script : Option (List ℕ)) → IsWellFormed (with_script r script) → unwrap_or script [] ≡ s →
     (script ≡ r.script) ⊎ ((script ≡ None) × IsTrue (is_likely (without_script (fields_of r)) (unwrap_or r.script []))) → IsGood r (name_text n) =
     λ s said script whole is kept. subst (IsGood r) text (
@@ -414,20 +385,22 @@ name_good r n fits named =
 
 found_good : (r : Record) (name : List ℕ) → IsWellFormed r → Some name ≡ option_map name_text (name_parts r) → IsGood r name
 found_good r name fits is = some_value (name_parts r) (λ none. absurd (let no : Some name ≡ None = is ∙ ap (option_map name_text) none in cc)) (λ n same.
-    let some : Some name ≡ Some (name_text n) = is ∙ ap (option_map name_text) same in
-    let text : name_text n ≡ name = cc in
-    subst (IsGood r) text (name_good r n fits (parts_named r n same)))
+    let text : name_text n ≡ name = cc (is ∙ ap (option_map name_text) same) in
+    rw text at (name_good r n fits (parts_named r n same)))
 
 pub reads_back : (tag name : List ℕ) → IsPosixName tag (Some name) → ReadsBack tag name
 reads_back tag name is = λ r spells. (found_good r name spells.0 (is.part r spells)).0
 
--- the name is not empty
-pub some_name : (tag name : List ℕ) → IsPosixName tag (Some name) → 1 ≤ length name
+of_bytes : (tag name : List ℕ) → IsPosixName tag (Some name) → IsAscii name × (1 ≤ length name)
 unfolding IsNormal
-some_name tag name is = elim (normal_or_not tag) [
-  | inl (r, spells) ↦ (found_good r name spells.0 (is.part r spells)).2
+of_bytes tag name is = elim (normal_or_not tag) [
+  | inl (r, spells) ↦ (let good = found_good r name spells.0 (is.part r spells) in (good.1, good.2))
   | inr never ↦ let no = is.absent never in absurd cc
 ]
+
+-- the name is not empty
+pub some_name : (tag name : List ℕ) → IsPosixName tag (Some name) → 1 ≤ length name
+some_name tag name is = (of_bytes tag name is).1
 
 -- there is one name, or none
 pub one_name : (tag : List ℕ) (one other : Option (List ℕ)) → IsPosixName tag one → IsPosixName tag other → one ≡ other
@@ -438,11 +411,7 @@ one_name tag one other a b = elim (normal_or_not tag) [
 ]
 
 pub utf8_name : (tag name : List ℕ) → IsPosixName tag (Some name) → IsUtf8 name
-unfolding IsNormal
-utf8_name tag name is = elim (normal_or_not tag) [
-  | inl (r, spells) ↦ IsUtf8-from_ascii name (found_good r name spells.0 (is.part r spells)).1
-  | inr never ↦ let no = is.absent never in absurd cc
-]
+utf8_name tag name is = IsUtf8-from_ascii name (of_bytes tag name is).0
 
 pub other_name : (tag : List ℕ) → (IsNormal tag → ⊥) → IsPosixName tag None
 unfolding IsNormal
@@ -452,11 +421,7 @@ other_name tag never = record { part = λ r spells. absurd (never (r, spells)); 
 
 pub modifier_few :
     (f : Fields) (s v : List ℕ) (o : Option (Bor (List ℕ))) → option_map (λ text. text.now) o ≡ name_modifier f s v → IfSome o (λ text. length text.now ≤ 14)
-modifier_few f s v None is = tt
-modifier_few f s v (Some text) is = elim (modifier_cases f s v text.now (sym is)) [
-  | inl said ↦ said.few
-  | inr (said, likely) ↦ said.few
-]
+modifier_few f s v o is = grind (arith, modifier_cases f s v)
 
 -- what is written for the parts of a name
 pub pieces_name :

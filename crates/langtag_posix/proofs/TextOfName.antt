@@ -1,5 +1,5 @@
 -- The text of a name, by the parts that the code cuts out of it.
-use Rattle.langtag_scan.proofs.Prelude.{◌≡◌, ℕ, ◌≤◌, ◌-◌, ◌^◌, List, ◌++◌, length, drop, take, ap, sym, ◌∙◌, arith, take_at}
+use Rattle.langtag_scan.proofs.Prelude.{◌≡◌, ℕ, ◌≤◌, ◌-◌, ◌^◌, List, ◌++◌, length, drop, take, ap, refl, sym, ◌∙◌, arith, take_at}
 use Rattle.std.specs.Prelude.{min}
 use Rattle.langtag_text.specs.Output.{IsCounted}
 use Rattle.langtag_range.specs.Definitions.{front_of}
@@ -16,12 +16,7 @@ pub cut_name :
     extensions ≡ extensions_behind front → kept ≡ without_java_field read extensions → IsCutName name kept extensions modifier
 unfolding place_read
 cut_name name place read front extensions modifier kept is_place is_read is_front is_modifier is_extensions is_kept =
-    let behind = is_extensions ∙ ap extensions_behind is_front in
-    record {
-      place = is_kept ∙ ap (λ r. without_java_field r extensions) (is_read ∙ ap read_place is_place) ∙ ap (without_java_field (read_place (place_of name))) behind;
-      extensions = behind;
-      modifier = is_modifier;
-    }
+    rw (is_kept, is_extensions, is_modifier, is_front, is_read, is_place) (record { place = refl; extensions = refl; modifier = refl })
 
 -- the text that the code writes
 abbrev pub written_text : List ℕ → List ℕ → List ℕ → List ℕ
@@ -30,14 +25,10 @@ written_text place extensions modifier = (place ++ marked 45 extensions) ++ keyw
 module _ (name place extensions modifier : List ℕ) (cut : IsCutName name place extensions modifier) where
   pub cut_text : written_text place extensions modifier ≡ text_of_name name
   unfolding text_of_name
-  cut_text =
-      ap (λ p. written_text p extensions modifier) cut.place ∙ ap (λ e. written_text (place_read name) e modifier) cut.extensions
-      ∙ ap (written_text (place_read name) (extensions_behind (front_of name))) cut.modifier
+  cut_text = rw (cut.place, cut.extensions, cut.modifier) refl
 
   pub cut_follows : may_follow place extensions (are_keywords modifier) ≡ may_follow (place_read name) (extensions_behind (front_of name)) (are_keywords (modifier_of name))
-  cut_follows =
-      ap (λ p. may_follow p extensions (are_keywords modifier)) cut.place ∙ ap (λ e. may_follow (place_read name) e (are_keywords modifier)) cut.extensions
-      ∙ ap (λ m. may_follow (place_read name) (extensions_behind (front_of name)) (are_keywords m)) cut.modifier
+  cut_follows = rw (cut.place, cut.extensions, cut.modifier) refl
 
 -- ---- what was counted
 

@@ -1,10 +1,10 @@
-use Rattle.std.proofs.Common.{◌≡◌, ◌∙◌, [], ◌++◌, length, take, length-take, ap, refl, append-nil, arith, ◌≤◌}
+use Rattle.std.proofs.Common.{◌≡◌, ◌∙◌, [], ◌++◌, length, take, length-take, ap, refl, sym, append-nil, arith, ◌≤◌}
 use Rattle.std.proofs.lemmas.Result.{err_from_is_err_and, on_ok_weaker}
 use Rattle.std.proofs.KnownBytes.{Consumes-nil, Consumes-trans, Consumes-whole}
 use Rattle.langtag_answers.specs.Lines.{complete_lines, rest_of, lines_of}
 use Rattle.langtag_answers.specs.Report.{AnswersBy}
 use Rattle.langtag_answers.specs.declared.answering.TheConstants.{BUFFER_LEN}
-use Rattle.langtag_answers.proofs.Written.{free_rest, rest_more, written_more, run_ended, run_stopped, stopped_more, stopped_last, written_all, Answers-nil, Answers-kept}
+use Rattle.langtag_answers.proofs.Written.{free_rest, more_lines, written_more, run_ended, run_stopped, stopped_more, stopped_last, written_all, Answers-nil, Answers-kept}
 use Rattle.langtag_answers.proofs.answering.answer_lines_in.Goals as goal
 
 pub loop-init : goal.loop-init
@@ -22,7 +22,7 @@ loop-preserved g c =
     let more = take c.in-Ok.count c.read.new.buf in (
       seen ++ more,
       Consumes-trans _ _ _ _ _ read c.in-Ok.ensures.bytes.0,
-      c.in_ok-take_bytes.ensures.rest ∙ rest_more seen _ more rest,
+      c.in_ok-take_bytes.ensures.rest ∙ sym (more_lines seen _ more rest).rest,
       c.in_ok-take_bytes.ensures.empty,
       written_more _ _ _ seen _ more rest written c.in_ok-take_bytes.ensures.ok,
     )

@@ -1,6 +1,6 @@
 use Rattle.langtag_scan.proofs.Prelude.{◌≡◌, ◌≤◌, ◌∷◌, [], false, length, get_or, sym, ap, ◌∙◌, arith, eqb-true, nat_tests, nil_from_length}
 use Rattle.langtag.specs.Definitions.{extensions_text, of_singleton}
-use Rattle.langtag_canonical.proofs.ExtensionOrder.{spellings, left_from, left_from-first, left_from-last, pushes_one_more, spelled_in_order, none_in_order, all_in_order}
+use Rattle.langtag_canonical.proofs.ExtensionOrder.{spellings, left_from, left_from-ends, pushes_one_more, spelled_in_order, none_in_order, all_in_order}
 use Rattle.langtag_text.proofs.Pushed.{pushes_same, pushes_ended}
 use Rattle.langtag_canonical.proofs.canonical_parts.push_extensions.Goals as goal
 
@@ -18,7 +18,7 @@ returns-then-are_in_order c =
     (pushes_same _ _ _ _ (ap (λ t. t ∷ []) c.as_bytes.ensures) c.push_subtag.ensures)
 
 pub loop-singleton-init : goal.loop-singleton-init
-loop-singleton-init c = λ es spells new these. pushes_same _ _ _ new (left_from-first es spells.members) these
+loop-singleton-init c = λ es spells new these. pushes_same _ _ _ new ((left_from-ends es spells.members).0) these
 
 pub loop-singleton-preserved-then-not-present-from : goal.loop-singleton-preserved-then-not-present-from
 loop-singleton-preserved-then-not-present-from c =
@@ -38,4 +38,4 @@ returns c =
     let at : c.loop-singleton.singleton ≡ 123 = omega arith in
     λ es spells.
     spelled_in_order es _ _ (c.loop-singleton.invariant es spells _
-    (pushes_ended _ _ (ap (λ n. left_from n (spellings es)) at ∙ left_from-last es spells.members)))
+    (pushes_ended _ _ (ap (λ n. left_from n (spellings es)) at ∙ (left_from-ends es spells.members).1)))

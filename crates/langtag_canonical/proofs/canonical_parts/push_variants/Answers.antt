@@ -1,4 +1,4 @@
-use Rattle.langtag_scan.proofs.Prelude.{sym, ap, unwrap_or, arith, ◌≡◌, common_steps}
+use Rattle.langtag_scan.proofs.Prelude.{ap, unwrap_or, arith, ◌≡◌, common_steps}
 use Rattle.langtag_place.specs.Text.{variant_text, variants_left}
 use Rattle.langtag_canonical.specs.Canonical.{canonical_variants}
 use Rattle.langtag_fields.specs.Fields.{preferred_variant}
@@ -18,7 +18,7 @@ loop-variant-preserved c =
       is_finite = tt;
       so_far = λ new these.
           c.loop-variant.invariant.so_far new
-          (pushes_same _ _ _ new (sym (ap canonical_variants c.in-Some.ensures.steps)) (pushes_next _ (unwrap_or (preferred_variant v) v) (canonical_variants (variants_left c.next.new.self)) _ _ new becomes c.push_subtag.ensures these));
+          (rw c.in-Some.ensures.steps (pushes_next _ (unwrap_or (preferred_variant v) v) (canonical_variants (variants_left c.next.new.self)) _ _ new becomes c.push_subtag.ensures these));
     }
 
 pub returns : goal.returns

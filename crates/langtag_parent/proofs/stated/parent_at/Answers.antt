@@ -4,11 +4,8 @@ use Rattle.langtag_cldr.specs.Definitions.{no_row}
 use Rattle.langtag_text.specs.FieldClasses.{is_language_field, is_script_field, is_region_field}
 use Rattle.langtag_parent.specs.ParentLocales.{parent_locales}
 use Rattle.langtag_parent.specs.declared.tables.TheConstants.{PARENT_LANGUAGES, PARENT_REGIONS, PARENT_SCRIPTS}
-use Rattle.langtag_parent.proofs.Rows.{column_at, columns_listed, fields_equal, index_good, parents_listed, row_good}
+use Rattle.langtag_parent.proofs.Rows.{column_at, columns_listed, fields_equal, index_good, row_good}
 use Rattle.langtag_parent.proofs.stated.parent_at.Goals as goal
-
-pub bounds-index : goal.bounds-index
-bounds-index c = omega (arith, c.requires, parents_listed.count)
 
 pub named-requires : goal.named-requires
 named-requires c = omega (arith, c.parent_languages.ensures.count, subst (λ n. n < 9) (sym c.from-parent.ensures) (index_good c.args.index c.requires))
