@@ -123,7 +123,7 @@ def proofs_of(item):
 
 def definitions(items):
     """Returns what items import, and a hash of each page with definitions that they name, and of each page below these."""
-    named = sorted({item.imports[ghost].get(word, "") for item in items for ghost in (False, True) for word in all_words(item)})
+    named = sorted(imported(items))
     pages, more = set(), {page for path in named for page in pages_for(path)}
     while more:
         pages |= more
@@ -141,11 +141,23 @@ def pages_for(path):
 
 @functools.cache
 def pages_below(crate, declared, name):
-    """Returns the pages that a page needs: those of the names that it uses, or all that it imports if it declares types or passes names on."""
+    """Returns the pages that a page needs: those of the names that it uses, or all that it imports if it only passes names on."""
     text, words = text_of(crate, declared, name), defined_words(crate, declared, name)
-    if declared or not words:
-        return {*PAGE.findall(text)}
-    return {page for name, path in origins(text) if name in words for page in pages_for(path)}
+    if declared:
+        return {page for path in imported(declared_items(crate, name)) for page in pages_for(path)}
+    return {page for name, path in origins(text) if name in words for page in pages_for(path)} if words else {*PAGE.findall(text)}
+
+
+def imported(items):
+    """Returns what the words of items are imported from."""
+    return {item.imports[ghost].get(word, "") for item in items for ghost in (False, True) for word in all_words(item)}
+
+
+@functools.cache
+def declared_items(crate, name):
+    """Returns the types and constants of a source."""
+    items = File(CRATES / crate / "src" / f"{name}.rt", text_of(crate, "declared.", name)).items.values()
+    return [item for item in items if item.kind == "type" or item.pieces[-1].name == "value"]
 
 
 @functools.cache
@@ -168,11 +180,9 @@ def defined_words(crate, declared, name):
 @functools.cache
 def defined_by(crate, declared, name):
     """Returns a hash of a page's definitions, or of a source's types, without imports and comments."""
-    text = text_of(crate, declared, name)
     if declared:
-        file = File(CRATES / crate / "src" / f"{name}.rt", text)
-        return digest(*(word for item in file.items.values() if item.kind == "type" or item.pieces[-1].name == "value" for word in all_words(item)))
-    words = defined_words(crate, declared, name)
+        return digest(*(word for item in declared_items(crate, name) for word in all_words(item)))
+    text, words = text_of(crate, declared, name), defined_words(crate, declared, name)
     # A name can mean another definition without a change of these words.
     return digest(*words, *sorted(f"{name} {origin}" for name, origin in origins(text) if name in words))
 
