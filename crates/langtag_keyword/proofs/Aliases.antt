@@ -1,7 +1,8 @@
 -- The tables have what the lists say, and the case of a text changes nothing of its alias.
+use Rattle.std.specs.Option.{option_or}
 use Rattle.std.proofs.lemmas.Bool.Decides.{nat_tests}
 use Rattle.std.proofs.Common.{arith, Bor}
-use Rattle.langtag_keyword.proofs.Common.{common_steps, ◌≡◌, ℕ, List, [], ◌∷◌, ◌++◌, ◌≤◌, ◌-◌, ◌∙◌, true, false, None, Some, find, option_map, ap, sym, drop, flat_map, get_or, length, map, take, take_all, refl, bytes_eq, Alike, are_alike, fold_text, Alias, TypeAlias, alias_for, type_alias_for}
+use Rattle.langtag_keyword.proofs.Common.{common_steps, ◌≡◌, ℕ, List, [], ◌∷◌, ◌++◌, ◌≤◌, ◌-◌, true, None, find, option_map, ap, drop, flat_map, get_or, length, map, take, take_all, refl, bytes_eq, Alike, are_alike, fold_text, Alias, TypeAlias, alias_for, type_alias_for, Option, Bool, cond}
 use Rattle.langtag_keyword.specs.Aliases.{subdivision_aliases, transform_type_aliases, unicode_type_aliases}
 use Rattle.langtag_keyword.specs.declared.alias_tables.TheConstants.{SUBDIVISION_ALIASES, TRANSFORM_TYPE_ALIASES, UNICODE_TYPE_ALIASES}
 
@@ -17,25 +18,13 @@ type_alias_for-alike aliases k l a b keys types = grind (arith, nat_tests)
 abbrev pub Pair : Type 0
 Pair = Bor (List ℕ) × Bor (List ℕ)
 
-other_key :
-    (rows : List Pair) (others : List TypeAlias) (key of text : List ℕ) → are_alike key of ≡ false →
-    type_alias_for (map (λ row. record { key = key; old = row.0.now; new = row.1.now }) rows ++ others) of text ≡ type_alias_for others of text
-other_key [] others key of text differs = refl
-other_key (row ∷ rows) others key of text differs = grind (arith, common_steps, other_key rows others key of text)
-
-key_found :
-    (rows : List Pair) (others : List TypeAlias) (key of text found : List ℕ) → are_alike key of ≡ true →
-    Some found ≡ alias_for (map (λ row. record { old = row.0.now; new = row.1.now }) rows) text →
-    Some found ≡ type_alias_for (map (λ row. record { key = key; old = row.0.now; new = row.1.now }) rows ++ others) of text
-key_found [] others key of text found same is = absurd cc
-key_found (row ∷ rows) others key of text found same is = grind (arith, common_steps, key_found rows others key of text found)
-
-key_missed :
-    (rows : List Pair) (others : List TypeAlias) (key of text : List ℕ) → are_alike key of ≡ true →
-    None ≡ alias_for (map (λ row. record { old = row.0.now; new = row.1.now }) rows) text →
-    type_alias_for (map (λ row. record { key = key; old = row.0.now; new = row.1.now }) rows ++ others) of text ≡ type_alias_for others of text
-key_missed [] others key of text same is = refl
-key_missed (row ∷ rows) others key of text same is = grind (arith, common_steps, key_missed rows others key of text)
+-- the types of one key, and then others
+key-first :
+    (rows : List Pair) (others : List TypeAlias) (key of text : List ℕ) →
+    type_alias_for (map (λ row. record { key = key; old = row.0.now; new = row.1.now }) rows ++ others) of text
+    ≡ option_or (cond (are_alike key of) (alias_for (map (λ row. record { old = row.0.now; new = row.1.now }) rows) text) None) (type_alias_for others of text)
+key-first [] others key of text = grind (arith, common_steps)
+key-first (row ∷ rows) others key of text = grind (arith, common_steps, key-first rows others key of text)
 
 -- a key, and its types that are replaced
 abbrev pub Group : Type 0
@@ -47,30 +36,15 @@ in_groups groups = flat_map (λ group. map (λ row. record { key = group.0.now; 
 abbrev pub after_first : List Group → List Group
 after_first groups = take (length groups - 1) (drop 1 groups)
 
-split_off :
-    (groups : List Group) (d : Group) → 1 ≤ length groups →
-    in_groups groups ≡ map (λ row. record { key = (get_or groups 0 d).0.now; old = row.0.now; new = row.1.now }) (get_or groups 0 d).1.now ++ in_groups (after_first groups)
-split_off [] d long = absurd (omega (arith, long))
-split_off (group ∷ groups) d long = ap (λ rest. in_groups (group ∷ rest)) (sym (take_all (length (group ∷ groups) - 1) groups (omega arith)))
-
-pub next_key :
-    (groups : List Group) (d : Group) (of text : List ℕ) → 1 ≤ length groups → are_alike (get_or groups 0 d).0.now of ≡ false →
-    type_alias_for (in_groups (after_first groups)) of text ≡ type_alias_for (in_groups groups) of text
-next_key groups d of text long differs =
-    sym (ap (λ rows. type_alias_for rows of text) (split_off groups d long) ∙ other_key (get_or groups 0 d).1.now (in_groups (after_first groups)) _ of text differs)
-
-pub this_key :
-    (groups : List Group) (d : Group) (of text found : List ℕ) → 1 ≤ length groups → are_alike (get_or groups 0 d).0.now of ≡ true →
-    Some found ≡ alias_for (map (λ row. record { old = row.0.now; new = row.1.now }) (get_or groups 0 d).1.now) text → Some found ≡ type_alias_for (in_groups groups) of text
-this_key groups d of text found long same is =
-    key_found (get_or groups 0 d).1.now (in_groups (after_first groups)) _ of text found same is ∙ sym (ap (λ rows. type_alias_for rows of text) (split_off groups d long))
-
-pub other_type :
-    (groups : List Group) (d : Group) (of text : List ℕ) → 1 ≤ length groups → are_alike (get_or groups 0 d).0.now of ≡ true →
-    None ≡ alias_for (map (λ row. record { old = row.0.now; new = row.1.now }) (get_or groups 0 d).1.now) text →
-    type_alias_for (in_groups (after_first groups)) of text ≡ type_alias_for (in_groups groups) of text
-other_type groups d of text long same is =
-    sym (ap (λ rows. type_alias_for rows of text) (split_off groups d long) ∙ key_missed (get_or groups 0 d).1.now (in_groups (after_first groups)) _ of text same is)
+-- what is found of the first key, or else among the others
+pub group-first :
+    (groups : List Group) (d : Group) (of text : List ℕ) (is : Bool) (found : Option (List ℕ)) → 1 ≤ length groups → are_alike (get_or groups 0 d).0.now of ≡ is →
+    (is ≡ true → alias_for (map (λ row. record { old = row.0.now; new = row.1.now }) (get_or groups 0 d).1.now) text ≡ found) →
+    option_or (cond is found None) (type_alias_for (in_groups (after_first groups)) of text) ≡ type_alias_for (in_groups groups) of text
+group-first [] d of text is found long alike same = absurd (omega (arith, long))
+group-first (group ∷ groups) d of text is found long alike same =
+    let others = ap in_groups (take_all (length (group ∷ groups) - 1) groups (omega arith)) in
+    grind (arith, common_steps, others, key-first group.1.now (in_groups groups) group.0.now of text, same)
 
 -- ---- the tables
 

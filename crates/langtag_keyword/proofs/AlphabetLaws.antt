@@ -1,5 +1,5 @@
 -- The order of the alphabet.
-use Rattle.langtag_keyword.proofs.Common.{◌≡◌, ℕ, ◌+◌, ◌<◌, ◌≤◌, true, false, nat_lt, List, [], ◌∷◌, ◌++◌, length, get_or, take, refl, sym, ap, ◌∙◌, arith, append_assoc, ◌||◌, Bool, map, subst, false≢true, nat_tests, map-append, take_all, take_more, fold_byte, fold_text, are_alike, in_alphabet, is_before, put_among, common_steps, AllByRecursion, list_any, before_key, fold_text-twice, are_alike-decides}
+use Rattle.langtag_keyword.proofs.Common.{◌≡◌, ℕ, ◌+◌, ◌<◌, ◌≤◌, true, false, nat_lt, List, [], ◌∷◌, ◌++◌, length, get_or, take, refl, sym, ap, ◌∙◌, arith, append_assoc, ◌||◌, Bool, map, subst, false≢true, nat_tests, map-append, take_all, take_more, fold_byte, fold_text, are_alike, in_alphabet, is_before, put_among, common_steps, AllByRecursion, list_any, before_key, fold_text-twice, are_alike-decides, each-weaker}
 use Rattle.langtag_scan.proofs.Prelude.{Less, Ordering, nat_list_cmp_total, is_eq-slice_cmp, bytes_eq-Decides, slice_cmp, is_eq, is_lt, nat_cmp, ordering_reverse}
 use Rattle.langtag_text.specs.Output.{with_subtag}
 
@@ -10,9 +10,6 @@ is_less r h = grind (arith, common_steps, false≢true)
 
 ties : (r : Ordering) → is_lt r ≡ false → is_lt (ordering_reverse r) ≡ false → is_eq r ≡ true
 ties r a b = grind (arith, common_steps, false≢true)
-
-pub before-trans : (a b c : List ℕ) → is_before a b ≡ true → is_before b c ≡ true → is_before a c ≡ true
-before-trans a b c one two = ap is_lt (nat_list_cmp_total.trans a b c (is_less _ one) (is_less _ two))
 
 pub before-back : (a b : List ℕ) → is_before a b ≡ true → is_before b a ≡ false
 before-back a b one = ap is_lt (nat_list_cmp_total.antisymm b a ∙ ap ordering_reverse (is_less _ one))
@@ -48,7 +45,7 @@ before-left a b none = grind (arith, common_steps)
 
 pub before-right : (a b : List ℕ) → length b < 1 → nat_lt (length a) (length b) ≡ is_before (fold_text a) (fold_text b)
 before-right [] [] none = refl
-before-right (x ∷ a) [] none = let more : nat_lt (length (x ∷ a)) (length {A = ℕ} []) ≡ false = grind (arith, nat_tests) in more
+before-right (x ∷ a) [] none = grind (arith, nat_tests)
 before-right a (y ∷ b) none = absurd (omega (arith, none))
 
 -- ---- bytes after a hyphen
@@ -122,53 +119,43 @@ among k ss = list_any (λ s. are_alike s k) ss
 pub among-first : (k : List ℕ) (ss : List (List ℕ)) → among k (k ∷ ss) ≡ true
 among-first k ss = ap (λ b. b || among k ss) ((are_alike-decides k k).1 refl)
 
--- each of some texts is among them
-pub each-among : (before ss : List (List ℕ)) → AllByRecursion (λ k. among k (before ++ ss) ≡ true) ss
-each-among before [] = tt
-each-among before (k ∷ ss) = (
-  here before,
-  subst (λ all. AllByRecursion (λ j. among j all ≡ true) ss) (append_assoc before (k ∷ []) ss) (each-among (before ++ k ∷ []) ss),
-)
-  where
-    here : (bs : List (List ℕ)) → among k (bs ++ k ∷ ss) ≡ true
-    here [] = among-first k ss
-    here (b ∷ bs) = grind (arith, nat_tests, here bs)
+-- what holds of what is among some texts holds of each of them
+pub each-among : (P : List ℕ → Type 0) (ss : List (List ℕ)) → ((k : List ℕ) → among k ss ≡ true → P k) → AllByRecursion P ss
+each-among P [] holds = tt
+each-among P (s ∷ ss) holds = (holds s (among-first s ss), each-among P ss (λ k there. holds k (grind (arith, nat_tests, there))))
 
 -- ---- in the order of the alphabet
 
-pub among-put : (k x : List ℕ) (ss : List (List ℕ)) → among k (put_among x ss) ≡ (are_alike x k || among k ss)
-among-put k = any-put (λ s. are_alike s k)
-
 pub among-alphabet : (k : List ℕ) (ss : List (List ℕ)) → among k (in_alphabet ss) ≡ among k ss
 among-alphabet k [] = refl
-among-alphabet k (s ∷ ss) = grind (arith, nat_tests, among-put k (fold_text s) (in_alphabet ss), fold_text-twice s, among-alphabet k ss)
-
-pub lower-put : (x : List ℕ) (ss : List (List ℕ)) → fold_text x ≡ x → AreLower ss → AreLower (put_among x ss)
-lower-put = each-put (λ s. fold_text s ≡ s)
+among-alphabet k (s ∷ ss) = grind (arith, nat_tests, any-put (λ t. are_alike t k) (fold_text s) (in_alphabet ss), fold_text-twice s, among-alphabet k ss)
 
 -- ---- a text before others
 
 under-next : (s t : List ℕ) (ts : List (List ℕ)) → is_before s t ≡ true → Under t ts → Under s ts
 under-next s t [] below under = tt
-under-next s t (u ∷ us) below under = before-trans s t u below under
+under-next s t (u ∷ us) below under = ap is_lt (nat_list_cmp_total.trans s t u (is_less _ below) (is_less _ under))
 
-pub under-each : (s : List ℕ) (ss : List (List ℕ)) → Under s ss → Rise ss → AllByRecursion (λ t. is_before s t ≡ true) ss
-under-each s [] under rise = tt
-under-each s (t ∷ ts) under rise = (under, under-each s ts (under-next s t ts under rise.0) rise.1)
+-- texts in lowercase that rise come before each that follows, whatever the case
+pub under-each :
+    (s : List ℕ) (ss : List (List ℕ)) → fold_text s ≡ s → AreLower ss → Under s ss → Rise ss → AllByRecursion (λ t. is_before (fold_text s) (fold_text t) ≡ true) ss
+under-each s [] low lowers under rise = tt
+under-each s (t ∷ ts) low lowers under rise = (grind (arith, nat_tests, low, lowers.0, under), under-each s ts low lowers.1 (under-next s t ts under rise.0) rise.1)
 
 -- a text in lowercase that comes before another is not alike it
 pub before-apart : (s t : List ℕ) → fold_text s ≡ s → fold_text t ≡ t → is_before s t ≡ true → (are_alike s t ≡ false) × (are_alike t s ≡ false)
 before-apart s t low other below = grind (arith, nat_tests, are_alike-decides s t, are_alike-decides t s, before-back s s)
 
-pub after-apart :
-    (s : List ℕ) (ss : List (List ℕ)) → fold_text s ≡ s → AreLower ss → AllByRecursion (λ t. is_before s t ≡ true) ss → AllByRecursion (λ t. are_alike t s ≡ false) ss
-after-apart s [] low lowers after = tt
-after-apart s (t ∷ ts) low lowers after = ((before-apart s t low lowers.0 after.0).1, after-apart s ts low lowers.1 after.1)
+pub after-apart : (s : List ℕ) (ss : List (List ℕ)) → AllByRecursion (λ t. is_before (fold_text s) (fold_text t) ≡ true) ss → AllByRecursion (λ t. are_alike t s ≡ false) ss
+after-apart s =
+    each-weaker (λ t. is_before (fold_text s) (fold_text t) ≡ true) (λ t. are_alike t s ≡ false)
+    (λ t below. grind (arith, nat_tests, are_alike-decides t s, before-back (fold_text s) (fold_text s), below))
 
-pub not-among :
-    (k s : List ℕ) (ss : List (List ℕ)) → fold_text s ≡ fold_text k → fold_text s ≡ s → AreLower ss → AllByRecursion (λ t. is_before s t ≡ true) ss → among k ss ≡ false
-not-among k s [] same low lowers after = refl
-not-among k s (t ∷ ts) same low lowers after = grind (arith, nat_tests, not-among k s ts same low lowers.1 after.1, before-apart s t low lowers.0 after.0)
+-- nor is it among those that it comes before
+pub not-among : (k s : List ℕ) (ss : List (List ℕ)) → fold_text s ≡ fold_text k → fold_text s ≡ s → AreLower ss → Under s ss → Rise ss → among k ss ≡ false
+not-among k s [] same low lowers under rise = refl
+not-among k s (t ∷ ts) same low lowers under rise =
+    grind (arith, nat_tests, not-among k s ts same low lowers.1 (under-next s t ts under rise.0) rise.1, before-apart s t low lowers.0 under)
 
 -- ---- lists among which the same texts are
 
@@ -178,14 +165,9 @@ same-risen [] [] lx ly rx ry same = refl
 same-risen [] (y ∷ ys) lx ly rx ry same = absurd (false≢true (same y ly.0 ∙ among-first y ys))
 same-risen (x ∷ xs) [] lx ly rx ry same = absurd (false≢true (sym (same x lx.0) ∙ among-first x xs))
 same-risen (x ∷ xs) (y ∷ ys) lx ly rx ry same =
-    let apart_x : (k : List ℕ) → are_alike x k ≡ true → among k xs ≡ false =
-    λ k alike. not-among k x xs ((are_alike-decides x k).0 alike) lx.0 lx.1 (under-each x xs rx.0 rx.1) in
-    let apart_y : (k : List ℕ) → are_alike y k ≡ true → among k ys ≡ false =
-    λ k alike. not-among k y ys ((are_alike-decides y k).0 alike) ly.0 ly.1 (under-each y ys ry.0 ry.1) in
-    let before_x : is_before y x ≡ true → among y (x ∷ xs) ≡ false = λ below. not-among y y (x ∷ xs) refl ly.0 lx (under-each y (x ∷ xs) below rx) in
-    let before_y : is_before x y ≡ true → among x (y ∷ ys) ≡ false = λ below. not-among x x (y ∷ ys) refl lx.0 ly (under-each x (y ∷ ys) below ry) in
-    let tie : x ≡ y = grind (arith, nat_tests, before-tie x y, before_x, before_y, same x lx.0, same y ly.0, among-first) in
-    let rest : xs ≡ ys = same-risen xs ys lx.1 ly.1 rx.1 ry.1 (λ k low. grind (arith, nat_tests, tie, same k low, apart_x k, apart_y k)) in
+    let tie : x ≡ y =
+    grind (arith, nat_tests, before-tie x y, not-among y y (x ∷ xs) refl ly.0 lx, not-among x x (y ∷ ys) refl lx.0 ly, same x lx.0, same y ly.0, among-first) in
+    let rest : xs ≡ ys = same-risen xs ys lx.1 ly.1 rx.1 ry.1 (λ k low. grind (arith, nat_tests, tie, same k low, not-among k x xs, not-among k y ys, are_alike-decides x k, are_alike-decides y k)) in
     cc
 
 -- ---- a text among others that rise: those before it, and those after it
@@ -199,12 +181,6 @@ pub record KeySplit (key : List ℕ) (keys : List (List ℕ)) : Type 0 where
   pub before_others : AllByRecursion (λ j. are_alike j key ≡ false) before
   pub after_others : AllByRecursion (λ j. are_alike j key ≡ false) after
 
-lower-late :
-    (key : List ℕ) (keys : List (List ℕ)) → fold_text key ≡ key → AreLower keys → AllByRecursion (λ j. is_before key j ≡ true) keys →
-    AllByRecursion (λ j. is_before (fold_text key) (fold_text j) ≡ true) keys
-lower-late key [] low lowers after = tt
-lower-late key (j ∷ keys) low lowers after = (ap (λ t. is_before t (fold_text j)) low ∙ ap (is_before key) lowers.0 ∙ after.0, lower-late key keys low lowers.1 after.1)
-
 pub key-split : (key : List ℕ) (keys : List (List ℕ)) → fold_text key ≡ key → AreLower keys → Rise keys → among key keys ≡ true → KeySplit key keys
 key-split key [] low lowers rise is = absurd (false≢true is)
 key-split key (j ∷ keys) low lowers rise is = by_test (are_alike j key) refl (key-split key keys low lowers.1 rise.1) is
@@ -212,25 +188,25 @@ key-split key (j ∷ keys) low lowers rise is = by_test (are_alike j key) refl (
     by_test : (b : Bool) → are_alike j key ≡ b → (among key keys ≡ true → KeySplit key keys) → (b || among key keys) ≡ true → KeySplit key (j ∷ keys)
     by_test true alike later is =
         let same : j ≡ key = sym lowers.0 ∙ (are_alike-decides j key).0 alike ∙ low in
-        let after = subst (λ t. AllByRecursion (λ i. is_before t i ≡ true) keys) same (under-each j keys rise.0 rise.1) in
+        let after = subst (λ t. AllByRecursion (λ i. is_before (fold_text t) (fold_text i) ≡ true) keys) same (under-each j keys lowers.0 lowers.1 rise.0 rise.1) in
         record {
           before = [];
           after = keys;
           is = ap (λ t. t ∷ keys) same;
           early = tt;
-          late = lower-late key keys low lowers.1 after;
+          late = after;
           before_others = tt;
-          after_others = after-apart key keys low lowers.1 after;
+          after_others = after-apart key keys after;
         }
     by_test false apart later is =
         let found = later is in
-        let above = subst (AllByRecursion (λ i. is_before j i ≡ true)) found.is (under-each j keys rise.0 rise.1) in
-        let below = (each-back (λ i. is_before j i ≡ true) found.before (key ∷ found.after) above).0 in
+        let above = subst (AllByRecursion (λ i. is_before (fold_text j) (fold_text i) ≡ true)) found.is (under-each j keys lowers.0 lowers.1 rise.0 rise.1) in
+        let below = (each-back (λ i. is_before (fold_text j) (fold_text i) ≡ true) found.before (key ∷ found.after) above).0 in
         record {
           before = j ∷ found.before;
           after = found.after;
           is = ap (λ t. j ∷ t) found.is;
-          early = (ap (λ t. is_before t (fold_text j)) low ∙ ap (is_before key) lowers.0 ∙ before-back j key below, found.early);
+          early = (before-back (fold_text j) (fold_text key) below, found.early);
           late = found.late;
           before_others = (apart, found.before_others);
           after_others = found.after_others;

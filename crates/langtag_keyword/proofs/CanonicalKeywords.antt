@@ -1,14 +1,14 @@
 -- The extension `u` in canonical form stays in that form when a canonical keyword is set, or a key is removed.
-use Rattle.langtag_keyword.proofs.Common.{rules, ◌≡◌, ℕ, ◌==◌, ◌&&◌, Bool, true, false, cond, List, [], ◌∷◌, ◌++◌, map, find, Option, None, Some, option_map, unwrap_or, refl, sym, ap, subst, ◌∙◌, arith, ◌≤◌, ◌||◌, not, length, append-nil, append_assoc, common_steps, flat_map-append, and_parts, false≢true, nat_tests, AllByRecursion, filter, is_some, option_map_or, fold_text-twice, length-fold, of_extension_subtag, each_subtag, subtags-joined, are_alike, fold_text, are_alphanumeric, join, subtags, is_this_key, is_type, is_unicode_key, keyword_error, with_keyword, without_keyword, without_within, changed_from, extension_of, in_alphabet, put_among, unicode_form, unicode_value, extension_form, forms_after, is_of, is_transform, before_key, is_key, value_of, Extension, IsWellFormed, IsWellFormedExtension, Record, IsTrue}
+use Rattle.langtag_keyword.proofs.Common.{rules, ◌≡◌, ℕ, ◌==◌, ◌&&◌, Bool, true, false, List, [], ◌∷◌, ◌++◌, map, find, Option, None, Some, option_map, unwrap_or, refl, sym, ap, subst, ◌∙◌, arith, ◌≤◌, ◌||◌, not, length, append-nil, append_assoc, common_steps, flat_map-append, and_parts, false≢true, nat_tests, AllByRecursion, filter, is_some, fold_text-twice, length-fold, of_extension_subtag, each_subtag, subtags-joined, are_alike, fold_text, are_alphanumeric, join, subtags, is_this_key, is_type, is_unicode_key, keyword_error, with_keyword, without_keyword, without_within, changed_from, extension_of, in_alphabet, put_among, unicode_form, unicode_value, extension_form, forms_after, is_of, is_transform, before_key, is_key, value_of, Extension, IsWellFormed, IsWellFormedExtension, Record, IsTrue, each-map}
 use Rattle.langtag_text.proofs.Alike.{alike_length}
 use Rattle.langtag_scan.proofs.CaseLaw.{is_digit-fold, is_letter-fold}
 use Rattle.langtag_scan.specs.Grammar.{fold_byte, has_length, is_extension_subtag}
 use Rattle.langtag_keyword.specs.Edit.{IsCanonicalKeyword, edited_record}
 use Rattle.langtag_keyword.specs.Form.{keys_in_order, extensions_record}
-use Rattle.langtag_keyword.proofs.AlphabetLaws.{each-alphabet, KeySplit, among, among-put, key-split, lower-put, same-risen, Rise, rise-in_alphabet, rise-put, AreLower, lower-in_alphabet}
+use Rattle.langtag_keyword.proofs.AlphabetLaws.{each-alphabet, each-put, any-put, KeySplit, among, key-split, same-risen, Rise, rise-in_alphabet, rise-put, AreLower, lower-in_alphabet}
 use Rattle.langtag_keyword.proofs.FormRecords.{Good, good-value, types-unicode}
 use Rattle.langtag_keyword.proofs.KeywordBlocks.{AreValues, block, blocks, find-among, find-passed, put-among, put-passed, removed-among, without-passed, extension-some, find_u, some-put, u_is_u}
-use Rattle.langtag_keyword.proofs.KeywordsInForm.{blocks-put, flat-same, keys-have, plain-before}
+use Rattle.langtag_keyword.proofs.KeywordsInForm.{flat-put, flat-same, keys-have, plain-before}
 use Rattle.langtag_keyword.proofs.KeywordLaws.{AreNoKeys, alike-itself, before-kept, before-put, fits_from, none_after_removal, others_after_removal, others_after_set, read_after_set, standing-this, type-no_key, form_by, form_tested}
 use Rattle.langtag_keyword.specs.Form as form
 use Rattle.langtag_keyword.proofs.KeywordsInForm as in_form
@@ -18,50 +18,34 @@ use Rattle.langtag_keyword.proofs.KeywordsInForm as in_form
 pub key-fold : (s : List ℕ) → is_key (fold_text s) ≡ is_key s
 key-fold s = ap (λ n. n == 2) (length-fold s)
 
+-- attributes in order have none, either
+pub attributes-plain : (ss : List (List ℕ)) → AreNoKeys (in_alphabet (before_key is_key ss))
+attributes-plain ss = each-alphabet (λ s. is_key s ≡ false) (λ s other. key-fold s ∙ other) (before_key is_key ss) (plain-before is_key ss)
+
 -- what is found is the value of a key, and has no keys
 found-value : (key : List ℕ) (ss w : List (List ℕ)) → value_of is_key key ss ≡ Some w → (is_key key ≡ true) × AreNoKeys w
 found-value key [] w found = absurd cc
-found-value key (s ∷ ss) w found = by_test (is_key s && are_alike s key) refl (found-value key ss w) found
-  where
-    by_test :
-        (b : Bool) → (is_key s && are_alike s key) ≡ b → (value_of is_key key ss ≡ Some w → (is_key key ≡ true) × AreNoKeys w) → cond b (Some (before_key is_key ss)) (value_of is_key key ss) ≡ Some w →
-        (is_key key ≡ true) × AreNoKeys w
-    by_test true this later found =
-        let parts = and_parts (is_key s) (are_alike s key) this in
-        let same : before_key is_key ss ≡ w = cc in
-        (ap (λ n. n == 2) (sym (alike_length s key parts.1)) ∙ parts.0, subst AreNoKeys same (plain-before is_key ss))
-    by_test false this later found = later found
-
-type_from : (s : List ℕ) → is_extension_subtag s ≡ true → is_key s ≡ false → is_type s ≡ true
-unfolding is_extension_subtag
-type_from s good other = grind (arith, nat_tests, and_parts (has_length 2 8 s) (are_alphanumeric s) good)
+found-value key (s ∷ ss) w found =
+    let plain : AreNoKeys (before_key is_key ss) = plain-before is_key ss in
+    grind (arith, nat_tests, alike_length s key, plain, found-value key ss w)
 
 types-from : (ss : List (List ℕ)) → Good ss → AreNoKeys ss → AllByRecursion (λ s. IsTrue (is_type s)) ss
+unfolding is_extension_subtag
 types-from [] good all = tt
-types-from (s ∷ ss) good all = (type_from s good.0 all.0, types-from ss good.1 all.1)
+types-from (s ∷ ss) good all = (grind (arith, nat_tests, and_parts (has_length 2 8 s) (are_alphanumeric s) good.0, all.0), types-from ss good.1 all.1)
 
-no_keys-lower : (ss : List (List ℕ)) → AllByRecursion (λ s. IsTrue (is_type s)) ss → AreNoKeys (map fold_text ss)
-no_keys-lower [] types = tt
-no_keys-lower (s ∷ ss) types = (key-fold s ∙ type-no_key s types.0, no_keys-lower ss types.1)
+-- so a canonical value has none
+value-no_keys : (key : List ℕ) (w : List (List ℕ)) → Good w → AreNoKeys w → AreNoKeys (map fold_text (subtags (unicode_value key (join w))))
+value-no_keys key w good all =
+    each-map (λ s. IsTrue (is_type s)) (λ s. is_key s ≡ false) fold_text (λ s is. key-fold s ∙ type-no_key s is) (subtags (unicode_value key (join w)))
+    (types-unicode key (join w) (subst (AllByRecursion (λ s. IsTrue (is_type s))) (sym (subtags-joined w (each_subtag is_extension_subtag of_extension_subtag w good))) (types-from w good all)))
 
 -- the values in canonical form
 abbrev pub values : List (List ℕ) → List ℕ → Option (List (List ℕ))
 values ss key = option_map (λ w. map fold_text (subtags (unicode_value key (join w)))) (value_of is_key key ss)
 
 pub values-are : (ss : List (List ℕ)) → Good ss → AreValues (values ss)
-values-are ss good key v is = by_found (value_of is_key key ss) refl is
-  where
-    by_found :
-        (o : Option (List (List ℕ))) → value_of is_key key ss ≡ o → option_map (λ w. map fold_text (subtags (unicode_value key (join w)))) o ≡ Some v →
-        (is_key key ≡ true) × AreNoKeys v
-    by_found None found is = absurd cc
-    by_found (Some w) found is =
-        let fits = found-value key ss w found in
-        let whole = good-value is_key key ss w good found in
-        let joined : subtags (join w) ≡ w = subtags-joined w (each_subtag is_extension_subtag of_extension_subtag w whole) in
-        let types = types-unicode key (join w) (subst (AllByRecursion (λ s. IsTrue (is_type s))) (sym joined) (types-from w whole fits.1)) in
-        let same : map fold_text (subtags (unicode_value key (join w))) ≡ v = cc in
-        (fits.0, subst AreNoKeys same (no_keys-lower (subtags (unicode_value key (join w))) types))
+values-are ss good key v is = grind (arith, nat_tests, found-value key ss, good-value is_key key ss, value-no_keys key)
 
 -- ---- the form, key after key
 
@@ -77,22 +61,22 @@ with_key key ss = put_among key (keys_in_order is_key ss)
 
 module _ (key : List ℕ) (lower : fold_text key ≡ key) where
   lower-keys : (ss : List (List ℕ)) → AreLower (with_key key ss)
-  lower-keys ss = lower-put key (keys_in_order is_key ss) lower (lower-in_alphabet (filter is_key ss))
+  lower-keys ss = each-put (λ s. fold_text s ≡ s) key (keys_in_order is_key ss) lower (lower-in_alphabet (filter is_key ss))
 
   rise-keys : (ss : List (List ℕ)) → Rise (with_key key ss)
   rise-keys ss = rise-put key (keys_in_order is_key ss) (rise-in_alphabet (filter is_key ss))
 
   pub split : (ss : List (List ℕ)) → KeySplit key (with_key key ss)
-  split ss = grind (arith, common_steps, key-split, lower-keys, rise-keys, among-put, among, alike-itself)
+  split ss = grind (arith, common_steps, key-split, lower-keys, rise-keys, any-put, among, alike-itself)
 
   -- the form with a key more, which puts nothing if it has no value
   more-blocks : (ss : List (List ℕ)) → form.keywords_form is_key unicode_value ss ≡ blocks (values ss) (with_key key ss)
-  more-blocks ss = grind (arith, common_steps, form-blocks, blocks-put, lower-in_alphabet, rise-in_alphabet, keys-have, false≢true)
+  more-blocks ss = grind (arith, common_steps, form-blocks, flat-put (block (values ss)), lower-in_alphabet, rise-in_alphabet, keys-have, false≢true)
 
   -- subtags with the same values of other keys have the same keys with this one
   same-keys :
       (ss ts : List (List ℕ)) → ((other : List ℕ) → are_alike key other ≡ false → value_of is_key other ts ≡ value_of is_key other ss) → with_key key ts ≡ with_key key ss
-  same-keys ss ts others = grind (arith, common_steps, same-risen, lower-keys, rise-keys, among-put, among, keys-have)
+  same-keys ss ts others = grind (arith, common_steps, same-risen, lower-keys, rise-keys, any-put, among, keys-have)
 
 module _ (ss : List (List ℕ)) (good : Good ss) (own : unicode_form ss ≡ ss) (key : List ℕ) (lower : fold_text key ≡ key) where
   abbrev s : KeySplit key (with_key key ss)
@@ -110,59 +94,40 @@ module _ (ss : List (List ℕ)) (good : Good ss) (own : unicode_form ss ≡ ss) 
   shape : ss ≡ spelled (block (values ss) key)
   shape = sym own ∙ ap (λ t. attributes ++ t) (more-blocks key lower ss ∙ apart-form ss)
 
-  plain : AreNoKeys attributes
-  plain = each-alphabet (λ t. is_key t ≡ false) (λ t other. key-fold t ∙ other) (before_key is_key ss) (plain-before is_key ss)
-
   removed-shape : without_keyword key ss ≡ spelled []
   removed-shape =
-      grind (arith, common_steps, shape, without-passed key attributes, plain, removed-among (values ss) (values-are ss good) key s.before s.after s.early s.late s.before_others s.after_others (alike-itself key))
+      grind (arith, common_steps, shape, without-passed key attributes, attributes-plain ss, removed-among (values ss) (values-are ss good) key s)
 
   set-shape : (v : List (List ℕ)) → with_keyword key v ss ≡ spelled (key ∷ v)
   set-shape v =
-      grind (
-        arith,
-        common_steps,
-        shape,
-        find-passed key attributes (blocks (values ss) s.before ++ (block (values ss) key ++ blocks (values ss) s.after)) plain,
-        find-among (values ss) (values-are ss good) key s.before s.after s.early s.late s.before_others s.after_others (alike-itself key),
-        λ (stands : Bool). put-passed key stands (key ∷ v) attributes (blocks (values ss) s.before ++ (block (values ss) key ++ blocks (values ss) s.after)) plain,
-        put-among (values ss) (values-are ss good) key s.before s.after s.early s.late s.before_others s.after_others (alike-itself key) v,
-      )
+      grind (arith, common_steps, shape, attributes-plain ss, find-passed key attributes, put-passed key, find-among (values ss) (values-are ss good) key s, put-among (values ss) (values-are ss good) key s v)
 
   -- the form of other subtags with these attributes, and with these values of other keys
   other-form :
       (ts here : List (List ℕ)) → before_key is_key ts ≡ before_key is_key ss → ((other : List ℕ) → are_alike key other ≡ false → value_of is_key other ts ≡ value_of is_key other ss) →
       block (values ts) key ≡ here → unicode_form ts ≡ spelled here
   other-form ts here same others is =
-      ap (λ t. in_alphabet t ++ form.keywords_form is_key unicode_value ts) same
-      ∙ ap (λ t. attributes ++ t)
-      (more-blocks key lower ts ∙ ap (blocks (values ts)) (same-keys key lower ss ts others) ∙ apart-form ts
-      ∙ ap (λ t. t ++ (block (values ts) key ++ blocks (values ts) s.after)) (alike_blocks s.before s.before_others)
-      ∙ ap (λ t. blocks (values ss) s.before ++ (t ++ blocks (values ts) s.after)) is
-      ∙ ap (λ t. blocks (values ss) s.before ++ (here ++ t)) (alike_blocks s.after s.after_others))
+      grind (arith, common_steps, same, more-blocks key lower ts, same-keys key lower ss ts others, apart-form ts, is, alike_blocks s.before s.before_others, alike_blocks s.after s.after_others)
     where
       alike_blocks : (keys : List (List ℕ)) → AllByRecursion (λ j. are_alike j key ≡ false) keys → blocks (values ts) keys ≡ blocks (values ss) keys
       alike_blocks = flat-same (λ j. are_alike j key ≡ false) (block (values ts)) (block (values ss)) (λ j apart. grind (arith, common_steps, others j (alike-back j key apart)))
 
+  -- so a canonical keyword that is set, or a key that is removed, leaves the form
+  canonical_set :
+      (v : List (List ℕ)) → keyword_error key v ≡ None → map fold_text (subtags (unicode_value key (join v))) ≡ v → unicode_form (with_keyword key v ss) ≡ with_keyword key v ss
+  canonical_set v none canonical =
+      let fits = fits_from key v none in
+      let standing = find (is_this_key key) ss in
+      other-form (with_keyword key v ss) (key ∷ v)
+      (before-put key (unwrap_or standing key) v (standing-this key ss fits.two) fits.no_keys (is_some standing) ss) (λ other differ. others_after_set key other v ss none differ)
+      (grind (arith, nat_tests, read_after_set key v ss none, canonical))
+      ∙ sym (set-shape v)
+
+  removed_lower : unicode_form (without_keyword key ss) ≡ without_keyword key ss
+  removed_lower =
+      other-form (without_keyword key ss) [] (before-kept key ss) (λ other differ. others_after_removal key other ss differ) (grind (arith, nat_tests, none_after_removal key ss)) ∙ sym removed-shape
+
 -- ---- the laws
-
-pub canonical_set :
-    (key : List ℕ) (v ss : List (List ℕ)) → keyword_error key v ≡ None → fold_text key ≡ key → map fold_text (subtags (unicode_value key (join v))) ≡ v → Good ss → unicode_form ss ≡ ss →
-    unicode_form (with_keyword key v ss) ≡ with_keyword key v ss
-canonical_set key v ss none lower canonical good own =
-    let fits = fits_from key v none in
-    let standing = find (is_this_key key) ss in
-    other-form ss good own key lower (with_keyword key v ss) (key ∷ v)
-    (before-put key (unwrap_or standing key) v (standing-this key ss fits.two) fits.no_keys (is_some standing) ss) (λ other differ. others_after_set key other v ss none differ)
-    (ap (λ o. option_map_or (λ w. key ∷ w) (option_map (λ w. map fold_text (subtags (unicode_value key (join w)))) o) []) (read_after_set key v ss none) ∙ ap (λ w. key ∷ w) canonical)
-    ∙ sym (set-shape ss good own key lower v)
-
-removed_lower :
-    (key : List ℕ) (ss : List (List ℕ)) → fold_text key ≡ key → Good ss → unicode_form ss ≡ ss → unicode_form (without_keyword key ss) ≡ without_keyword key ss
-removed_lower key ss lower good own =
-    other-form ss good own key lower (without_keyword key ss) [] (before-kept key ss) (λ other differ. others_after_removal key other ss differ)
-    (ap (λ o. option_map_or (λ w. key ∷ w) (option_map (λ w. map fold_text (subtags (unicode_value key (join w)))) o) []) (none_after_removal key ss))
-    ∙ sym (removed-shape ss good own key lower)
 
 without-fold : (key : List ℕ) (inside : Bool) (ss : List (List ℕ)) → without_within (fold_text key) inside ss ≡ without_within key inside ss
 without-fold key inside [] = refl
@@ -173,38 +138,28 @@ unicode_key-fold key = grind (arith, nat_tests, is_letter-fold, is_digit-fold)
 
 pub canonical_removal : (key : List ℕ) (ss : List (List ℕ)) → keyword_error key [] ≡ None → Good ss → unicode_form ss ≡ ss → unicode_form (without_keyword key ss) ≡ without_keyword key ss
 canonical_removal key ss none good own =
-    grind (arith, nat_tests, without-fold key, removed_lower (fold_text key) ss (fold_text-twice key) good own, fold_text-twice key)
+    grind (arith, nat_tests, without-fold key, removed_lower ss good own (fold_text key) (fold_text-twice key), fold_text-twice key)
 
 -- ---- a tag in canonical form
-
-abbrev extension : ℕ → List (List ℕ) → Extension
-extension n ss = record { singleton = n; subtags = ss }
 
 -- whether an extension is a `t` that has a form
 abbrev is_form : Bool → Extension → Bool
 is_form t e = is_of 116 e && not t && is_transform e.subtags
 
-form-u : (t : Bool) (e : Extension) → is_of 117 e ≡ true → extension_form false t e ≡ extension 117 (unicode_form e.subtags)
+form-u : (t : Bool) (e : Extension) → is_of 117 e ≡ true → extension_form false t e ≡ record { singleton = 117; subtags = unicode_form e.subtags }
 form-u t e is = form_tested false t true (is_form t e) e (ap (λ b. b && true) is) refl
 
 form-other : (u t : Bool) (e : Extension) → is_of 117 e ≡ false → extension_form u t e ≡ form_by false (is_form t e) e
 form-other u t e is = form_tested u t false (is_form t e) e (ap (λ b. b && not u) is) refl
 
-u_is_no_t : (ss : List (List ℕ)) → is_of 116 (extension 117 ss) ≡ false
+u_is_no_t : (ss : List (List ℕ)) → is_of 116 (record { singleton = 117; subtags = ss }) ≡ false
 unfolding fold_byte
 u_is_no_t ss = refl
-
-record Absent (e : Extension) (es : List Extension) : Type 0 where
-  first : is_of 117 e ≡ false
-  others : find (is_of 117) es ≡ None
 
 -- without a `u`, it makes no difference whether a `u` came before
 forms-absent : (t : Bool) (es : List Extension) → find (is_of 117) es ≡ None → forms_after true t es ≡ forms_after false t es
 forms-absent t [] none = refl
 forms-absent t (e ∷ es) none = grind (arith, common_steps, form-other true t e, form-other false t e, forms-absent (t || is_of 116 e) es)
-
-own-none : unicode_form [] ≡ []
-own-none = refl
 
 module _
     (change : List (List ℕ) → List (List ℕ)) (some : (ss : List (List ℕ)) → 1 ≤ length (change ss))
@@ -212,19 +167,14 @@ module _
   where
     new-u : (t : Bool) (rest : List Extension) → forms_after true t rest ≡ rest → forms_after false t (extension_of 117 (change []) ++ rest) ≡ extension_of 117 (change []) ++ rest
     new-u t rest own =
-        grind (arith, common_steps, extension-some 117 (change []) (some []), form-u t (extension 117 (change [])), u_is_u (change []), keeps [] tt own-none, u_is_no_t (change []))
-
-    changed-u :
-        (t : Bool) (e : Extension) (es : List Extension) → is_of 117 e ≡ true → IsWellFormedExtension e → forms_after false t (e ∷ es) ≡ e ∷ es →
-        forms_after false t (extension_of e.singleton (change e.subtags) ++ es) ≡ extension_of e.singleton (change e.subtags) ++ es
-    changed-u t e es is fits own = grind (arith, nat_tests, form-u t e is, extension e.singleton, extension-some e.singleton)
+        grind (arith, common_steps, extension-some 117 (change []) (some []), form-u t (record { singleton = 117; subtags = change [] }), u_is_u (change []), keeps [] tt refl, u_is_no_t (change []))
 
     forms-changed :
         (t stands : Bool) (es : List Extension) → AllByRecursion IsWellFormedExtension es → (stands ≡ false → find (is_of 117) es ≡ None) → forms_after false t es ≡ es →
         forms_after false t (changed_from change stands es) ≡ changed_from change stands es
     forms-changed t stands [] fits absent own = grind (arith, nat_tests, append-nil, new-u t [])
     forms-changed t stands (e ∷ es) fits absent own =
-        grind (arith, common_steps, changed-u, append_assoc, new-u, forms-absent, false≢true, forms-changed (t || is_of 116 e) stands es fits.1)
+        grind (arith, common_steps, form-u t e, extension-some e.singleton (change e.subtags) (some e.subtags), append_assoc, new-u, forms-absent, false≢true, forms-changed (t || is_of 116 e) stands es fits.1)
 
 pub canonical_tag :
     (key : List ℕ) (v : List (List ℕ)) (r : Record) → keyword_error key v ≡ None → IsCanonicalKeyword key v → IsWellFormed r → extensions_record r ≡ r →

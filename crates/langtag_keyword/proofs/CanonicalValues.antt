@@ -10,21 +10,16 @@ use Rattle.langtag_keyword.proofs.Found.{found_is}
 
 -- ---- by computation
 
-subdivisions_settled : list_all {X = Alias} (λ row. is_none (alias_for subdivision_aliases row.new)) subdivision_aliases ≡ true
+-- no new subdivision is replaced, nor is the empty text
+subdivisions_settled : (list_all {X = Alias} (λ row. is_none (alias_for subdivision_aliases row.new)) subdivision_aliases ≡ true) × (alias_for subdivision_aliases [] ≡ None)
 unfolding subdivision_aliases fold_byte
-subdivisions_settled = refl
+subdivisions_settled = (refl, refl)
 
-no_empty_subdivision : alias_for subdivision_aliases [] ≡ None
-unfolding subdivision_aliases fold_byte
-no_empty_subdivision = refl
-
-types_settled : list_all {X = TypeAlias} (λ row. is_none (type_alias_for unicode_type_aliases row.key row.new)) unicode_type_aliases ≡ true
+types_settled :
+    (list_all {X = TypeAlias} (λ row. is_none (type_alias_for unicode_type_aliases row.key row.new)) unicode_type_aliases ≡ true)
+    × (list_all {X = TypeAlias} (λ row. not (are_alike row.old [])) unicode_type_aliases ≡ true)
 unfolding unicode_type_aliases fold_byte
-types_settled = refl
-
-no_empty_type : list_all {X = TypeAlias} (λ row. not (are_alike row.old [])) unicode_type_aliases ≡ true
-unfolding unicode_type_aliases fold_byte
-no_empty_type = refl
+types_settled = (refl, refl)
 
 transforms_settled : list_all {X = TypeAlias} (λ row. is_none (type_alias_for transform_type_aliases row.key row.new)) transform_type_aliases ≡ true
 unfolding transform_type_aliases fold_byte
@@ -52,11 +47,11 @@ replaced key text = cond (has_subdivision key) (subdivision text) (unicode_type 
 
 replaced-own : (key text : List ℕ) → replaced key (fold_text (replaced key text)) ≡ fold_text (replaced key text)
 unfolding subdivision unicode_type
-replaced-own key text = grind (arith, common_steps, alias-own subdivision_aliases text subdivisions_settled, type-own unicode_type_aliases key text types_settled)
+replaced-own key text = grind (arith, common_steps, alias-own subdivision_aliases text subdivisions_settled.0, type-own unicode_type_aliases key text types_settled.0)
 
 replaced-empty : (key : List ℕ) → replaced key [] ≡ []
 unfolding subdivision unicode_type
-replaced-empty key = grind (arith, common_steps, no_empty_subdivision, no_empty_type, false≢true, not-true, found_has, both, found_is)
+replaced-empty key = grind (arith, common_steps, subdivisions_settled.1, types_settled.1, false≢true, not-true, found_has, both, found_is)
 
 unicode-own : (key text : List ℕ) → unicode_value key (fold_text (unicode_value key text)) ≡ fold_text (unicode_value key text)
 unicode-own key text = grind (arith, common_steps, replaced-empty, replaced-own, fold_text-twice)
@@ -69,16 +64,17 @@ transform-own key text = ap (λ o. unwrap_or o (fold_text (transform_value key t
 
 -- ---- subtags of values
 
-module _ (canonical : List ℕ → List ℕ) (own : (text : List ℕ) → canonical (fold_text (canonical text)) ≡ fold_text (canonical text)) where
-  value-settled : (w : List (List ℕ)) → map fold_text (subtags (canonical (join (map fold_text (subtags (canonical (join w))))))) ≡ map fold_text (subtags (canonical (join w)))
-  value-settled w = grind (arith, nat_tests, join-fold, join-subtags, subtags-fold, map-twice fold_text fold_text-twice, fold_text-twice)
-
-pub unicode-settled :
+-- the subtags of a canonical value are those of its own canonical value
+abbrev pub AreSettled : (List ℕ → List ℕ → List ℕ) → Type 0
+AreSettled canonical =
     (key : List ℕ) (w : List (List ℕ)) →
-    map fold_text (subtags (unicode_value key (join (map fold_text (subtags (unicode_value key (join w))))))) ≡ map fold_text (subtags (unicode_value key (join w)))
-unicode-settled key = value-settled (unicode_value key) (unicode-own key)
+    map fold_text (subtags (canonical key (join (map fold_text (subtags (canonical key (join w))))))) ≡ map fold_text (subtags (canonical key (join w)))
 
-pub transform-settled :
-    (key : List ℕ) (w : List (List ℕ)) →
-    map fold_text (subtags (transform_value key (join (map fold_text (subtags (transform_value key (join w))))))) ≡ map fold_text (subtags (transform_value key (join w)))
-transform-settled key = value-settled (transform_value key) (transform-own key)
+settled : (canonical : List ℕ → List ℕ → List ℕ) → ((key text : List ℕ) → canonical key (fold_text (canonical key text)) ≡ fold_text (canonical key text)) → AreSettled canonical
+settled canonical own key w = grind (arith, nat_tests, own key, join-fold, join-subtags, subtags-fold, map-twice fold_text fold_text-twice, fold_text-twice)
+
+pub unicode-settled : AreSettled unicode_value
+unicode-settled = settled unicode_value unicode-own
+
+pub transform-settled : AreSettled transform_value
+transform-settled = settled transform_value transform-own

@@ -3,7 +3,7 @@ pub use Rattle.langtag_extension.proofs.ExtensionLookUp.{extension_found}
 pub use Rattle.langtag_extension.specs.ExtensionTexts.{extension_texts}
 pub use Rattle.langtag_extension.specs.Spelling.{SpellsExtension, extension_spelling, IsExtension, find_extension, SpellsExtensions}
 pub use Rattle.langtag_extension.specs.Text.{extension_text, extensions_left, extensions_text}
-pub use Rattle.langtag_keyword.proofs.Found.{both, each-weaker, found_has}
+pub use Rattle.langtag_keyword.proofs.Found.{both, each-map, each-weaker, found_has, found_some}
 pub use Rattle.langtag_text.specs.Alias.{Alias, TypeAlias, alias_for, type_alias_for}
 pub use Rattle.langtag_keyword.specs.Edit.{changed_from, extension_of, is_this_key, keyword_error, put_keyword, with_changed_u, with_keyword, without_keyword}
 pub use Rattle.langtag_keyword.specs.Edit.{without_within, is_place, is_type, is_unicode_key, at_place, edited}

@@ -1,5 +1,6 @@
 -- The case of letters changes nothing in the forms of extensions but case.
-use Rattle.langtag_keyword.proofs.Common.{common_steps, ◌≡◌, ℕ, Bool, false, ◌||◌, ◌==◌, List, [], ◌∷◌, map, Option, None, Some, option_map, unwrap_or, refl, ap, ◌∙◌, arith, list_any, nat_tests, classes-fold, fold_text-twice, length-fold, AlikeRecords, Alike, are_alike, fold_text, is_region, is_script, is_variant, Extension, Record, Classes, join, subtags, type_alias_for, after_one, are_different_variants, are_fields, extension_form, forms_after, language_form, is_language_or_none, is_of, is_transform, one_of, transform_form, unicode_form, unicode_value, before_key, value_of, is_field_key}
+use Rattle.langtag_scan.specs.Grammar.{classes_of}
+use Rattle.langtag_keyword.proofs.Common.{common_steps, ◌≡◌, ℕ, Bool, false, ◌||◌, ◌==◌, List, [], ◌∷◌, map, Option, option_map, unwrap_or, refl, ap, ◌∙◌, arith, list_any, nat_tests, classes-fold, fold_text-twice, length-fold, AlikeRecords, Alike, are_alike, fold_text, is_region, is_script, Extension, Record, Classes, join, type_alias_for, after_one, are_different_variants, are_fields, extension_form, forms_after, language_form, is_language_or_none, is_of, is_transform, one_of, transform_form, unicode_form, unicode_value, before_key, value_of, is_field_key}
 use Rattle.langtag_text.proofs.Alike.{AlikeFields, same_fields}
 use Rattle.langtag_scan.proofs.CaseLaw.{fold_byte-twice, join-fold, map-twice, subtags-fold, fold_extension-twice}
 use Rattle.langtag_scan.specs.AlikeRecords.{fold_extension}
@@ -13,7 +14,7 @@ use Rattle.langtag_keyword.proofs.CanonicalValues.{replaced}
 use Rattle.langtag_keyword.proofs.KeywordLaws.{form_by, form_tested, forms-next}
 use Rattle.langtag_keyword.proofs.FormTwice.{language-parts, lower_fields, unicode_language-fold}
 use Rattle.langtag_keyword.proofs.Aliases.{alias_for-alike, type_alias_for-alike}
-use Rattle.langtag_keyword.proofs.KeywordsInForm.{same-values, values_in_form}
+use Rattle.langtag_keyword.proofs.KeywordsInForm.{same-values}
 use Rattle.langtag_keyword.proofs.WalkLaws.{field_key-fold}
 
 pub lower-twice : (ss : List (List ℕ)) → map fold_text (map fold_text ss) ≡ map fold_text ss
@@ -31,17 +32,10 @@ module _ (opens : List ℕ → Bool) (opens-fold : (s : List ℕ) → opens (fol
   value-fold key (s ∷ ss) = grind (arith, nat_tests, fold_text-twice s, value-fold key ss, before-fold ss)
 
   module _ (canonical : List ℕ → List ℕ → List ℕ) (canonical-fold : (key text : List ℕ) → Alike (canonical key (fold_text text)) (canonical key text)) where
-    in_form-fold : (ss : List (List ℕ)) (key : List ℕ) → values_in_form opens canonical (map fold_text ss) key ≡ values_in_form opens canonical ss key
-    in_form-fold ss key = ap (option_map (λ w. map fold_text (subtags (canonical key (join w))))) (value-fold key ss) ∙ by_value (value_of opens key ss)
-      where
-        by_value :
-            (o : Option (List (List ℕ))) →
-            option_map (λ w. map fold_text (subtags (canonical key (join w)))) (option_map (map fold_text) o) ≡ option_map (λ w. map fold_text (subtags (canonical key (join w)))) o
-        by_value None = refl
-        by_value (Some w) = grind (arith, nat_tests, join-fold w, subtags-fold (canonical key (fold_text (join w))), subtags-fold (canonical key (join w)))
-
     pub keywords-fold : (ss : List (List ℕ)) → form.keywords_form opens canonical (map fold_text ss) ≡ form.keywords_form opens canonical ss
-    keywords-fold ss = same-values opens canonical (map fold_text ss) ss (λ k low. in_form-fold ss k)
+    keywords-fold ss =
+        same-values opens canonical (map fold_text ss) ss
+        (λ k low. grind (arith, nat_tests, value-fold k ss, join-fold, λ (w : List (List ℕ)). subtags-fold (canonical k (fold_text (join w))), λ (w : List (List ℕ)). subtags-fold (canonical k (join w)), canonical-fold k))
 
 -- ---- values
 
@@ -52,11 +46,8 @@ replaced-fold : (key text : List ℕ) → Alike (replaced key (fold_text text)) 
 unfolding subdivision unicode_type
 replaced-fold key text = grind (arith, nat_tests, alias_for-alike, fold_text-twice, or_fold, type_alias_for-alike)
 
-without-alike : (a b : List ℕ) → Alike a b → Alike (without_true a) (without_true b)
-without-alike a b alike = grind (arith, nat_tests)
-
 unicode_value-fold : (key text : List ℕ) → Alike (unicode_value key (fold_text text)) (unicode_value key text)
-unicode_value-fold key text = without-alike (replaced key (fold_text text)) (replaced key text) (replaced-fold key text)
+unicode_value-fold key text = grind (arith, nat_tests, replaced-fold key text)
 
 pub transform_value-fold : (key text : List ℕ) → Alike (transform_value key (fold_text text)) (transform_value key text)
 unfolding transform_value
@@ -69,27 +60,18 @@ unicode-fold ss = grind (arith, common_steps, before-fold, key-fold, in_alphabet
 
 -- ---- the language of `t`
 
-module _ (test : List ℕ → Bool) (test-fold : (s : List ℕ) → test (fold_text s) ≡ test s) where
-  one-fold : (ss : List (List ℕ)) → first_subtag (one_of test (map fold_text ss)) ≡ fold_text (first_subtag (one_of test ss))
-  one-fold ss = grind (arith, nat_tests)
+module _ (is : Classes → Bool) where
+  one-fold : (ss : List (List ℕ)) → first_subtag (one_of (λ s. is (classes_of s)) (map fold_text ss)) ≡ fold_text (first_subtag (one_of (λ s. is (classes_of s)) ss))
+  one-fold ss = grind (arith, nat_tests, classes-fold)
 
-  after-fold : (ss : List (List ℕ)) → after_one test (map fold_text ss) ≡ map fold_text (after_one test ss)
-  after-fold ss = grind (arith, nat_tests)
-
-script-fold : (s : List ℕ) → is_script (fold_text s) ≡ is_script s
-script-fold s = ap (λ (c : Classes). c.script) (classes-fold s)
-
-region-fold : (s : List ℕ) → is_region (fold_text s) ≡ is_region s
-region-fold s = ap (λ (c : Classes). c.region) (classes-fold s)
-
-variant-fold : (s : List ℕ) → is_variant (fold_text s) ≡ is_variant s
-variant-fold s = ap (λ (c : Classes). c.variant) (classes-fold s)
+  after-fold : (ss : List (List ℕ)) → after_one (λ s. is (classes_of s)) (map fold_text ss) ≡ map fold_text (after_one (λ s. is (classes_of s)) ss)
+  after-fold ss = grind (arith, nat_tests, classes-fold)
 
 pub variants-fold : (ss : List (List ℕ)) → identifier_variants (map fold_text ss) ≡ map fold_text (identifier_variants ss)
-variants-fold ss = ap (after_one is_region) (after-fold is_script script-fold ss) ∙ after-fold is_region region-fold (after_one is_script ss)
+variants-fold ss = ap (after_one is_region) (after-fold (λ c. c.script) ss) ∙ after-fold (λ c. c.region) (after_one is_script ss)
 
 pub fields-fold : (s : List ℕ) (ss : List (List ℕ)) → AlikeFields (identifier_fields (fold_text s) (map fold_text ss)) (identifier_fields s ss)
-fields-fold s ss = grind (arith, nat_tests, fold_text-twice, one-fold, script-fold, after-fold, region-fold)
+fields-fold s ss = grind (arith, nat_tests, fold_text-twice, one-fold (λ c. c.script), after-fold (λ c. c.script), one-fold (λ c. c.region))
 
 -- ---- whether `t` is allowed
 
@@ -99,17 +81,14 @@ any-fold v (w ∷ vs) = rw (fold_text-twice v, fold_text-twice w, any-fold v vs)
 
 different-fold : (vs : List (List ℕ)) → are_different_variants (map fold_text vs) ≡ are_different_variants vs
 different-fold [] = refl
-different-fold (v ∷ vs) = rw (variant-fold v, any-fold v vs, different-fold vs) refl
+different-fold (v ∷ vs) = rw (ap (λ (c : Classes). c.variant) (classes-fold v), any-fold v vs, different-fold vs) refl
 
 language_or_none-fold : (ss : List (List ℕ)) → is_language_or_none (map fold_text ss) ≡ is_language_or_none ss
 language_or_none-fold ss = grind (arith, common_steps, unicode_language-fold, variants-fold, different-fold)
 
-follow-fold : (inside after : Bool) (s : List ℕ) → may_follow inside after (fold_text s) ≡ may_follow inside after s
-follow-fold inside after s = rw (field_key-fold s, length-fold s) refl
-
 are_fields-fold : (inside after : Bool) (ss : List (List ℕ)) → are_fields inside after (map fold_text ss) ≡ are_fields inside after ss
 are_fields-fold inside after [] = refl
-are_fields-fold inside after (s ∷ ss) = rw (follow-fold inside after s, field_key-fold s, are_fields-fold (inside || is_field_key s) (is_field_key s) ss) refl
+are_fields-fold inside after (s ∷ ss) = rw (field_key-fold s, length-fold s, are_fields-fold (inside || is_field_key s) (is_field_key s) ss) refl
 
 pub is_transform-fold : (ss : List (List ℕ)) → is_transform (map fold_text ss) ≡ is_transform ss
 is_transform-fold ss = rw (before-fold is_field_key field_key-fold ss, language_or_none-fold (before_key is_field_key ss), are_fields-fold false false ss) refl
@@ -135,9 +114,6 @@ one_form-fold u t e = grind (arith, common_steps, form_tested, is_of-fold, is_tr
 forms-fold : (u t : Bool) (es : List Extension) → map fold_extension (forms_after u t (map fold_extension es)) ≡ map fold_extension (forms_after u t es)
 forms-fold u t [] = refl
 forms-fold u t (e ∷ es) = grind (arith, common_steps, forms-fold (u || is_of 117 e) (t || is_of 116 e) es, forms-next, one_form-fold, is_of-fold)
-
-abbrev with_extensions : List Extension → Record → Record
-with_extensions es r = record r { extensions = es }
 
 pub record-alike : (r q : Record) → AlikeRecords r q → AlikeRecords (extensions_record r) (extensions_record q)
 unfolding extensions_record

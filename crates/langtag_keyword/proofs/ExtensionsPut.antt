@@ -16,15 +16,12 @@ pub record Opens (Holds : List Extension → Type 0) (text : List ℕ) (texts : 
 
 module _ (Holds : List Extension → Type 0) (texts : List (List ℕ)) (so_far : AreLeft Holds texts) where
   pub left-opens : (rest : List (List ℕ)) (x : List ℕ) → texts ≡ x ∷ rest → Opens Holds x rest
-  left-opens rest x first = by_left so_far.left so_far.spelled so_far.members so_far.holds
+  left-opens rest x first = by_left so_far.left (sym first ∙ so_far.spelled) so_far.members so_far.holds
     where
-      by_left : (es : List Extension) → texts ≡ map extension_spelling es → AllByRecursion IsWellFormedExtension es → Holds es → Opens Holds x rest
-      by_left [] spelled members holds = absurd (omega (arith, ap length (sym first ∙ spelled)))
+      by_left : (es : List Extension) → x ∷ rest ≡ map extension_spelling es → AllByRecursion IsWellFormedExtension es → Holds es → Opens Holds x rest
+      by_left [] spelled members holds = absurd cc
       by_left (e ∷ es) spelled members holds =
-          let same : x ∷ rest ≡ extension_spelling e ∷ map extension_spelling es = sym first ∙ spelled in
-          let head : x ≡ extension_spelling e = cc in
-          let tail : rest ≡ map extension_spelling es = cc in
-          record { first = e; spells = record { member = members.0; joined = sym head }; others = record { left = es; spelled = tail; members = members.1; holds = holds } }
+          record { first = e; spells = record { member = members.0; joined = cc }; others = record { left = es; spelled = cc; members = members.1; holds = holds } }
 
   pub left-none : texts ≡ [] → Holds []
   left-none none = by_left so_far.left so_far.spelled so_far.holds

@@ -1,5 +1,5 @@
 -- The form of a tag is a tag: its extensions are well-formed.
-use Rattle.langtag_keyword.proofs.Common.{common_steps, ◌≡◌, ℕ, ◌≤◌, ◌&&◌, ◌||◌, not, Bool, true, false, List, [], ◌∷◌, ◌++◌, length, map, Some, unwrap_or, refl, sym, ap, subst, ◌∙◌, arith, find, Option, None, and_parts, false≢true, nat_tests, AllByRecursion, filter, flat_map, list_all, is_some, classes-fold, of_extension_subtag, each_from_test, each_subtag, subtags-joined, each-append, fold_text, is_alphanumeric, Extension, IsWellFormed, IsWellFormedExtension, Record, join, subtags, Alias, TypeAlias, alias_for, type_alias_for, is_type, at_place, changed_from, edited, extension_of, is_this_key, keyword_error, put_keyword, without_within, extension_form, forms_after, in_alphabet, is_of, is_transform, transform_form, unicode_form, unicode_value, before_key, is_key, value_of, is_field_key, Classes, IsTrue}
+use Rattle.langtag_keyword.proofs.Common.{common_steps, ◌≡◌, ℕ, ◌≤◌, ◌&&◌, ◌||◌, not, Bool, true, false, List, [], ◌∷◌, ◌++◌, length, map, Some, unwrap_or, refl, sym, ap, subst, ◌∙◌, arith, find, Option, None, and_parts, false≢true, nat_tests, AllByRecursion, filter, flat_map, list_all, is_some, classes-fold, of_extension_subtag, each_from_test, each_subtag, subtags-joined, each-append, fold_text, is_alphanumeric, Extension, IsWellFormed, IsWellFormedExtension, Record, join, subtags, Alias, TypeAlias, alias_for, type_alias_for, is_type, changed_from, edited, extension_of, is_this_key, keyword_error, put_keyword, without_within, extension_form, forms_after, in_alphabet, is_of, is_transform, transform_form, unicode_form, unicode_value, before_key, is_key, value_of, is_field_key, Classes, IsTrue, each-map}
 use Rattle.std.proofs.Common.{length-append}
 use Rattle.langtag_scan.specs.Class.{is_digit, is_extension_subtag, is_letter, is_mark, is_singleton}
 use Rattle.langtag_keyword.specs.Aliases.{subdivision_aliases, transform_type_aliases, unicode_type_aliases}
@@ -7,7 +7,7 @@ use Rattle.langtag_keyword.specs.Edit.{edited_record}
 use Rattle.langtag_keyword.specs.Form.{extensions_record, transform_value}
 use Rattle.langtag_keyword.proofs.KeywordsInForm.{each-has}
 use Rattle.langtag_keyword.proofs.AlphabetLaws.{each-alphabet, each-before}
-use Rattle.langtag_keyword.proofs.KeywordLaws.{form_by, form_tested, allowed_from, types-each}
+use Rattle.langtag_keyword.proofs.KeywordLaws.{form_by, form_tested, fits_from, types-each}
 use Rattle.langtag_keyword.proofs.VariantLengths.{put-some}
 use Rattle.langtag_keyword.specs.Form as form
 
@@ -21,8 +21,7 @@ good-fold : (s : List ℕ) → is_extension_subtag (fold_text s) ≡ is_extensio
 good-fold s = ap (λ (c : Classes). c.extension_subtag) (classes-fold s)
 
 good-lower : (ss : List (List ℕ)) → Good ss → Good (map fold_text ss)
-good-lower [] good = tt
-good-lower (s ∷ ss) good = (good-fold s ∙ good.0, good-lower ss good.1)
+good-lower = each-map (λ s. IsTrue (is_extension_subtag s)) (λ s. IsTrue (is_extension_subtag s)) fold_text (λ s good. good-fold s ∙ good)
 
 -- ---- in the order of the alphabet
 
@@ -45,31 +44,31 @@ GoodText text = Good (subtags text)
 good-joined : (ss : List (List ℕ)) → Good ss → GoodText (join ss)
 good-joined ss good = subst Good (sym (subtags-joined ss (each_subtag is_extension_subtag of_extension_subtag ss good))) good
 
--- a test that the new texts pass holds of values in canonical form, if it holds of the values
+-- what the new texts pass holds of values in canonical form, if it holds of the values
+module _ (good : List ℕ → Bool) (P : List ℕ → Type 0) (shows : (text : List ℕ) → good text ≡ true → P text) where
+  pass-alias : (rows : List Alias) (text : List ℕ) → list_all (λ row. good row.new) rows ≡ true → P text → P (unwrap_or (alias_for rows text) text)
+  pass-alias [] text all is = is
+  pass-alias (row ∷ rows) text all is = grind (arith, nat_tests, and_parts (good row.new), shows row.new, pass-alias rows text)
+
+  pub pass-type : (rows : List TypeAlias) (key text : List ℕ) → list_all (λ row. good row.new) rows ≡ true → P text → P (unwrap_or (type_alias_for rows key text) text)
+  pass-type [] key text all is = is
+  pass-type (row ∷ rows) key text all is = grind (arith, nat_tests, and_parts (good row.new), shows row.new, pass-type rows key text)
+
 module _ (test : List ℕ → Bool) where
   abbrev pub Passes : List ℕ → Type 0
   Passes text = AllByRecursion (λ s. IsTrue (test s)) (subtags text)
 
-  pass-alias : (rows : List Alias) (text : List ℕ) → list_all (λ row. list_all test (subtags row.new)) rows ≡ true → Passes text → Passes (unwrap_or (alias_for rows text) text)
-  pass-alias [] text all good = good
-  pass-alias (row ∷ rows) text all good =
-      grind (arith, nat_tests, and_parts (list_all test (subtags row.new)), each_from_test test (subtags row.new), pass-alias rows text)
+  abbrev passes : List ℕ → Bool
+  passes text = list_all test (subtags text)
 
-  pass-type :
-      (rows : List TypeAlias) (key text : List ℕ) → list_all (λ row. list_all test (subtags row.new)) rows ≡ true → Passes text → Passes (unwrap_or (type_alias_for rows key text) text)
-  pass-type [] key text all good = good
-  pass-type (row ∷ rows) key text all good =
-      grind (arith, nat_tests, and_parts (list_all test (subtags row.new)), each_from_test test (subtags row.new), pass-type rows key text)
-
-  pass-without : (t : List ℕ) → Passes t → Passes (form.without_true t)
-  pass-without t good = grind (arith, nat_tests)
+  shown : (text : List ℕ) → passes text ≡ true → Passes text
+  shown text = each_from_test test (subtags text)
 
   pass-unicode :
-      list_all (λ row. list_all test (subtags row.new)) subdivision_aliases ≡ true → list_all (λ row. list_all test (subtags row.new)) unicode_type_aliases ≡ true →
-      (key value : List ℕ) → Passes value → Passes (unicode_value key value)
+      list_all (λ row. passes row.new) subdivision_aliases ≡ true → list_all (λ row. passes row.new) unicode_type_aliases ≡ true → (key value : List ℕ) → Passes value → Passes (unicode_value key value)
   unfolding form.subdivision form.unicode_type
   pass-unicode subdivisions types key value good =
-      grind (arith, nat_tests, pass-without, pass-alias subdivision_aliases value subdivisions good, pass-type unicode_type_aliases key value types good)
+      grind (arith, nat_tests, pass-alias passes Passes shown subdivision_aliases value subdivisions good, pass-type passes Passes shown unicode_type_aliases key value types good)
 
 good-unicode : (key value : List ℕ) → GoodText value → GoodText (unicode_value key value)
 unfolding subdivision_aliases unicode_type_aliases is_extension_subtag is_letter is_digit
@@ -81,7 +80,7 @@ types-unicode = pass-unicode is_type refl refl
 
 pub good-transform : (key value : List ℕ) → GoodText value → GoodText (transform_value key value)
 unfolding transform_value transform_type_aliases is_extension_subtag is_letter is_digit
-good-transform key value good = pass-type is_extension_subtag transform_type_aliases key value refl good
+good-transform key value good = pass-type (passes is_extension_subtag) GoodText (shown is_extension_subtag) transform_type_aliases key value refl good
 
 -- ---- keywords
 
@@ -180,7 +179,7 @@ good-standing key (s ∷ ss) fits good = grind (arith, common_steps, good-standi
 good-edited : (key : List ℕ) (value : Option (List (List ℕ))) → keyword_error key (unwrap_or value []) ≡ None → (ss : List (List ℕ)) → Good ss → Good (edited key value ss)
 good-edited key None none ss good = good-without key false ss good
 good-edited key (Some value) none ss good =
-    grind (arith, common_steps, good-without, allowed_from, types-each, and_parts, good-put, good-standing, false≢true, good-key)
+    grind (arith, common_steps, good-without, fits_from, types-each, and_parts, good-put, good-standing, false≢true, good-key)
 
 -- ---- extensions
 
@@ -192,12 +191,9 @@ unfolding is_singleton is_letter is_digit is_mark
 u_singleton = refl
 
 module _ (change : List (List ℕ) → List (List ℕ)) (keeps : (ss : List (List ℕ)) → Good ss → Good (change ss)) where
-  good-place : (stands : Bool) (e : Extension) → IsWellFormedExtension e → AllByRecursion IsWellFormedExtension (at_place change stands e)
-  good-place stands e fits = grind (arith, nat_tests, good-extension_of e.singleton, each-append, good-extension_of 117, u_singleton)
-
   good-changed : (stands : Bool) (es : List Extension) → AllByRecursion IsWellFormedExtension es → AllByRecursion IsWellFormedExtension (changed_from change stands es)
   good-changed stands [] fits = good-extension_of 117 (change []) u_singleton (keeps [] tt)
-  good-changed stands (e ∷ es) fits = grind (arith, common_steps, good-changed stands es fits.1, good-extension_of, u_singleton, each-append, good-place)
+  good-changed stands (e ∷ es) fits = grind (arith, common_steps, good-changed stands es fits.1, good-extension_of, u_singleton, each-append, fits.0)
 
 -- ---- the record
 

@@ -1,17 +1,16 @@
 -- The form of the extension `u`, and of `t`, is its own form.
 use Rattle.std.proofs.lemmas.Bool.Decides.{nat_tests}
 use Rattle.langtag_keyword.proofs.Common.{common_steps, arith, ◌≡◌, ℕ, Bool, true, false, not, ◌&&◌, ◌==◌, List, [], ◌∷◌, ◌++◌, length, map, refl, sym, ap, subst, ◌∙◌, ◌||◌, classes-fold, fold_text-twice, length-fold, fold_text, is_primary, is_variant, one_flat, Extension, IsWellFormed, IsWellFormedExtension, Record, Classes, subtags, are_different_variants, are_fields, in_alphabet, is_language_or_none, is_transform, is_unicode_language, language_form, one_of, transform_form, transform_value, unicode_form, unicode_value, extension_form, forms_after, is_of, before_key, is_key, is_field_key, both, AllByRecursion}
-use Rattle.langtag_text.specs.FieldClasses.{is_region_field, is_script_field}
 use Rattle.langtag_text.specs.Fields.{Fields, subtag_of}
 use Rattle.langtag_scan.specs.Grammar.{fold_byte, is_region, is_script}
 use Rattle.langtag_keyword.specs.Form.{extensions_record}
 use Rattle.langtag_keyword.specs.Identifier.{first_subtag, identifier_fields, identifier_flat, identifier_variants}
 use Rattle.langtag_keyword.proofs.AlphabetLaws.{in_alphabet-twice, each-alphabet}
-use Rattle.langtag_keyword.proofs.CanonicalKeywords.{key-fold, values-are}
+use Rattle.langtag_keyword.proofs.CanonicalKeywords.{attributes-plain, values-are}
 use Rattle.langtag_keyword.proofs.CanonicalValues.{transform-settled, unicode-settled}
 use Rattle.langtag_keyword.proofs.FormRecords.{Good}
 use Rattle.langtag_keyword.proofs.IdentifierParts.{AreSubtags, AreVariants, different_variants, fields_good, alphabet-apart}
-use Rattle.langtag_keyword.proofs.KeywordsInForm.{Plain, front-again, keywords-again, plain-before}
+use Rattle.langtag_keyword.proofs.KeywordsInForm.{front-again, keywords-again}
 use Rattle.langtag_keyword.proofs.TransformParts.{AreNoFields, after_region, after_script, are-fields, field_values, identifier-no_field, identifier-variants, variant-no_region, variant-no_script, region-no_script}
 use Rattle.langtag_keyword.proofs.KeywordLaws.{form_by, form_tested, forms-next}
 use Rattle.langtag_keyword.specs.Form as form
@@ -21,28 +20,19 @@ use Rattle.langtag_text.proofs.Alike.{same_fields}
 
 pub unicode-twice : (ss : List (List ℕ)) → Good ss → unicode_form (unicode_form ss) ≡ unicode_form ss
 unicode-twice ss good =
+    let values = values-are ss good in
     let front : List (List ℕ) = in_alphabet (before_key is_key ss) in
-    let plain : Plain is_key front = each-alphabet (λ s. is_key s ≡ false) (λ s other. key-fold s ∙ other) (before_key is_key ss) (plain-before is_key ss) in
-    ap (λ t. in_alphabet t ++ form.keywords_form is_key unicode_value (unicode_form ss)) (front-again is_key unicode_value ss (values-are ss good) front plain)
-    ∙ ap (λ t. t ++ form.keywords_form is_key unicode_value (unicode_form ss)) (in_alphabet-twice (before_key is_key ss))
-    ∙ ap (λ t. front ++ t) (keywords-again is_key unicode_value ss (values-are ss good) front plain unicode-settled)
+    let again = front-again is_key unicode_value ss values front (attributes-plain ss) in
+    grind (arith, common_steps, again, in_alphabet-twice, keywords-again is_key unicode_value ss values front (attributes-plain ss) unicode-settled)
 
 -- ---- the parts of a language identifier are read again
-
-region_again : (s : List ℕ) (vs : List (List ℕ)) → is_region_field s ≡ true → AreVariants vs → first_subtag (one_of is_region (one_flat (subtag_of s) ++ vs)) ≡ s
-region_again s vs is variants = grind (arith, common_steps, variant-no_region)
-
-script_again :
-    (s r : List ℕ) (vs : List (List ℕ)) → is_script_field s ≡ true → is_region_field r ≡ true → AreVariants vs →
-    first_subtag (one_of is_script (one_flat (subtag_of s) ++ (one_flat (subtag_of r) ++ vs))) ≡ s
-script_again s r vs is region variants = grind (arith, common_steps, region-no_script, variant-no_script)
 
 -- the subtags after the language
 abbrev pub after_language : Fields → List (List ℕ) → List (List ℕ)
 after_language f vs = one_flat (subtag_of f.script) ++ (one_flat (subtag_of f.region) ++ vs)
 
 pub fields-again : (f : Fields) (vs : List (List ℕ)) → AreSubtags f → AreVariants vs → identifier_fields f.language (after_language f vs) ≡ f
-fields-again f vs subtags variants = grind (arith, common_steps, same_fields, script_again, after_script, region_again)
+fields-again f vs subtags variants = grind (arith, common_steps, same_fields, after_script, region-no_script, variant-no_script, variant-no_region)
 
 pub variants-again : (f : Fields) (vs : List (List ℕ)) → AreSubtags f → AreVariants vs → identifier_variants (after_language f vs) ≡ vs
 variants-again f vs subtags variants = grind (arith, common_steps, after_script, after_region)
@@ -61,19 +51,11 @@ pub language-parts : (s : List ℕ) (ss : List (List ℕ)) → language_form (s 
 unfolding is_script is_region
 language-parts s ss = grind (arith, common_steps, lower_subtag)
 
-script_field-fold : (s : List ℕ) → is_script_field (fold_text s) ≡ is_script_field s
-script_field-fold [] = refl
-script_field-fold (b ∷ s) = ap (λ (c : Classes). c.script) (classes-fold (b ∷ s))
-
-region_field-fold : (s : List ℕ) → is_region_field (fold_text s) ≡ is_region_field s
-region_field-fold [] = refl
-region_field-fold (b ∷ s) = ap (λ (c : Classes). c.region) (classes-fold (b ∷ s))
-
 pub unicode_language-fold : (s : List ℕ) → is_unicode_language (fold_text s) ≡ is_unicode_language s
 unicode_language-fold s = ap (λ (c : Classes). c.primary && not (length (fold_text s) == 4)) (classes-fold s) ∙ ap (λ n. is_primary s && not (n == 4)) (length-fold s)
 
 lower-subtags : (f : Fields) → AreSubtags f → AreSubtags (lower_fields f)
-lower-subtags f subtags = grind (arith, common_steps, unicode_language-fold, script_field-fold, region_field-fold)
+lower-subtags f subtags = grind (arith, common_steps, unicode_language-fold, classes-fold f.script, classes-fold f.region)
 
 pub alphabet-variants : (vs : List (List ℕ)) → AreVariants vs → AreVariants (in_alphabet vs)
 alphabet-variants vs variants = each-alphabet (λ v. is_variant v ≡ true) (λ v is. ap (λ (c : Classes). c.variant) (classes-fold v) ∙ is) vs variants
@@ -97,19 +79,13 @@ language-is_form (s ∷ ss) is =
     let subtags : AreSubtags f = lower-subtags (identifier_fields s ss) (fields_good s ss parts.0) in
     let variants = alphabet-variants vs (different_variants vs parts.1) in
     let same = language-parts s ss in
+    let read = language-parts f.language (after_language f new) in
     record {
       none = subst AreNoFields (sym same) (identifier-no_field f new subtags variants);
       allowed =
-          ap is_language_or_none same ∙ ap (λ b. b && are_different_variants (identifier_variants (after_language f new))) subtags.language
-          ∙ identifier-variants f new subtags variants (alphabet-apart vs);
+          grind (arith, common_steps, same, subtags.language, identifier-variants f new subtags variants (alphabet-apart vs));
       twice =
-          ap language_form same
-          ∙ language-parts f.language (after_language f new)
-          ∙ ap (λ g. identifier_flat (lower_fields g) (in_alphabet (identifier_variants (after_language f new)))) (fields-again f new subtags variants)
-          ∙ ap (λ ws. identifier_flat (lower_fields f) (in_alphabet ws)) (variants-again f new subtags variants)
-          ∙ ap (λ g. identifier_flat g (in_alphabet new)) (lower-twice (identifier_fields s ss))
-          ∙ ap (identifier_flat f) (in_alphabet-twice vs)
-          ∙ sym same;
+          grind (arith, common_steps, same, read, fields-again f new subtags variants, variants-again f new subtags variants, lower-twice (identifier_fields s ss), in_alphabet-twice vs);
     }
 
 -- ---- the extension `t`
@@ -120,29 +96,17 @@ module _ (language : List (List ℕ) → List (List ℕ)) where
   form_with ss = language (before_key is_field_key ss) ++ form.keywords_form is_field_key transform_value ss
 
   module _ (ss : List (List ℕ)) (good : Good ss) (is : is_transform ss ≡ true) (form_is : IsLanguageForm language (before_key is_field_key ss)) where
-    abbrev start : List (List ℕ)
-    start = before_key is_field_key ss
-
     fields_are : are_fields false false ss ≡ true
-    fields_are = (both (is_language_or_none start) (are_fields false false ss) is).1
+    fields_are = (both (is_language_or_none (before_key is_field_key ss)) (are_fields false false ss) is).1
 
-    start-again : before_key is_field_key (form_with ss) ≡ language start
-    start-again = front-again is_field_key transform_value ss (field_values ss good fields_are) (language start) form_is.none
+    start-again : before_key is_field_key (form_with ss) ≡ language (before_key is_field_key ss)
+    start-again = front-again is_field_key transform_value ss (field_values ss good fields_are) (language (before_key is_field_key ss)) form_is.none
 
     pub with-twice : form_with (form_with ss) ≡ form_with ss
-    with-twice = grind (arith, common_steps, start-again, form_is.twice, keywords-again is_field_key transform_value ss (field_values ss good fields_are) (language start) form_is.none transform-settled)
+    with-twice = grind (arith, common_steps, start-again, form_is.twice, keywords-again is_field_key transform_value ss (field_values ss good fields_are) (language (before_key is_field_key ss)) form_is.none transform-settled)
 
     pub with-allowed : is_transform (form_with ss) ≡ true
-    with-allowed = grind (arith, common_steps, start-again, form_is.allowed, are-fields ss good fields_are (language start) form_is.none)
-
-pub transform-is_form : (ss : List (List ℕ)) → is_transform ss ≡ true → IsLanguageForm language_form (before_key is_field_key ss)
-transform-is_form ss is = language-is_form (before_key is_field_key ss) (both (is_language_or_none (before_key is_field_key ss)) (are_fields false false ss) is).0
-
-pub transform-twice : (ss : List (List ℕ)) → Good ss → is_transform ss ≡ true → transform_form (transform_form ss) ≡ transform_form ss
-transform-twice ss good is = with-twice language_form ss good is (transform-is_form ss is)
-
-pub transform_form-is : (ss : List (List ℕ)) → Good ss → is_transform ss ≡ true → is_transform (transform_form ss) ≡ true
-transform_form-is ss good is = with-allowed language_form ss good is (transform-is_form ss is)
+    with-allowed = grind (arith, common_steps, start-again, form_is.allowed, are-fields ss good fields_are (language (before_key is_field_key ss)) form_is.none)
 
 -- ---- the form of a tag's extensions
 
@@ -160,8 +124,9 @@ extension-again u t e fits = subst (λ x. extension_form u t x ≡ x) (sym (form
     by_tests false true one two =
         let (this, allowed) = both (is_of 116 e && not t) (is_transform e.subtags) two in
         let first = (both (is_of 116 e) (not t) this).1 in
-        form_tested u t false true (form_by false true e) refl (ap (λ b. b && is_transform (transform_form e.subtags)) first ∙ transform_form-is e.subtags fits.subtags allowed)
-        ∙ ap (λ ss. record { singleton = 116; subtags = ss }) (transform-twice e.subtags fits.subtags allowed)
+        let form = language-is_form (before_key is_field_key e.subtags) (both (is_language_or_none (before_key is_field_key e.subtags)) (are_fields false false e.subtags) allowed).0 in
+        form_tested u t false true (form_by false true e) refl (ap (λ b. b && is_transform (transform_form e.subtags)) first ∙ with-allowed language_form e.subtags fits.subtags allowed form)
+        ∙ ap (λ ss. record { singleton = 116; subtags = ss }) (with-twice language_form e.subtags fits.subtags allowed form)
     by_tests false false one two = form_tested u t false false e one two
 
 forms-again : (u t : Bool) (es : List Extension) → AllByRecursion IsWellFormedExtension es → forms_after u t (forms_after u t es) ≡ forms_after u t es

@@ -1,5 +1,5 @@
 -- The parts of a language identifier are subtags of their classes.
-use Rattle.langtag_keyword.proofs.Common.{common_steps, arith, ◌≡◌, ℕ, Bool, true, false, List, [], ◌∷◌, ◌++◌, None, refl, ap, ◌&&◌, ◌==◌, not, length, list_any-append, AllByRecursion, list_any, is_none, are_alike, fold_text, in_alphabet, is_unicode_language, are_different_variants, one_of, is_primary, is_variant, both, nat_tests, slice_get}
+use Rattle.langtag_keyword.proofs.Common.{common_steps, arith, ◌≡◌, ℕ, Bool, true, false, List, [], ◌∷◌, ◌++◌, None, refl, ap, ◌==◌, not, length, list_any-append, AllByRecursion, list_any, is_none, are_alike, fold_text, in_alphabet, is_unicode_language, are_different_variants, one_of, is_primary, both, nat_tests, slice_get}
 use Rattle.std.specs.Option.{option_and_then}
 use Rattle.langtag_place.specs.Repeat.{repeat, repeat_index_after}
 use Rattle.langtag_keyword.proofs.AlphabetLaws.{Rise, rise-in_alphabet, lower-in_alphabet, after-apart, under-each}
@@ -35,7 +35,7 @@ module _ {A : Type 0} (alike : A → A → Bool) where
 
 rise-apart : (ss : List (List ℕ)) → AllByRecursion (λ s. fold_text s ≡ s) ss → Rise ss → Apart are_alike ss
 rise-apart [] lowers rise = tt
-rise-apart (s ∷ ss) lowers rise = (after-apart s ss lowers.0 lowers.1 (under-each s ss rise.0 rise.1), rise-apart ss lowers.1 rise.1)
+rise-apart (s ∷ ss) lowers rise = (after-apart s ss (under-each s ss lowers.0 lowers.1 rise.0 rise.1), rise-apart ss lowers.1 rise.1)
 
 pub alphabet-apart : (ss : List (List ℕ)) → Apart are_alike (in_alphabet ss)
 alphabet-apart ss = rise-apart (in_alphabet ss) (lower-in_alphabet ss) (rise-in_alphabet ss)
@@ -57,6 +57,4 @@ fields_good s ss is = grind (arith, nat_tests, first_good, from_script, from_reg
 
 pub different_variants : (vs : List (List ℕ)) → are_different_variants vs ≡ true → AreVariants vs
 different_variants [] are = tt
-different_variants (v ∷ vs) are =
-    let parts = both (is_variant v && not (list_any (are_alike v) vs)) (are_different_variants vs) are in
-    ((both (is_variant v) (not (list_any (are_alike v) vs)) parts.0).0, different_variants vs parts.1)
+different_variants (v ∷ vs) are = grind (arith, nat_tests, different_variants vs)

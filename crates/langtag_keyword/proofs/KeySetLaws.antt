@@ -1,6 +1,7 @@
 -- The keys that a walk has met, and the keywords that are left to it.
-use Rattle.langtag_keyword.proofs.Common.{common_steps, ◌≡◌, ℕ, ◌*◌, ◌^◌, ◌<◌, Bool, true, false, ◌==◌, ◌&&◌, ◌||◌, not, List, [], ◌∷◌, ◌++◌, length, drop, eqb-true, refl, ap, sym, subst, ◌∙◌, arith, AllByRecursion, filter, list_any, and_parts, eqb_tells, nat_tests, list_any-append, are_alike, are_alphanumeric, is_alphanumeric, is_extension_subtag, subtags, IsExtension, IsSubtag, of_extension_subtag, opens_keyword, is_new_key, keywords_after, HasKeys, IsTrue}
-use Rattle.std.proofs.Common.{◌≢◌, ◌%◌, eqb, bit_or, replicate, set, slice_index_or, w64}
+use Rattle.langtag_scan.proofs.SubtagLists.{test_from_each}
+use Rattle.langtag_keyword.proofs.Common.{common_steps, ◌≡◌, ℕ, ◌*◌, ◌^◌, ◌<◌, Bool, true, false, ◌==◌, ◌&&◌, ◌||◌, not, List, [], ◌∷◌, ◌++◌, length, drop, eqb-true, refl, ap, sym, subst, ◌∙◌, arith, AllByRecursion, filter, list_any, and_parts, eqb_tells, nat_tests, list_any-append, are_alike, is_alphanumeric, is_extension_subtag, subtags, IsExtension, IsSubtag, of_extension_subtag, opens_keyword, is_new_key, keywords_after, HasKeys, IsTrue, each_subtag, each_from_test}
+use Rattle.std.proofs.Common.{◌%◌, eqb, bit_or, replicate, set, slice_index_or, w64}
 use Rattle.std.specs.Int.{bit_at}
 use Rattle.std.proofs.lemmas.List.{get_or-replicate, get_or-set_other, get_or-set_same, length-set}
 use Rattle.std.proofs.lemmas.Nat.Bits.{bit_at-zero, bit_at_set_other, bit_at_set_same}
@@ -33,23 +34,11 @@ with-bit rows row place = set rows row (bit_or (slice_index_or rows row 0) (1 * 
 abbrev has-bit : List ℕ → ℕ → ℕ → Bool
 has-bit rows row place = bit_at (slice_index_or rows row 0) place == 1
 
-bit-again : (rows : List ℕ) (row place : ℕ) → row < length rows → place < 64 → has-bit (with-bit rows row place) row place ≡ true
-bit-again rows row place within fits =
-    ap (λ n. bit_at n place == 1) (get_or-set_same rows row (bit_or (slice_index_or rows row 0) (1 * 2 ^ place % 2 ^ 64)) 0 within)
-    ∙ ap (λ n. n == 1) (bit_at_set_same w64 (slice_index_or rows row 0) place fits)
-
-bit-beside : (rows : List ℕ) (row place other : ℕ) → row < length rows → place < 64 → other ≢ place → has-bit (with-bit rows row place) row other ≡ has-bit rows row other
-bit-beside rows row place other within fits apart =
-    ap (λ n. bit_at n other == 1) (get_or-set_same rows row (bit_or (slice_index_or rows row 0) (1 * 2 ^ place % 2 ^ 64)) 0 within)
-    ∙ ap (λ n. n == 1) (bit_at_set_other w64 (slice_index_or rows row 0) place fits other apart)
-
-row-beside : (rows : List ℕ) (row place other n : ℕ) → other ≢ row → has-bit (with-bit rows row place) other n ≡ has-bit rows other n
-row-beside rows row place other n apart = ap (λ m. bit_at m n == 1) (get_or-set_other rows row other (bit_or (slice_index_or rows row 0) (1 * 2 ^ place % 2 ^ 64)) 0 apart)
-
 bit-more :
     (rows : List ℕ) (row place r p : ℕ) → row < length rows → place < 64 →
     has-bit (with-bit rows row place) r p ≡ (has-bit rows r p || ((r == row) && (p == place)))
-bit-more rows row place r p within fits = grind (arith, nat_tests, eqb_tells r row, eqb_tells p place, bit-again rows row place within fits, bit-beside rows row place p within fits, row-beside rows row place r p)
+bit-more rows row place r p within fits =
+    grind (arith, nat_tests, eqb_tells r row, eqb_tells p place, get_or-set_same rows row, get_or-set_other rows row r, bit_at_set_same w64, bit_at_set_other w64)
 
 key-more :
     (rows : List ℕ) (a b c d : ℕ) → length rows ≡ 36 → is_alphanumeric a ≡ true → is_alphanumeric b ≡ true → is_alphanumeric c ≡ true → is_alphanumeric d ≡ true →
@@ -60,18 +49,11 @@ pub met-more : (rows : List ℕ) (before : List (List ℕ)) (s : List ℕ) → I
 met-more rows before s fits met = grind (arith, common_steps, and_parts, key-more, list_any-append, length-set, bit_or)
 
 -- a new set has no key
+none-zero : (rows : List ℕ) → ((row : ℕ) → row < 36 → slice_index_or rows row 0 ≡ 0) → (key : List ℕ) → IsSubtag key → length key ≡ 2 → has_key rows key ≡ false
+none-zero rows zeros key fits two = grind (arith, common_steps, and_parts, zeros, place-within, bit_at-zero)
+
 pub met-none : (rows : List ℕ) → rows ≡ replicate 36 0 → HasKeys rows []
-met-none rows is = record { rows = ap length is; same = λ key fits two. none key fits two }
-  where
-    none : (key : List ℕ) → IsSubtag key → length key ≡ 2 → has_key rows key ≡ false
-    none (a ∷ b ∷ []) fits two =
-        let k = and_parts (is_alphanumeric a) (are_alphanumeric (b ∷ [])) fits.alphanumeric in
-        ap (λ rs. bit_at (slice_index_or rs (place_of a) 0) (place_of b) == 1) is
-        ∙ ap (λ n. bit_at n (place_of b) == 1) (get_or-replicate 36 (place_of a) 0 0 (place-within a k.0))
-        ∙ ap (λ n. n == 1) (bit_at-zero (place_of b))
-    none [] fits two = absurd (omega (arith, two))
-    none (a ∷ []) fits two = absurd (omega (arith, two))
-    none (a ∷ b ∷ c ∷ key) fits two = absurd (omega (arith, two))
+met-none rows is = record { rows = ap length is; same = none-zero rows (λ row within. ap (λ rs. slice_index_or rs row 0) is ∙ get_or-replicate 36 row 0 0 within) }
 
 -- ---- the keywords that are left
 
@@ -90,15 +72,11 @@ module _ (opens : List ℕ → Bool) (two : OpensKeys opens) where
 
 key-two : (keys : Keys) → OpensKeys (opens_keyword keys)
 key-two Unicode s is = eqb-true (length s) 2 is
-key-two Transform [] is = absurd cc
-key-two Transform (a ∷ []) is = absurd cc
-key-two Transform (a ∷ b ∷ []) is = refl
-key-two Transform (a ∷ b ∷ c ∷ s) is = absurd cc
+key-two Transform s is = grind (arith, common_steps)
 
 -- the members of an extension are subtags
 pub each-fits : (ss : List (List ℕ)) → IsTrue (are_extension_subtags ss) → AllByRecursion IsSubtag ss
-each-fits [] h = tt
-each-fits (s ∷ ss) h = let k = and_parts (is_extension_subtag s) (are_extension_subtags ss) h in (of_extension_subtag s k.0, each-fits ss k.1)
+each-fits ss h = each_subtag is_extension_subtag of_extension_subtag ss (each_from_test is_extension_subtag ss h)
 
 -- a set without keys leaves all keywords
 pub unmet-all :
@@ -114,11 +92,8 @@ is_new-met keys = new-met (opens_keyword keys) (key-two keys)
 
 -- the subtags of an extension without its singleton are in their class
 pub after-singleton-fits : (text : List ℕ) → IsExtension text → IsTrue (are_extension_subtags (subtags (drop 2 text)))
-after-singleton-fits text (e, spells) = subst (λ ss. IsTrue (are_extension_subtags ss)) (sym (subtags-after_singleton e text spells)) (all e.subtags spells.member.subtags)
-  where
-    all : (ss : List (List ℕ)) → AllByRecursion (λ s. IsTrue (is_extension_subtag s)) ss → IsTrue (are_extension_subtags ss)
-    all [] h = refl
-    all (s ∷ ss) h = rw (h.0, all ss h.1) refl
+after-singleton-fits text (e, spells) =
+    subst (λ ss. IsTrue (are_extension_subtags ss)) (sym (subtags-after_singleton e text spells)) (test_from_each is_extension_subtag e.subtags spells.member.subtags)
 
 -- ---- the keys of an extension
 

@@ -1,6 +1,6 @@
 -- The places of the keys that begin with one character.
 use Rattle.std.proofs.lemmas.Grind.{common_steps}
-use Rattle.langtag_keyword.proofs.Common.{◌≡◌, ℕ, ◌<◌, ◌≤◌, Bool, true, ◌==◌, ◌&&◌, List, [], ◌∷◌, length, get_or, Option, None, option_map, sym, subst, arith, and_parts, IsSubtag, are_alike, is_alphanumeric, fold_byte, join, value_of}
+use Rattle.langtag_keyword.proofs.Common.{◌≡◌, ℕ, ◌<◌, ◌≤◌, Bool, true, ◌==◌, ◌&&◌, List, [], ◌∷◌, length, get_or, Option, None, option_map, arith, and_parts, IsSubtag, are_alike, is_alphanumeric, fold_byte, join, value_of}
 use Rattle.std.proofs.Common.{Bor}
 use Rattle.langtag_keyword.specs.KeySets.{place_of}
 use Rattle.langtag_keyword.proofs.KeySetLaws.{place-tells}
@@ -16,9 +16,6 @@ module _ (opens : List ℕ → Bool) (ss : List (List ℕ)) where
   abbrev pub AreValues : ℕ → List (Option (Bor (List ℕ))) → Type 0
   AreValues first values =
       (second : ℕ) → is_alphanumeric second ≡ true → option_map (λ v. v.now) (get_or values (place_of second) None) ≡ option_map join (value_of opens (first ∷ second ∷ []) ss)
-
-  pub same-values : (first begin : ℕ) (values found : List (Option (Bor (List ℕ)))) → first ≡ begin → values ≡ found → AreValues begin found → AreValues first values
-  same-values first begin values found begins are all = subst (λ f. AreValues f values) (sym begins) (subst (AreValues begin) (sym are) all)
 
   pub value-at :
       (values : List (Option (Bor (List ℕ)))) (key : List ℕ) (first place : ℕ) → IsSubtag key → length key ≡ 2 → first ≡ get_or key 0 0 → place ≡ place_of (get_or key 1 0) → AreValues first values →

@@ -1,9 +1,10 @@
 -- Keywords that are written key after key, in the order of the keys, and what becomes of them when a keyword is set or
 -- removed.
-use Rattle.langtag_keyword.proofs.Common.{common_steps, ◌≡◌, ℕ, ◌≤◌, Bool, true, false, cond, ◌&&◌, not, List, [], ◌∷◌, ◌++◌, length, find, Option, None, Some, refl, sym, ap, ◌∙◌, arith, append-nil, append_assoc, and_parts, flat_map, AllByRecursion, is_some, option_map_or, nat_tests, find_extension, are_alike, fold_text, Extension, Record, extension_flat, changed_from, extension_of, is_this_key, keyword_error, put_keyword, with_changed_u, with_keyword, without_keyword, without_within, is_place, is_of, is_before, is_key}
+use Rattle.langtag_keyword.proofs.AlphabetLaws.{KeySplit}
+use Rattle.langtag_keyword.proofs.Common.{common_steps, ◌≡◌, ℕ, ◌≤◌, Bool, true, false, cond, ◌&&◌, not, List, [], ◌∷◌, ◌++◌, length, find, Option, None, Some, refl, sym, ap, ◌∙◌, arith, append-nil, append_assoc, and_parts, flat_map, AllByRecursion, is_some, option_map_or, nat_tests, find_extension, are_alike, fold_text, Extension, Record, extension_flat, changed_from, extension_of, is_this_key, keyword_error, put_keyword, with_changed_u, with_keyword, without_keyword, without_within, is_place, is_of, is_before, is_key, found_some, option_map}
 use Rattle.langtag_scan.specs.Case.{fold_byte}
 use Rattle.langtag_keyword.specs.Edit.{edited_record, is_place_of_u}
-use Rattle.langtag_keyword.proofs.KeywordLaws.{put-here, put-later, without-gone, AreNoKeys, ArePassed, fits_from, passed, standing-this, without-kept}
+use Rattle.langtag_keyword.proofs.KeywordLaws.{AreNoKeys, ArePassed, fits_from, passed, standing-this, alike-itself}
 
 -- ---- what is removed twice
 
@@ -11,7 +12,7 @@ module _ (key : List ℕ) where
   -- within a keyword of the key, a value goes
   pub without-value : (value rest : List (List ℕ)) → AreNoKeys value → without_within key true (value ++ rest) ≡ without_within key true rest
   without-value [] rest all = refl
-  without-value (s ∷ value) rest all = grind (arith, nat_tests, without-gone key s (value ++ rest) true true, without-value value rest all.1)
+  without-value (s ∷ value) rest all = grind (arith, nat_tests, without-value value rest all.1)
 
   without-twice : (i inside : Bool) (ss : List (List ℕ)) → (i && not inside) ≡ false → without_within key i (without_within key inside ss) ≡ without_within key inside ss
   without-twice i inside [] within = refl
@@ -20,21 +21,14 @@ module _ (key : List ℕ) where
 -- ---- what is set twice
 
 module _ (key k : List ℕ) (v w : List (List ℕ)) (this : is_this_key key k ≡ true) (all : AreNoKeys v) where
-  -- the key that was put is the key that is found
-  find-first : (rest : List (List ℕ)) → find (is_this_key key) (k ∷ rest) ≡ Some k
-  find-first rest = ap (λ b. cond b (Some k) (find (is_this_key key) rest)) this
-
-  again-first : (rest : List (List ℕ)) → put_keyword key true (k ∷ w) ((k ∷ v) ++ rest) ≡ (k ∷ w) ++ without_within key true rest
-  again-first rest = grind (arith, nat_tests, put-here, without-gone, and_parts, without-value)
-
   module _ (stands : Bool) where
     find-put : (ss : List (List ℕ)) → ArePassed (is_place key stands) (is_this_key key) ss → find (is_this_key key) (put_keyword key stands (k ∷ v) ss) ≡ Some k
-    find-put [] passed = find-first v
-    find-put (s ∷ ss) passed = grind (arith, nat_tests, find-put ss passed.1, find-first (v ++ without_keyword key (s ∷ ss)))
+    find-put [] passed = grind (arith, nat_tests)
+    find-put (s ∷ ss) passed = grind (arith, nat_tests, find-put ss passed.1)
 
     put-twice : (ss : List (List ℕ)) → ArePassed (is_place key stands) (is_this_key key) ss → put_keyword key true (k ∷ w) (put_keyword key stands (k ∷ v) ss) ≡ put_keyword key stands (k ∷ w) ss
-    put-twice [] passed = ap (put_keyword key true (k ∷ w)) (sym (append-nil (k ∷ v))) ∙ again-first [] ∙ append-nil (k ∷ w)
-    put-twice (s ∷ ss) passed = grind (arith, nat_tests, again-first, without-twice, put-later, put-twice ss passed.1)
+    put-twice [] passed = grind (arith, nat_tests, and_parts, append-nil, without-value key v [] all)
+    put-twice (s ∷ ss) passed = grind (arith, nat_tests, and_parts, without-value, without-twice, put-twice ss passed.1)
 
 with-twice : (key : List ℕ) (v w ss : List (List ℕ)) → is_key key ≡ true → AreNoKeys v → with_keyword key w (with_keyword key v ss) ≡ with_keyword key w ss
 with-twice key v w ss is all = grind (arith, nat_tests, standing-this key ss is, passed (is_place key) (is_this_key key), find-put key, put-twice key)
@@ -62,26 +56,15 @@ unfolding fold_byte
 find_u es = refl
 
 module _ (one two : List (List ℕ) → List (List ℕ)) (some : (ss : List (List ℕ)) → 1 ≤ length (one ss)) (twice : (ss : List (List ℕ)) → two (one ss) ≡ two ss) where
-  -- the `u` that was changed is changed again
-  again-here : (n : ℕ) (ss : List (List ℕ)) (es : List Extension) → is_of 117 (record { singleton = n; subtags = one ss }) ≡ true →
-      changed_from two true (extension_of n (one ss) ++ es) ≡ extension_of n (two ss) ++ es
-  again-here n ss es is = grind (arith, nat_tests, extension-some n (one ss) (some ss))
-
-  find-here :
-      (n : ℕ) (ss : List (List ℕ)) (es : List Extension) → is_of 117 (record { singleton = n; subtags = one ss }) ≡ true →
-      is_some (find (is_of 117) (extension_of n (one ss) ++ es)) ≡ true
-  find-here n ss es is = grind (arith, nat_tests, extension-some n (one ss) (some ss))
-
   find-changed : (stands : Bool) (es : List Extension) → ArePassed (is_place_of_u stands) (is_of 117) es → is_some (find (is_of 117) (changed_from one stands es)) ≡ true
-  find-changed stands [] others = ap (λ x. is_some (find (is_of 117) x)) (sym (append-nil (extension_of 117 (one [])))) ∙ find-here 117 [] [] (u_is_u (one []))
+  find-changed stands [] others = grind (arith, nat_tests, extension-some 117 (one []) (some []), u_is_u (one []))
   find-changed stands (e ∷ es) others =
-      grind (arith, nat_tests, find-changed stands es others.1, append_assoc (extension_of 117 (one [])) (e ∷ []) es, find-here 117, find-here e.singleton, u_is_u (one []))
+      grind (arith, nat_tests, find-changed stands es others.1, extension-some 117 (one []) (some []), extension-some e.singleton (one e.subtags) (some e.subtags), u_is_u (one []))
 
   changed-twice : (stands : Bool) (es : List Extension) → ArePassed (is_place_of_u stands) (is_of 117) es → changed_from two true (changed_from one stands es) ≡ changed_from two stands es
-  changed-twice stands [] others =
-      ap (changed_from two true) (sym (append-nil (extension_of 117 (one [])))) ∙ again-here 117 [] [] (u_is_u (one [])) ∙ append-nil (extension_of 117 (two []))
+  changed-twice stands [] others = grind (arith, nat_tests, append-nil, extension-some 117 (one []) (some []), u_is_u (one []))
   changed-twice stands (e ∷ es) others =
-      grind (arith, nat_tests, changed-twice stands es others.1, append_assoc (extension_of 117 (one [])) (e ∷ []) es, append_assoc (extension_of 117 (two [])) (e ∷ []) es, again-here 117, again-here e.singleton, u_is_u (one []))
+      grind (arith, nat_tests, changed-twice stands es others.1, append_assoc, extension-some 117 (one []) (some []), extension-some e.singleton (one e.subtags) (some e.subtags), u_is_u (one []))
 
   u-twice : (es : List Extension) → with_changed_u two (with_changed_u one es) ≡ with_changed_u two es
   u-twice es = grind (arith, nat_tests, find_u es, passed is_place_of_u (is_of 117) (λ e. refl) es (find (is_of 117) es) refl, find_u (with_changed_u one es), find-changed, changed-twice)
@@ -122,10 +105,6 @@ blocks value keys = flat_map (block value) keys
 abbrev pub AreValues : (List ℕ → Option (List (List ℕ))) → Type 0
 AreValues value = (key : List ℕ) (v : List (List ℕ)) → value key ≡ Some v → (is_key key ≡ true) × AreNoKeys v
 
--- the key that is found, if it has a value
-abbrev pub found_key : List ℕ → Option (List (List ℕ)) → Option (List ℕ)
-found_key key o = option_map_or (λ v. Some key) o None
-
 -- other keys and their values are passed
 module _ (value : List ℕ → Option (List (List ℕ))) (are : AreValues value) (key : List ℕ) where
   abbrev pub AreOthers : List (List ℕ) → Type 0
@@ -135,7 +114,7 @@ module _ (value : List ℕ → Option (List (List ℕ))) (are : AreValues value)
       (rest : List (List ℕ)) (inside : Bool) (keys : List (List ℕ)) → AreOthers keys → without_within key inside rest ≡ without_keyword key rest →
       without_within key inside (blocks value keys ++ rest) ≡ blocks value keys ++ without_keyword key rest
   without-others rest inside [] others same = same
-  without-others rest inside (j ∷ keys) others same = grind (arith, common_steps, without-others rest inside keys others.1 same, without-others rest false keys others.1 refl, without-kept, without-passed)
+  without-others rest inside (j ∷ keys) others same = grind (arith, common_steps, without-others rest inside keys others.1 same, without-others rest false keys others.1 refl, without-passed)
 
   pub without-all : (inside : Bool) (keys : List (List ℕ)) → AreOthers keys → without_within key inside (blocks value keys) ≡ blocks value keys
   without-all inside keys others = grind (arith, nat_tests, append-nil, without-others [] inside keys others)
@@ -144,7 +123,7 @@ module _ (value : List ℕ → Option (List (List ℕ))) (are : AreValues value)
       (stands : Bool) (keyword rest keys : List (List ℕ)) → AllByRecursion (λ j. is_place key stands j ≡ false) keys →
       put_keyword key stands keyword (blocks value keys ++ rest) ≡ blocks value keys ++ put_keyword key stands keyword rest
   put-others stands keyword rest [] places = refl
-  put-others stands keyword rest (j ∷ keys) places = grind (arith, common_steps, put-others stands keyword rest keys places.1, put-later, put-passed)
+  put-others stands keyword rest (j ∷ keys) places = grind (arith, common_steps, put-others stands keyword rest keys places.1, put-passed)
 
   pub find-others : (rest keys : List (List ℕ)) → AreOthers keys → find (is_this_key key) (blocks value keys ++ rest) ≡ find (is_this_key key) rest
   find-others rest [] others = refl
@@ -155,49 +134,36 @@ module _ (value : List ℕ → Option (List (List ℕ))) (are : AreValues value)
       (keyword keys : List (List ℕ)) → AllByRecursion (λ j. is_before (fold_text key) (fold_text j) ≡ true) keys → AreOthers keys →
       put_keyword key false keyword (blocks value keys) ≡ keyword ++ blocks value keys
   put-first keyword [] greater others = sym (append-nil keyword)
-  put-first keyword (j ∷ keys) greater others = by_value (value j) refl (put-first keyword keys greater.1 others.1) (without-all false (j ∷ keys) others)
-    where
-      by_value :
-          (o : Option (List (List ℕ))) → value j ≡ o → put_keyword key false keyword (blocks value keys) ≡ keyword ++ blocks value keys →
-          without_keyword key (option_map_or (λ v. j ∷ v) o [] ++ blocks value keys) ≡ option_map_or (λ v. j ∷ v) o [] ++ blocks value keys →
-          put_keyword key false keyword (option_map_or (λ v. j ∷ v) o [] ++ blocks value keys) ≡ keyword ++ (option_map_or (λ v. j ∷ v) o [] ++ blocks value keys)
-      by_value None is later whole = later
-      by_value (Some v) is later whole =
-          put-here key j (v ++ blocks value keys) false keyword (ap (λ t. t && is_before (fold_text key) (fold_text j)) (are j v is).0 ∙ greater.0) ∙ ap (λ t. keyword ++ t) whole
+  put-first keyword (j ∷ keys) greater others = grind (arith, common_steps, found_some (is_key j ≡ true) (value j) (λ v is. (are j v is).0), put-first keyword keys greater.1 others.1, without-all false (j ∷ keys) others)
 
   -- ---- all keys: those before the key, the key, and those after it
 
-  module _
-      (before after : List (List ℕ)) (early : AllByRecursion (λ j. is_before (fold_text key) (fold_text j) ≡ false) before) (late : AllByRecursion (λ j. is_before (fold_text key) (fold_text j) ≡ true) after)
-      (before_others : AreOthers before) (after_others : AreOthers after) (itself : are_alike key key ≡ true)
-    where
-      not_places : (stands : Bool) (keys : List (List ℕ)) → AllByRecursion (λ j. is_before (fold_text key) (fold_text j) ≡ false) keys → AreOthers keys → AllByRecursion (λ j. is_place key stands j ≡ false) keys
-      not_places stands [] less others = tt
-      not_places stands (j ∷ keys) less others = grind (arith, common_steps, not_places stands keys less.1 others.1)
+  not_places : (stands : Bool) (keys : List (List ℕ)) → AllByRecursion (λ j. is_before (fold_text key) (fold_text j) ≡ false) keys → AreOthers keys → AllByRecursion (λ j. is_place key stands j ≡ false) keys
+  not_places stands [] less others = tt
+  not_places stands (j ∷ keys) less others = grind (arith, common_steps, not_places stands keys less.1 others.1)
 
-      -- the key with its old value goes
-      old-gone : (old : List (List ℕ)) → value key ≡ Some old → without_keyword key (key ∷ (old ++ blocks value after)) ≡ blocks value after
-      old-gone old is = grind (arith, nat_tests, without-gone, without-value, without-all)
+  module _ {keys : List (List ℕ)} (s : KeySplit key keys) where
+    -- the key with its old value goes
+    old-gone : (old : List (List ℕ)) → value key ≡ Some old → without_keyword key (key ∷ (old ++ blocks value s.after)) ≡ blocks value s.after
+    old-gone old is = grind (arith, nat_tests, without-value, without-all, alike-itself key)
 
-      pub removed-among : without_keyword key (blocks value before ++ (block value key ++ blocks value after)) ≡ blocks value before ++ blocks value after
-      removed-among = grind (arith, common_steps, without-others (block value key ++ blocks value after) false before before_others refl, without-all false after after_others, old-gone)
+    pub removed-among : without_keyword key (blocks value s.before ++ (block value key ++ blocks value s.after)) ≡ blocks value s.before ++ blocks value s.after
+    removed-among = grind (arith, common_steps, without-others (block value key ++ blocks value s.after) false s.before s.before_others refl, without-all false s.after s.after_others, old-gone)
 
-      pub find-among : find (is_this_key key) (blocks value before ++ (block value key ++ blocks value after)) ≡ found_key key (value key)
-      find-among = find-others (block value key ++ blocks value after) before before_others ∙ by_value (value key) refl
-        where
-          by_value : (o : Option (List (List ℕ))) → value key ≡ o → find (is_this_key key) (option_map_or (λ v. key ∷ v) o [] ++ blocks value after) ≡ found_key key o
-          by_value None is = ap (find (is_this_key key)) (sym (append-nil (blocks value after))) ∙ find-others [] after after_others
-          by_value (Some old) is = ap (λ t. cond (t && are_alike key key) (Some key) (find (is_this_key key) (old ++ blocks value after))) (are key old is).0 ∙ ap (λ t. cond t (Some key) (find (is_this_key key) (old ++ blocks value after))) itself
+    pub find-among : find (is_this_key key) (blocks value s.before ++ (block value key ++ blocks value s.after)) ≡ option_map (λ v. key) (value key)
+    find-among = grind (arith, common_steps, find-others (block value key ++ blocks value s.after) s.before s.before_others, find-others [] s.after s.after_others, append-nil, found_some (is_key key ≡ true) (value key) (λ v is. (are key v is).0), alike-itself key)
 
-      pub put-among :
-          (new : List (List ℕ)) (stands : Bool) (o : Option (List (List ℕ))) → value key ≡ o → stands ≡ option_map_or (λ v. true) o false →
-          put_keyword key stands (key ∷ new) (blocks value before ++ (option_map_or (λ v. key ∷ v) o [] ++ blocks value after)) ≡ blocks value before ++ ((key ∷ new) ++ blocks value after)
-      put-among new stands None is same =
-          put-others stands (key ∷ new) (blocks value after) before (not_places stands before early before_others)
-          ∙ ap (λ t. blocks value before ++ t) (ap (λ t. put_keyword key t (key ∷ new) (blocks value after)) same ∙ put-first (key ∷ new) after late after_others)
-      put-among new stands (Some old) is same =
-          put-others stands (key ∷ new) (key ∷ (old ++ blocks value after)) before (not_places stands before early before_others)
-          ∙ ap (λ t. blocks value before ++ t)
-          (ap (λ t. put_keyword key t (key ∷ new) (key ∷ (old ++ blocks value after))) same
-          ∙ put-here key key (old ++ blocks value after) true (key ∷ new) (ap (λ t. t && are_alike key key) (are key old is).0 ∙ itself)
-          ∙ ap (λ t. (key ∷ new) ++ t) (old-gone old is))
+    pub put-among :
+        (new : List (List ℕ)) (stands : Bool) → stands ≡ option_map_or (λ v. true) (value key) false →
+        put_keyword key stands (key ∷ new) (blocks value s.before ++ (block value key ++ blocks value s.after)) ≡ blocks value s.before ++ ((key ∷ new) ++ blocks value s.after)
+    put-among new stands same =
+        put-others stands (key ∷ new) (block value key ++ blocks value s.after) s.before (not_places stands s.before s.early s.before_others)
+        ∙ ap (λ t. blocks value s.before ++ t) (by_value stands (value key) refl same)
+      where
+        by_value :
+            (b : Bool) (o : Option (List (List ℕ))) → value key ≡ o → b ≡ option_map_or (λ v. true) o false →
+            put_keyword key b (key ∷ new) (option_map_or (λ v. key ∷ v) o [] ++ blocks value s.after) ≡ (key ∷ new) ++ blocks value s.after
+        by_value true (Some old) is same = grind (arith, nat_tests, are key old is, alike-itself key, old-gone old is)
+        by_value false None is same = put-first (key ∷ new) s.after s.late s.after_others
+        by_value true None is same = absurd cc
+        by_value false (Some old) is same = absurd cc

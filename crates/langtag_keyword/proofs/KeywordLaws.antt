@@ -1,10 +1,11 @@
 -- What is set is read, what is removed is not, and other keys keep their values.
-use Rattle.langtag_keyword.proofs.Common.{common_steps, flat_map-append, ◌≡◌, ℕ, ◌+◌, Bool, true, false, cond, ◌&&◌, List, [], ◌∷◌, ◌++◌, length, find, Option, None, Some, unwrap_or, refl, ap, ◌∙◌, arith, eqb-true, not, fold, take, sym, append_assoc, option_map, and_parts, false≢true, AllByRecursion, flat_map, is_some, nat_tests, are_alike, are_alike-decides, is_extension_subtag, is_place, is_this_key, is_type, is_unicode_key, keyword_error, put_keyword, with_keyword, without_keyword, without_within, at_place, changed_from, edited, with_changed_u, before_key, is_key, value_of, length-slice_split, with_joined, of_primary, to_variants, Extension, IsWellFormed, Record, extension_flat, one_flat, private_part_flat, spell, is_hyphen, join, segments, extension_form, forms_after, is_language_or_none, is_of, is_transform, transform_form, unicode_form}
-use Rattle.langtag_scan.proofs.Prelude.{leb, leb-true, Bor}
-use Rattle.langtag_keyword.specs.Edit.{invalid_type, invalid_type_from, belongs, edited_record, is_place_of_u}
+use Rattle.std.proofs.Common.{MutBor}
+use Rattle.langtag_keyword.proofs.Common.{common_steps, flat_map-append, ◌≡◌, ℕ, ◌+◌, Bool, true, false, cond, ◌&&◌, List, [], ◌∷◌, ◌++◌, length, find, Option, None, Some, unwrap_or, refl, ap, ◌∙◌, arith, eqb-true, not, fold, take, sym, append_assoc, and_parts, false≢true, AllByRecursion, flat_map, is_some, nat_tests, are_alike, are_alike-decides, is_extension_subtag, is_place, is_this_key, is_type, is_unicode_key, keyword_error, put_keyword, with_keyword, without_keyword, without_within, at_place, changed_from, before_key, is_key, value_of, length-slice_split, with_joined, of_primary, to_variants, Extension, IsWellFormed, Record, extension_flat, one_flat, private_part_flat, spell, is_hyphen, join, segments, extension_form, is_language_or_none, is_of, is_transform, transform_form, unicode_form, append-nil, Output, Pushes, HasText, pushes_both, subst}
+use Rattle.langtag_scan.proofs.Prelude.{leb, leb-true}
+use Rattle.langtag_keyword.specs.Edit.{invalid_type, invalid_type_from, is_place_of_u}
 use Rattle.langtag_text.specs.Output.{with_subtag}
 use Rattle.langtag_scan.proofs.Laws.{take-join}
-use Rattle.langtag_keyword.specs.Form.{extensions_record, is_language_id}
+use Rattle.langtag_keyword.specs.Form.{is_language_id}
 
 -- no subtag is a key
 abbrev pub AreNoKeys : List (List ℕ) → Type 0
@@ -12,14 +13,19 @@ AreNoKeys value = AllByRecursion (λ s. is_key s ≡ false) value
 
 -- ---- what stands before the first key
 
--- a value ends where the next key begins
-before-end : (value rest : List (List ℕ)) → AreNoKeys value → before_key is_key rest ≡ [] → before_key is_key (value ++ rest) ≡ value
-before-end [] rest all end = end
-before-end (s ∷ value) rest all end = grind (arith, nat_tests, before-end value rest all.1 end)
+-- `opens` says which subtags are keys
+module _ (opens : List ℕ → Bool) where
+  -- no subtag is a key
+  abbrev pub Plain : List (List ℕ) → Type 0
+  Plain ss = AllByRecursion (λ s. opens s ≡ false) ss
 
-before-whole : (value : List (List ℕ)) → AreNoKeys value → before_key is_key value ≡ value
-before-whole [] all = refl
-before-whole (s ∷ value) all = grind (arith, nat_tests, before-whole value all.1)
+  pub before-plain : (xs ys : List (List ℕ)) → Plain xs → before_key opens (xs ++ ys) ≡ xs ++ before_key opens ys
+  before-plain [] ys plain = refl
+  before-plain (x ∷ xs) ys plain = grind (arith, common_steps, before-plain xs ys plain.1)
+
+  pub value-plain : (key : List ℕ) (xs ys : List (List ℕ)) → Plain xs → value_of opens key (xs ++ ys) ≡ value_of opens key ys
+  value-plain key [] ys plain = refl
+  value-plain key (x ∷ xs) ys plain = grind (arith, common_steps, value-plain key xs ys plain.1)
 
 module _ (key : List ℕ) where
   -- nothing stands before the first key where a value went
@@ -58,32 +64,19 @@ module _ {X : Type 0} (place : Bool → X → Bool) (test : X → Bool) (stands 
   passed xs (Some x) is = passed-standing xs
 
 module _ (key k : List ℕ) (value : List (List ℕ)) (this : is_this_key key k ≡ true) (all : AreNoKeys value) where
-  key-opens : is_key k ≡ true
-  key-opens = (and_parts (is_key k) (are_alike k key) this).0
-
   -- what stands before the first key stays
   pub before-put : (stands : Bool) (ss : List (List ℕ)) → before_key is_key (put_keyword key stands (k ∷ value) ss) ≡ before_key is_key ss
-  before-put stands [] = ap (λ b. cond b [] (k ∷ before_key is_key value)) key-opens
-  before-put stands (s ∷ ss) = grind (arith, common_steps, before-put stands ss, key-opens, and_parts)
-
-  value-first : (rest : List (List ℕ)) → value_of is_key key (k ∷ rest) ≡ Some (before_key is_key rest)
-  value-first rest = ap (λ b. cond b (Some (before_key is_key rest)) (value_of is_key key rest)) this
-
-  value-skipped : (s : List ℕ) (rest : List (List ℕ)) → is_this_key key s ≡ false → value_of is_key key (s ∷ rest) ≡ value_of is_key key rest
-  value-skipped s rest other = ap (λ b. cond b (Some (before_key is_key rest)) (value_of is_key key rest)) other
+  before-put stands [] = grind (arith, nat_tests)
+  before-put stands (s ∷ ss) = grind (arith, common_steps, before-put stands ss, and_parts)
 
   -- a key begins at a place
   value-here : (stands : Bool) (s : List ℕ) (ss : List (List ℕ)) → is_place key stands s ≡ true → value_of is_key key ((k ∷ value) ++ without_keyword key (s ∷ ss)) ≡ Some value
-  value-here stands s ss place = grind (arith, common_steps, and_parts, before-kept key (s ∷ ss), value-first (value ++ without_keyword key (s ∷ ss)), before-end value (without_keyword key (s ∷ ss)) all)
+  value-here stands s ss place = grind (arith, common_steps, and_parts, append-nil, before-kept key (s ∷ ss), before-plain is_key value (without_keyword key (s ∷ ss)) all)
 
   -- where each subtag that is passed is another key, or no key
   value-put : (stands : Bool) (ss : List (List ℕ)) → ArePassed (is_place key stands) (is_this_key key) ss → value_of is_key key (put_keyword key stands (k ∷ value) ss) ≡ Some value
-  value-put stands [] passed = value-first value ∙ ap Some (before-whole value all)
-  value-put stands (s ∷ ss) passed = grind (arith, nat_tests, value-here stands s ss, value-skipped s, value-put stands ss passed.1)
-
--- get after set
-pub value-with : (key : List ℕ) (value ss : List (List ℕ)) → is_key key ≡ true → AreNoKeys value → value_of is_key key (with_keyword key value ss) ≡ Some value
-value-with key value ss is all = grind (arith, nat_tests, value-put key, standing-this key ss is, passed (is_place key) (is_this_key key) (λ s. refl) ss)
+  value-put stands [] passed = grind (arith, nat_tests, append-nil, before-plain is_key value [] all)
+  value-put stands (s ∷ ss) passed = grind (arith, nat_tests, value-here stands s ss, value-put stands ss passed.1)
 
 -- get after remove
 pub value-without : (key : List ℕ) (inside : Bool) (ss : List (List ℕ)) → value_of is_key key (without_within key inside ss) ≡ None
@@ -96,30 +89,15 @@ apart : (s key other : List ℕ) → are_alike key other ≡ false → are_alike
 apart s key other differ same = grind (arith, nat_tests, are_alike-decides s key, are_alike-decides s other, are_alike-decides key other)
 
 module _ (key other : List ℕ) (differ : are_alike key other ≡ false) where
-  -- a subtag that is no key of this name is passed over
-  other-skipped : (s : List ℕ) (rest : List (List ℕ)) → (is_key s && are_alike s other) ≡ false → value_of is_key other (s ∷ rest) ≡ value_of is_key other rest
-  other-skipped s rest not_this = ap (λ b. cond b (Some (before_key is_key rest)) (value_of is_key other rest)) not_this
-
-  value-passed : (value rest : List (List ℕ)) → AreNoKeys value → value_of is_key other (value ++ rest) ≡ value_of is_key other rest
-  value-passed [] rest all = refl
-  value-passed (s ∷ value) rest all = grind (arith, nat_tests, value-passed value rest all.1)
-
-  value-none : (value : List (List ℕ)) → AreNoKeys value → value_of is_key other value ≡ None
-  value-none [] all = refl
-  value-none (s ∷ value) all = grind (arith, nat_tests, value-none value all.1)
-
-  both-apart : (s : List ℕ) → is_key s ≡ true → are_alike s key ≡ true → (is_key s && are_alike s other) ≡ false
-  both-apart s is same = ap (λ b. b && are_alike s other) is ∙ apart s key other differ same
-
   pub others-without : (inside : Bool) (ss : List (List ℕ)) → value_of is_key other (without_within key inside ss) ≡ value_of is_key other ss
   others-without inside [] = refl
-  others-without inside (s ∷ ss) = grind (arith, common_steps, others-without true ss, others-without false ss, other-skipped, both-apart, before-kept)
+  others-without inside (s ∷ ss) = grind (arith, common_steps, others-without true ss, others-without false ss, apart s key other differ, before-kept)
 
   module _ (k : List ℕ) (value : List (List ℕ)) (this : is_this_key key k ≡ true) (all : AreNoKeys value) (stands : Bool) where
     others-put : (ss : List (List ℕ)) → value_of is_key other (put_keyword key stands (k ∷ value) ss) ≡ value_of is_key other ss
-    others-put [] = other-skipped k value (both-apart k (key-opens key k value this all) (and_parts (is_key k) (are_alike k key) this).1) ∙ value-none value all
+    others-put [] = grind (arith, nat_tests, append-nil, apart k key other differ, and_parts (is_key k) (are_alike k key) this, value-plain is_key other value [] all)
     others-put (s ∷ ss) =
-        grind (arith, common_steps, others-put ss, both-apart k (key-opens key k value this all), and_parts (is_key k) (are_alike k key) this, value-passed value (without_keyword key (s ∷ ss)) all, others-without false (s ∷ ss), before-put key k value this all stands ss)
+        grind (arith, common_steps, others-put ss, apart k key other differ, and_parts (is_key k) (are_alike k key) this, value-plain is_key other value (without_keyword key (s ∷ ss)) all, others-without false (s ∷ ss), before-put key k value this all stands ss)
 
 -- ---- which values have no key
 
@@ -132,40 +110,29 @@ pub types-each :
 types-each P of_type at [] none = tt
 types-each P of_type at (s ∷ value) none = grind (arith, nat_tests, types-each P of_type (at + (length s + 1)) value)
 
-key-two : (key : List ℕ) → is_unicode_key key ≡ true → is_key key ≡ true
-key-two key is = grind (arith, common_steps, false≢true)
-
 -- ---- the laws of the setters
 
--- a keyword that may be set
-pub record Allowed (key : List ℕ) (value : List (List ℕ)) : Type 0 where
+-- a keyword that may be set: only its first subtag is a key
+pub record Fits (key : List ℕ) (value : List (List ℕ)) : Type 0 where
   pub key_fits : is_unicode_key key ≡ true
   pub types : invalid_type value ≡ None
-
-pub allowed_from : (key : List ℕ) (value : List (List ℕ)) → keyword_error key value ≡ None → Allowed key value
-allowed_from key value none = grind (arith, nat_tests)
-
--- only its first subtag is a key
-pub record Fits (key : List ℕ) (value : List (List ℕ)) : Type 0 where
   pub two : is_key key ≡ true
   pub no_keys : AreNoKeys value
 
 pub fits_from : (key : List ℕ) (value : List (List ℕ)) → keyword_error key value ≡ None → Fits key value
-fits_from key value none =
-    let allowed = allowed_from key value none in
-    record { two = key-two key allowed.key_fits; no_keys = types-each (λ s. is_key s ≡ false) type-no_key 0 value allowed.types }
+fits_from key value none = grind (arith, common_steps, false≢true, types-each (λ s. is_key s ≡ false) type-no_key 0 value)
 
 -- what is set is read
 pub read_after_set : (key : List ℕ) (value ss : List (List ℕ)) → keyword_error key value ≡ None → value_of is_key key (with_keyword key value ss) ≡ Some value
-read_after_set key value ss none = let fits = fits_from key value none in value-with key value ss fits.two fits.no_keys
+read_after_set key value ss none =
+    grind (arith, nat_tests, fits_from key value none, value-put key, standing-this key ss, passed (is_place key) (is_this_key key) (λ s. refl) ss)
 
 -- and other keys have the values that they had
 pub others_after_set :
     (key other : List ℕ) (value ss : List (List ℕ)) → keyword_error key value ≡ None → are_alike key other ≡ false → value_of is_key other (with_keyword key value ss) ≡ value_of is_key other ss
 others_after_set key other value ss none differ =
     let fits = fits_from key value none in
-    let standing = find (is_this_key key) ss in
-    others-put key other differ (unwrap_or standing key) value (standing-this key ss fits.two) fits.no_keys (is_some standing) ss
+    others-put key other differ _ value (standing-this key ss fits.two) fits.no_keys (is_some (find (is_this_key key) ss)) ss
 
 -- what is removed is not there
 pub none_after_removal : (key : List ℕ) (ss : List (List ℕ)) → value_of is_key key (without_keyword key ss) ≡ None
@@ -201,8 +168,7 @@ forms-next forms x y a b c d others one two three four = cc
 -- what precedes the extensions, at the start of a tag
 pub head-cut : (r : Record) → take (length (join (to_variants r))) (spell r) ≡ join (to_variants r)
 head-cut r =
-    let others = flat_map extension_flat r.extensions ++ private_part_flat r.private_use in
-    let cut = take-join r.primary (r.extended ++ (one_flat r.script ++ (one_flat r.region ++ r.variants))) others in
+    let cut = take-join r.primary (r.extended ++ (one_flat r.script ++ (one_flat r.region ++ r.variants))) (flat_map extension_flat r.extensions ++ private_part_flat r.private_use) in
     simp append_assoc at cut
 
 flat-head : (p : List ℕ) (a b c d e : List (List ℕ)) → (p ∷ (a ++ (b ++ (c ++ d)))) ++ e ≡ p ∷ (a ++ (b ++ (c ++ (d ++ e))))
@@ -216,43 +182,19 @@ extensions_joined r fits es =
     ap (fold with_subtag []) (flat-head r.primary r.extended (one_flat r.script) (one_flat r.region) r.variants (flat_map extension_flat es ++ private_part_flat r.private_use))
     ∙ sym (with_joined [] r.primary _ (of_primary r.primary fits.primary).some)
 
-pub form_joined :
-    (r : Record) → IsWellFormed r →
-    fold with_subtag [] (to_variants r ++ (flat_map extension_flat (forms_after false false r.extensions) ++ private_part_flat r.private_use)) ≡ spell (extensions_record r)
-unfolding extensions_record
-form_joined r fits = extensions_joined r fits (forms_after false false r.extensions)
+-- and put part by part
+pub parts_put :
+    (r : Record) → IsWellFormed r → (es : List Extension) (a b c d : Output) → Pushes (to_variants r) a b → Pushes (flat_map extension_flat es) b c →
+    Pushes (private_part_flat r.private_use) c d → (first : MutBor (List ℕ)) → HasText first a [] → HasText first d (spell (record r { extensions = es }))
+parts_put r fits es a b c d head these private_use first has =
+    subst (HasText first d) (extensions_joined r fits es)
+    (pushes_both (to_variants r) _ a b d head (pushes_both (flat_map extension_flat es) (private_part_flat r.private_use) b c d these private_use) first [] has)
 
--- ---- a step
-
-module _ (key s : List ℕ) (ss : List (List ℕ)) where
-  -- a subtag goes with its keyword
-  pub without-gone : (inside b : Bool) → b ≡ belongs key inside s → b ≡ true → without_within key inside (s ∷ ss) ≡ without_within key b ss
-  without-gone inside b is so = grind (arith, nat_tests)
-
-  -- or stays
-  pub without-kept : (inside b : Bool) → b ≡ belongs key inside s → b ≡ false → without_within key inside (s ∷ ss) ≡ s ∷ without_within key b ss
-  without-kept inside b is other = grind (arith, nat_tests)
-
-  -- the keyword goes here
-  pub put-here : (stands : Bool) (keyword : List (List ℕ)) → is_place key stands s ≡ true → put_keyword key stands keyword (s ∷ ss) ≡ keyword ++ without_keyword key (s ∷ ss)
-  put-here stands keyword is = ap (λ b. cond b (keyword ++ without_keyword key (s ∷ ss)) (s ∷ put_keyword key stands keyword ss)) is
-
-  -- or later
-  pub put-later : (stands : Bool) (keyword : List (List ℕ)) → is_place key stands s ≡ false → put_keyword key stands keyword (s ∷ ss) ≡ s ∷ put_keyword key stands keyword ss
-  put-later stands keyword other = ap (λ b. cond b (keyword ++ without_keyword key (s ∷ ss)) (s ∷ put_keyword key stands keyword ss)) other
+-- ---- the key as it stands
 
 -- the keyword that is put, by the key that stands there, and where
 abbrev pub put_at_standing : List ℕ → Option (List ℕ) → List (List ℕ) → List (List ℕ) → List (List ℕ)
 put_at_standing key standing value ss = put_keyword key (is_some standing) (unwrap_or standing key ∷ value) ss
-
--- ---- the key as it stands
-
--- as a slice and as its bytes
-pub standing-some : (o : Option (Bor (List ℕ))) → is_some (option_map (λ t. t.now) o) ≡ is_some o
-standing-some o = grind (arith, nat_tests)
-
-pub standing-text : (o : Option (Bor (List ℕ))) (key : Bor (List ℕ)) → (unwrap_or o key).now ≡ unwrap_or (option_map (λ t. t.now) o) key.now
-standing-text o key = grind (arith, nat_tests)
 
 -- ---- the place of `u`
 
@@ -266,11 +208,3 @@ module _ (change : List (List ℕ) → List (List ℕ)) (stands : Bool) (e : Ext
       is_place_of_u stands e ≡ false →
       flat_map extension_flat (changed_from change stands (e ∷ es)) ≡ extension_flat e ++ flat_map extension_flat (changed_from change stands es)
   u-later other = ap (λ b. flat_map extension_flat (cond b (at_place change stands e ++ es) (e ∷ changed_from change stands es))) other
-
--- ---- the whole tag
-
-pub edited_joined :
-    (key : List ℕ) (value : Option (List (List ℕ))) (r : Record) → IsWellFormed r →
-    fold with_subtag [] (to_variants r ++ (flat_map extension_flat (with_changed_u (edited key value) r.extensions) ++ private_part_flat r.private_use)) ≡ spell (edited_record key value r)
-unfolding edited_record
-edited_joined key value r fits = extensions_joined r fits (with_changed_u (edited key value) r.extensions)

@@ -1,5 +1,5 @@
 -- Numbers that rise, and the least of numbers in any order.
-use Rattle.langtag_scan.proofs.Prelude.{◌≡◌, ℕ, zero, suc, ◌+◌, ◌<◌, ◌≤◌, Bool, true, false, ◌==◌, ◌&&◌, ◌||◌, List, [], ◌∷◌, ◌++◌, length, get_or, set, take, drop, refl, ap, sym, subst, ◌∙◌, arith, leb, ltb, filter, IsNonDecreasing, nat_tests, at_drop_more, drop-drop, get_or-take, length-set, length-take, take-take, take_all, take_more_set, list_any_at, list_any-append}
+use Rattle.langtag_scan.proofs.Prelude.{◌≡◌, ℕ, zero, suc, ◌+◌, ◌<◌, ◌≤◌, Bool, true, false, ◌==◌, ◌&&◌, ◌||◌, List, [], ◌∷◌, ◌++◌, length, get_or, set, take, drop, refl, ap, subst, ◌∙◌, arith, leb, ltb, filter, IsNonDecreasing, nat_tests, get_or-take, length-set, length-take, take-take, take_all, take_more_set, list_any_at, list_any-append, AllByRecursion}
 use Rattle.langtag_keyword.specs.Least.{HoldsLeast, IsOffered, IsSettled, Least, AscendsFrom, has, is_within, ascending_after}
 
 -- ---- numbers that rise
@@ -47,11 +47,7 @@ pub above-split : (last limit l : ℕ) (ns : List ℕ) → last ≤ limit → As
 above-split last limit l [] order rise = refl
 above-split last limit l (n ∷ ns) order rise = grind (arith, nat_tests, none-within last limit n ns, above-split last limit n ns order rise.1)
 
-abbrev pub AllUpTo : ℕ → List ℕ → Type 0
-AllUpTo most [] = Unit
-AllUpTo most (n ∷ ns) = (n ≤ most) × AllUpTo most ns
-
-pub above-none : (most : ℕ) (ns : List ℕ) → AllUpTo most ns → above most ns ≡ []
+pub above-none : (most : ℕ) (ns : List ℕ) → AllByRecursion (λ n. n ≤ most) ns → above most ns ≡ []
 above-none most [] all = refl
 above-none most (n ∷ ns) all = grind (arith, nat_tests, above-none most ns all.1)
 
@@ -69,9 +65,6 @@ falls-never l (n ∷ ns) up first = (
   falls-never n ns (λ i j d le inside. up (suc i) (suc j) d (omega (arith, le)) (omega (arith, inside))) (λ some. up 0 1 0 (omega arith) (omega (arith, some))),
 )
 
-pub sorted : (ns : List ℕ) → IsNonDecreasing ns → NeverFalls 0 ns
-sorted ns up = falls-never 0 ns up (λ some. omega arith)
-
 low-sorted : (l n : ℕ) (ns : List ℕ) → NeverFalls l ns → n < l → has n ns ≡ false
 low-sorted l n [] up below = refl
 low-sorted l n (m ∷ ms) up below = grind (arith, nat_tests, low-sorted m n ms up.1)
@@ -88,7 +81,7 @@ has-ascending last n l (m ∷ ms) up = grind (arith, nat_tests, has-ascending m 
 
 -- numbers in any order, when they are sorted
 pub settled_by : (old ns new : List ℕ) → IsNonDecreasing ns → ((n : ℕ) → has n ns ≡ has n old) → new ≡ ascending_after 0 ns → IsSettled old new
-settled_by old ns new up same is = rw is (record { rise = rise-ascending 0 ns; same = λ n. has-ascending 0 n 0 ns (sorted ns up) ∙ ap (λ b. ltb 0 n && b) (same n) })
+settled_by old ns new up same is = rw is (record { rise = rise-ascending 0 ns; same = λ n. has-ascending 0 n 0 ns (falls-never 0 ns up (λ some. omega arith)) ∙ ap (λ b. ltb 0 n && b) (same n) })
 
 -- the numbers that are kept, in order, are those of all numbers that are within the limits
 pub kept-within :
@@ -104,13 +97,6 @@ pub record Moved (all ns : List ℕ) (index count last : ℕ) : Type 0 where
   pub few : count ≤ index
   pub left : drop index ns ≡ drop index all
   pub so_far : take count ns ++ ascending_after last (drop index all) ≡ ascending_after 0 all
-
-module _ (all ns : List ℕ) (index count last : ℕ) (inside : index < length ns) (moved : Moved all ns index count last) where
-  next : drop (index + 1) ns ≡ drop (index + 1) all
-  next = sym (drop-drop 1 index ns) ∙ ap (drop 1) moved.left ∙ drop-drop 1 index all
-
-  here : drop index all ≡ get_or ns index 0 ∷ drop (index + 1) all
-  here = sym moved.left ∙ at_drop_more (λ ms. ms) ns index 0 inside ∙ ap (λ ms. get_or ns index 0 ∷ ms) next
 
 -- ---- one number more
 
@@ -148,24 +134,18 @@ module _
       let long : k < length ns = omega (arith, length-take count numbers, is, few, within) in
       let inside : get_or ns k 0 ≡ most = get_or-take count numbers k 0 (omega (arith, is, few)) in
       let there : has most ns ≡ true = list_any_at (λ m. m == most) ns k 0 long (grind (arith, nat_tests, inside)) in
+      let part : (n : ℕ) → has n (take half numbers) ≡ (leb n most && has n ns) = λ n. grind (arith, nat_tests, take-take half count numbers few, is, has-take n k 0 ns settled.rise long, inside) in
       record {
         last = refl;
         holds = λ offered holds.
             let bounds : (last < most) × (most ≤ limit) = grind (arith, nat_tests, settled.same most, one_more most kept, holds.same most) in
-            record {
-              order = bounds.0;
-              same = λ n.
-                  let part : has n (take half numbers) ≡ (leb n most && has n ns) =
-                  ap (has n) (sym (take-take half count numbers few)) ∙ ap (λ h. has n (take h ns)) is ∙ has-take n k 0 ns settled.rise long ∙ ap (λ m. leb n m && has n ns) inside in
-                  grind (arith, nat_tests, part, settled.same n, one_more n kept, one_more n offered, holds.same n, bounds.0, bounds.1);
-            };
+            record { order = bounds.0; same = λ n. grind (arith, nat_tests, part n, settled.same n, one_more n kept, one_more n offered, holds.same n, bounds.0, bounds.1) };
       }
 
 -- the last of the numbers fills the room
 pub filled :
     (numbers : List ℕ) (count number : ℕ) (ns : List ℕ) → length numbers ≡ count + 1 → IsSettled (set numbers count number) ns → IsSettled (take count numbers ++ number ∷ []) ns
 filled numbers count number ns room settled =
-    let all = set numbers count number in
-    let whole : all ≡ take count numbers ++ number ∷ [] =
-    sym (take_all (count + 1) all (omega (arith, length-set numbers count number, room))) ∙ take_more_set numbers count number (omega (arith, room)) in
+    let whole : set numbers count number ≡ take count numbers ++ number ∷ [] =
+    grind (arith, nat_tests, take_all (count + 1) (set numbers count number), length-set numbers count number, take_more_set numbers count number) in
     subst (λ old. IsSettled old ns) whole settled

@@ -1,17 +1,16 @@
 -- The numbers of subtags are in the order of the alphabet, and tell the subtags.
-use Rattle.langtag_keyword.proofs.Common.{is_alphanumeric, and_parts, are_alphanumeric, each-weaker, ◌≡◌, ℕ, zero, suc, ◌+◌, ◌*◌, ◌<◌, ◌≤◌, ◌-◌, Bool, true, false, not, cond, ◌==◌, ◌&&◌, ◌||◌, List, [], ◌∷◌, ◌++◌, length, get_or, drop, map, append_assoc, append-nil, refl, sym, ap, subst, ◌∙◌, arith, flat_map-append, AllByRecursion, filter, flat_map, list_any, false≢true, nat_tests, at_drop_more, pushes_both, pushes_ended, pushes_same, Output, Pushes, length-fold, IsSubtag, fold_text, in_alphabet, is_before, IsOffered, Least, key_of, number_text, order_number}
+use Rattle.langtag_scan.proofs.CaseLaw.{all-fold, is_letter-fold, is_digit-fold}
+use Rattle.langtag_keyword.proofs.Common.{is_alphanumeric, each-weaker, ◌≡◌, ℕ, zero, suc, ◌+◌, ◌*◌, ◌<◌, ◌≤◌, ◌-◌, Bool, true, false, not, cond, ◌==◌, ◌&&◌, ◌||◌, List, [], ◌∷◌, ◌++◌, length, get_or, drop, map, append_assoc, append-nil, refl, sym, ap, subst, ◌∙◌, arith, flat_map-append, AllByRecursion, filter, flat_map, list_any, false≢true, nat_tests, at_drop_more, pushes_both, pushes_ended, pushes_same, Output, Pushes, length-fold, IsSubtag, fold_text, in_alphabet, is_before, IsOffered, Least, key_of, number_text, order_number, each-map}
 use Rattle.langtag_scan.proofs.Prelude.{◌%◌, ◌^◌, ltb-false, ltb-true, ltb, All, All-from_recursion, common_steps}
 use Rattle.langtag_scan.specs.Grammar.{folded_number}
-use Rattle.langtag_scan.specs.Case.{fold_byte}
-use Rattle.langtag_scan.specs.Class.{is_digit, is_letter}
 use Rattle.std.proofs.Math.Nat.{mod-eq_of_lt, pow-suc}
 use Rattle.std.specs.Int.{bytes_high_first}
 use Rattle.std.proofs.lemmas.List.Elements.{All-filter}
 use Rattle.std.proofs.lemmas.Nat.{div-mul-add, mul-add-lt}
 use Rattle.langtag_text.specs.Output.{with_subtag}
 use Rattle.langtag_keyword.specs.Least.{HoldsLeast, AscendsFrom, has, is_within, left_number}
-use Rattle.langtag_keyword.proofs.AlphabetLaws.{Rise, Under, rise-in_alphabet, any-put, each-alphabet, each-put}
-use Rattle.langtag_keyword.proofs.LeastLaws.{AllUpTo, above, above-all, above-none, above-split}
+use Rattle.langtag_keyword.proofs.AlphabetLaws.{Rise, Under, rise-in_alphabet, any-put, each-put}
+use Rattle.langtag_keyword.proofs.LeastLaws.{above, above-all, above-none, above-split}
 use Rattle.langtag_scan.proofs.FoldedNumbers.{IsByte, fold_digits}
 
 -- ---- bytes
@@ -45,9 +44,6 @@ left-below (suc k) (b ∷ s) bytes = omega (arith, mul-add-lt b (256 ^ k) (left_
 left-some : (k b : ℕ) (s : List ℕ) → 0 < b → 0 < left_number (suc k) (b ∷ s)
 left-some k b s some = grind (arith, nat_tests, power-some k)
 
-left-less : (k x y r q : ℕ) → x < y → r < 256 ^ k → x * 256 ^ k + r < y * 256 ^ k + q
-left-less k x y r q less below = grind (arith, mul-add-lt x (256 ^ k) r y less below)
-
 -- numbers are in the order of the texts
 pub left-before : (k : ℕ) (a b : List ℕ) → length a ≤ k → length b ≤ k → AreBytes a → AreBytes b → is_before a b ≡ true → left_number k a < left_number k b
 left-before k [] [] la lb ab bb before = absurd (false≢true before)
@@ -56,7 +52,7 @@ left-before (suc k) [] (y ∷ b) la lb ab bb before = left-some k y b bb.0.some
 left-before k (x ∷ a) [] la lb ab bb before = absurd (false≢true before)
 left-before zero (x ∷ a) (y ∷ b) la lb ab bb before = absurd (omega (arith, lb))
 left-before (suc k) (x ∷ a) (y ∷ b) la lb ab bb before =
-    grind (arith, nat_tests, left-before k a b (omega (arith, la)) (omega (arith, lb)) ab.1 bb.1, left-less k x y (left_number k a) (left_number k b), left-below k a ab.1)
+    grind (arith, nat_tests, left-before k a b (omega (arith, la)) (omega (arith, lb)) ab.1 bb.1, mul-add-lt x (256 ^ k) (left_number k a) y, left-below k a ab.1)
 
 -- ---- the text of a number
 
@@ -71,10 +67,7 @@ some-kept : (b : ℕ) (s : List ℕ) → 0 < b → cond (not (b == 0)) (b ∷ s)
 some-kept b s some = let test : (b == 0) ≡ false = grind (arith, nat_tests) in ap (λ c. cond (not c) (b ∷ s) s) test
 
 wider : (k q b r : ℕ) → q * 256 ^ suc k + (b * 256 ^ k + r) ≡ (q * 256 + b) * 256 ^ k + r
-wider k q b r = ap (λ p. q * p + (b * 256 ^ k + r)) (pow-suc 256 k) ∙ spread (256 ^ k)
-  where
-    spread : (p : ℕ) → q * (p * 256) + (b * p + r) ≡ (q * 256 + b) * p + r
-    spread p = omega arith
+wider k q b r = rw (pow-suc 256 k) (omega arith)
 
 -- what is above the digits does not matter
 digits_of :
@@ -86,10 +79,8 @@ digits_of (suc k) q [] short bytes =
     digit k (q * 256) 0 (q * 256 ^ suc k + 0) 0 [] is (power-some k) (omega arith)
     (ap (λ n. filter (λ b. not (b == 0)) (bytes_high_first k n)) (is ∙ ap (λ r. (q * 256) * 256 ^ k + r) (sym (left-nil k))) ∙ digits_of k (q * 256) [] (omega arith) tt)
 digits_of (suc k) q (b ∷ s) short bytes =
-    let r = left_number k s in
-    let is : q * 256 ^ suc k + (b * 256 ^ k + r) ≡ (q * 256 + b) * 256 ^ k + r = wider k q b r in
-    digit k (q * 256 + b) r (q * 256 ^ suc k + (b * 256 ^ k + r)) b s is (left-below k s bytes.1) (omega (arith, bytes.0.most))
-    (ap (λ n. filter (λ b. not (b == 0)) (bytes_high_first k n)) is ∙ digits_of k (q * 256 + b) s (omega (arith, short)) bytes.1)
+    digit k (q * 256 + b) (left_number k s) _ b s (wider k q b (left_number k s)) (left-below k s bytes.1) (omega (arith, bytes.0.most))
+    (ap (λ n. filter (λ b. not (b == 0)) (bytes_high_first k n)) (wider k q b (left_number k s)) ∙ digits_of k (q * 256 + b) s (omega (arith, short)) bytes.1)
     ∙ some-kept b s bytes.0.some
 
 digits_at : (k : ℕ) (s : List ℕ) → length s ≤ k → AreBytes s → filter (λ b. not (b == 0)) (bytes_high_first k (left_number k s)) ≡ s
@@ -136,12 +127,9 @@ rises-after s [] one all under rise = tt
 rises-after s (t ∷ ts) one all under rise =
     (left-before 8 s t one.short all.0.short one.bytes all.0.bytes under, rises-after t ts all.0 all.1 rise.0 rise.1)
 
-number-some : (s : List ℕ) → HasNumber s → 0 < left_number 8 s
-number-some s number = grind (arith, nat_tests, left-some 7)
-
 rise-numbers : (ss : List (List ℕ)) → AllByRecursion HasNumber ss → Rise ss → AscendsFrom 0 (numbers ss)
 rise-numbers [] all rise = tt
-rise-numbers (s ∷ ss) all rise = (number-some s all.0, rises-after s ss all.0 all.1 rise.0 rise.1)
+rise-numbers (s ∷ ss) all rise = (grind (arith, nat_tests, left-some 7, all.0), rises-after s ss all.0 all.1 rise.0 rise.1)
 
 pub rise-in_order : (ss : List (List ℕ)) → AllByRecursion IsSubtag ss → AscendsFrom 0 (numbers (in_alphabet ss))
 rise-in_order ss all = rise-numbers (in_alphabet ss) (each-number ss all) (rise-in_alphabet ss)
@@ -154,10 +142,6 @@ has-numbers n (s ∷ ss) = ap (λ b. (left_number 8 s == n) || b) (has-numbers n
 has-in_order : (n : ℕ) (ss : List (List ℕ)) → has n (map order_number ss) ≡ has n (numbers (in_alphabet ss))
 has-in_order n [] = refl
 has-in_order n (s ∷ ss) = grind (arith, nat_tests, has-numbers n (in_alphabet ss), has-numbers n (in_alphabet (s ∷ ss)), any-put, has-in_order n ss)
-
-up_to : (most : ℕ) (ss : List (List ℕ)) → 18446744073709551615 ≤ most → AllByRecursion HasNumber ss → AllUpTo most (numbers ss)
-up_to most [] long all = tt
-up_to most (s ∷ ss) long all = (omega (arith, left-below 8 s all.0.bytes, long), up_to most ss long all.1)
 
 -- ---- what is put for numbers
 
@@ -173,16 +157,23 @@ pub put-texts : (ss : List (List ℕ)) → AllByRecursion HasNumber ss → flat_
 put-texts [] all = refl
 put-texts (s ∷ ss) all = ap (λ t. t ∷ flat_map (λ n. number_text n ∷ []) (numbers ss)) (text_of_number s all.0) ∙ ap (λ ts. s ∷ ts) (put-texts ss all.1)
 
+folded_fits : (s : List ℕ) → IsSubtag s → IsSubtag (fold_text s)
+folded_fits s is = record {
+  some = omega (arith, length-fold s, is.some);
+  short = omega (arith, length-fold s, is.short);
+  alphanumeric = all-fold is_alphanumeric (λ b. rw (is_letter-fold b, is_digit-fold b) refl) s ∙ is.alphanumeric;
+}
+
 -- for the numbers of keys: what is put for the keys
 abbrev IsKey : List ℕ → Type 0
-IsKey s = HasNumber s × (length s ≡ 2)
+IsKey s = HasNumber s × IsSubtag s × (length s ≡ 2)
 
 -- subtags of two characters
 abbrev pub AreKeys : List (List ℕ) → Type 0
 AreKeys ss = AllByRecursion (λ s. IsSubtag s × (length s ≡ 2)) ss
 
 key-back : (s : List ℕ) → IsKey s → key_of (left_number 8 s) ≡ s
-key-back s is = grind (arith, nat_tests, is.1)
+key-back s is = grind (arith, nat_tests, is.2)
 
 put-keys : (f : List ℕ → List (List ℕ)) (ss : List (List ℕ)) → AllByRecursion IsKey ss → flat_map (λ n. f (key_of n)) (numbers ss) ≡ flat_map f ss
 put-keys f [] all = refl
@@ -190,7 +181,7 @@ put-keys f (s ∷ ss) all = ap (λ t. f t ++ flat_map (λ n. f (key_of n)) (numb
 
 each-key : (ss : List (List ℕ)) → AreKeys ss → AllByRecursion IsKey (in_alphabet ss)
 each-key [] all = tt
-each-key (s ∷ ss) all = each-put IsKey (fold_text s) (in_alphabet ss) (has_number s all.0.0, length-fold s ∙ all.0.1) (each-key ss all.1)
+each-key (s ∷ ss) all = each-put IsKey (fold_text s) (in_alphabet ss) (has_number s all.0.0, folded_fits s all.0.0, length-fold s ∙ all.0.1) (each-key ss all.1)
 
 pub keys-fit : (ss : List (List ℕ)) → AreKeys ss → AllByRecursion IsSubtag ss
 keys-fit = each-weaker (λ s. IsSubtag s × (length s ≡ 2)) IsSubtag (λ s is. is.0)
@@ -200,26 +191,14 @@ pub put-keys_in_order :
     flat_map (λ n. f (key_of n)) (numbers (in_alphabet ss)) ≡ flat_map f (in_alphabet ss)
 put-keys_in_order f ss all = put-keys f (in_alphabet ss) (each-key ss all)
 
-folded_alphanumeric : (s : List ℕ) → are_alphanumeric s ≡ true → are_alphanumeric (fold_text s) ≡ true
-unfolding is_letter is_digit fold_byte
-folded_alphanumeric [] h = refl
-folded_alphanumeric (b ∷ s) h = let k = and_parts (is_alphanumeric b) (are_alphanumeric s) h in grind (arith, nat_tests, folded_alphanumeric s k.1, k.0)
-
-folded_fits : (s : List ℕ) → IsSubtag s → IsSubtag (fold_text s)
-folded_fits s is = record { some = omega (arith, length-fold s, is.some); short = omega (arith, length-fold s, is.short); alphanumeric = folded_alphanumeric s is.alphanumeric }
-
 -- the number of a subtag of two characters
 abbrev pub NamesKey : ℕ → Type 0
 NamesKey n = IsSubtag (key_of n)
 
-each-named : (ss : List (List ℕ)) → AllByRecursion IsKey ss → AllByRecursion IsSubtag ss → AllByRecursion NamesKey (numbers ss)
-each-named [] keys fit = tt
-each-named (s ∷ ss) keys fit = (subst IsSubtag (sym (key-back s keys.0)) fit.0, each-named ss keys.1 fit.1)
-
 pub named-in_order : (test : ℕ → Bool) (ss : List (List ℕ)) → AreKeys ss → All NamesKey (filter test (numbers (in_alphabet ss)))
 named-in_order test ss all =
     let ns = numbers (in_alphabet ss) in
-    All-filter test NamesKey ns (All-from_recursion NamesKey ns (each-named (in_alphabet ss) (each-key ss all) (each-alphabet IsSubtag folded_fits ss (keys-fit ss all))))
+    All-filter test NamesKey ns (All-from_recursion NamesKey ns (each-map IsKey NamesKey (left_number 8) (λ s is. subst IsSubtag (sym (key-back s is)) is.1) (in_alphabet ss) (each-key ss all)))
 
 -- ---- what is put for the numbers of subtags in order, some of them at a time
 
@@ -246,7 +225,8 @@ module _ {put : ℕ → List (List ℕ)} {ss : List (List ℕ)} {least : Least} 
   pub rounds-ended : more ≡ false → Pushes (flat_map put (numbers (in_alphabet ss))) start out
   rounds-ended no_more =
       let most : 18446744073709551615 ≤ least.last = ltb-false least.last 18446744073709551615 (sym rounds.ended ∙ no_more) in
-      rounds.so_far out (pushes_ended _ out (ap (flat_map put) (above-none least.last (numbers (in_alphabet ss)) (up_to least.last (in_alphabet ss) most (each-number ss rounds.fits)))))
+      let all = each-map HasNumber (λ n. n ≤ least.last) (left_number 8) (λ s number. omega (arith, left-below 8 s number.bytes, most)) (in_alphabet ss) (each-number ss rounds.fits) in
+      rounds.so_far out (pushes_ended _ out (ap (flat_map put) (above-none least.last (numbers (in_alphabet ss)) all)))
 
   rounds-hold : (offered : Least) → more ≡ true → IsOffered (map order_number ss) least offered → HoldsLeast offered (numbers (in_alphabet ss))
   rounds-hold offered is_more these =
@@ -265,11 +245,8 @@ module _ {put : ℕ → List (List ℕ)} {ss : List (List ℕ)} {least : Least} 
       (kept : (all : List ℕ) → AscendsFrom 0 all → HoldsLeast offered all → sorted.kept ≡ filter (is_within offered.last offered.limit) all)
       (limit : sorted.limit ≡ offered.limit) (next : new.last ≡ sorted.limit)
     where
-      holds : HoldsLeast offered (numbers (in_alphabet ss))
-      holds = rounds-hold offered is_more these
-
       pub rounds-smaller : 18446744073709551615 - new.last < 18446744073709551615 - least.last
-      rounds-smaller = omega (arith, ltb-true least.last 18446744073709551615 (sym rounds.ended ∙ is_more), holds.order, limit, next, these.last)
+      rounds-smaller = omega (arith, ltb-true least.last 18446744073709551615 (sym rounds.ended ∙ is_more), (rounds-hold offered is_more these).order, limit, next, these.last)
 
       -- all subtags are offered, and what is put for those that are kept is put
       pub rounds-next :
@@ -278,12 +255,10 @@ module _ {put : ℕ → List (List ℕ)} {ss : List (List ℕ)} {least : Least} 
       rounds-next next_more pushed after empty ended is puts =
           let ns = numbers (in_alphabet ss) in
           let rise = rise-in_order ss rounds.fits in
+          let holds = rounds-hold offered is_more these in
           let last : least.last ≤ offered.limit = omega (arith, holds.order, these.last) in
           let split : flat_map put pushed ++ flat_map put (above new.last ns) ≡ flat_map put (above least.last ns) =
-          ap (λ ms. flat_map put ms ++ flat_map put (above new.last ns)) (is ∙ kept ns rise holds ∙ ap (λ n. filter (is_within n offered.limit) ns) these.last)
-          ∙ ap (λ n. flat_map put (filter (is_within least.last offered.limit) ns) ++ flat_map put (above n ns)) (next ∙ limit)
-          ∙ sym (flat_map-append put (filter (is_within least.last offered.limit) ns) (above offered.limit ns))
-          ∙ ap (flat_map put) (sym (above-split least.last offered.limit 0 ns last rise)) in
+          grind (arith, common_steps, is, kept ns rise holds, these.last, next, limit, flat_map-append put (filter (is_within least.last offered.limit) ns), above-split least.last offered.limit 0 ns last rise) in
           record {
             fits = rounds.fits;
             empty = empty;
@@ -307,15 +282,3 @@ offered-both ms ns old middle new these those = record {
   last = those.last ∙ these.last;
   holds = λ offered holds. subst (HoldsLeast new) (append_assoc offered ms ns) (those.holds (offered ++ ms) (these.holds offered holds));
 }
-
--- a subtag is offered if it passes a test
-pub offered-more :
-    (test : List ℕ → Bool) (s : List ℕ) (ss : List (List ℕ)) (n : ℕ) (old middle new : Least) → test s ≡ true → n ≡ order_number s →
-    IsOffered (n ∷ []) old middle → IsOffered (map order_number (filter test ss)) middle new → IsOffered (map order_number (filter test (s ∷ ss))) old new
-offered-more test s ss n old middle new passes is these those =
-    rw passes (subst (λ m. IsOffered (m ∷ map order_number (filter test ss)) old new) is (offered-both (n ∷ []) (map order_number (filter test ss)) old middle new these those))
-
-pub offered-other :
-    (test : List ℕ → Bool) (s : List ℕ) (ss : List (List ℕ)) (old new : Least) → test s ≡ false →
-    IsOffered (map order_number (filter test ss)) old new → IsOffered (map order_number (filter test (s ∷ ss))) old new
-offered-other test s ss old new other these = rw other these

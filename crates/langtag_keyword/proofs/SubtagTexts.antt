@@ -1,6 +1,7 @@
 -- The subtags of an extension, and those before a key, in its text.
+use Rattle.langtag_scan.proofs.SubtagLists.{cut_at}
 use Rattle.langtag_keyword.proofs.Common.{◌≡◌, ℕ, ◌≤◌, ◌<◌, ◌+◌, ◌-◌, Bool, true, false, List, [], ◌∷◌, ◌++◌, length, take, drop, get_or, Option, None, Some, suc, refl, ap, sym, subst, ◌∙◌, arith, cond, append-nil, zero, IsUtf8, IsCharBoundary-after_ascii, common_steps, length-append, AllByRecursion, list_any, option_map_or, length-slice_split, Extension, Record, IsWellFormed, is_hyphen, join, segments, subtags, NoHyphenWithin, hyphenated, length-join, IsSubtag, of_extension_subtag, each_subtag, subtags-joined, join-subtags, is_extension_subtag, SpellsExtension, IsExtension, find_extension, extension_found, length_with_hyphens, opens_keyword, before_key, is_new_key, keywords_after, are_alike, option_map}
-use Rattle.langtag_scan.proofs.Prelude.{take-append-drop, IsCharBoundary, get_or-append_seam, drop-cons, slice_split_at, slice_split_none, nat_tests}
+use Rattle.langtag_scan.proofs.Prelude.{IsCharBoundary, get_or-append_seam, slice_split_at, slice_split_none, nat_tests}
 use Rattle.langtag_scan.specs.Grammar.{IsHyphenFree}
 use Rattle.std.proofs.lemmas.Str.{IsCharBoundary-start, IsCharBoundary-end}
 use Rattle.langtag_scan.proofs.Laws.{join-append, length-hyphenated, take-join, length-subtags}
@@ -10,23 +11,23 @@ use Rattle.langtag_keyword.specs.declared.keys.Keys.{Keys}
 
 -- ---- the text of an extension without its singleton
 
+join-first : (n : ℕ) (ss : List (List ℕ)) → 1 ≤ length ss → join ((n ∷ []) ∷ ss) ≡ n ∷ 45 ∷ join ss
+join-first n [] some = absurd (omega (arith, some))
+join-first n (s ∷ ss) some = refl
+
+singleton-first : (e : Extension) (text : List ℕ) → SpellsExtension e text → text ≡ e.singleton ∷ 45 ∷ join e.subtags
+singleton-first e text spells = sym spells.joined ∙ join-first e.singleton e.subtags spells.member.some
+
 -- its subtags are those of the extension
 pub subtags-after_singleton : (e : Extension) (text : List ℕ) → SpellsExtension e text → subtags (drop 2 text) ≡ e.subtags
-subtags-after_singleton e text spells = by_subtags e.subtags refl
-  where
-    by_subtags : (ss : List (List ℕ)) → e.subtags ≡ ss → subtags (drop 2 text) ≡ e.subtags
-    by_subtags [] is = absurd (omega (arith, spells.member.some, ap length is))
-    by_subtags (s ∷ ss) is = grind (arith, nat_tests, subtags-joined, each_subtag is_extension_subtag of_extension_subtag, of_extension_subtag)
+subtags-after_singleton e text spells =
+    ap (λ t. subtags (drop 2 t)) (singleton-first e text spells) ∙ subtags-joined e.subtags (each_subtag is_extension_subtag of_extension_subtag e.subtags spells.member.subtags)
 
 -- and the text may be cut there
 pub boundary-after_singleton : (text : List ℕ) → IsUtf8 text → IsExtension text → IsCharBoundary text 2
-boundary-after_singleton text utf8 (e, spells) = by_subtags e.subtags refl
-  where
-    by_subtags : (ss : List (List ℕ)) → e.subtags ≡ ss → IsCharBoundary text 2
-    by_subtags [] is = absurd (omega (arith, spells.member.some, ap length is))
-    by_subtags (s ∷ ss) is =
-        let cut : text ≡ e.singleton ∷ 45 ∷ join (s ∷ ss) = sym spells.joined ∙ ap (λ xs. join ((e.singleton ∷ []) ∷ xs)) is in
-        IsCharBoundary-after_ascii text 1 utf8 (rw cut (omega arith)) (rw cut (omega arith))
+boundary-after_singleton text utf8 (e, spells) =
+    let cut = singleton-first e text spells in
+    IsCharBoundary-after_ascii text 1 utf8 (rw cut (omega arith)) (rw cut (omega arith))
 
 -- no more than a number can count
 pub ruleset few_subtags = (length-subtags)
@@ -88,10 +89,7 @@ before_key-segments keys text = grind (arith, nat_tests)
 pub before_key-more : (test : List ℕ → Bool) (s : List ℕ) (ss : List (List ℕ)) → test s ≡ false → before_key test (s ∷ ss) ≡ s ∷ before_key test ss
 before_key-more test s ss other = rw other refl
 
-pub before_key-key : (test : List ℕ → Bool) (s : List ℕ) (ss : List (List ℕ)) → test s ≡ true → before_key test (s ∷ ss) ≡ []
-before_key-key test s ss key = rw key refl
-
-pub ruleset counted_before_key = (before_key-more, before_key-key, length-before_key)
+pub ruleset counted_before_key = (before_key-more, length-before_key)
 
 pub ruleset cut_before_key = (take-before_key, before_key-segments)
 
@@ -101,12 +99,8 @@ pub segments-cut :
     (text first rest : List ℕ) (end : ℕ) → end < length text → NoHyphenWithin text 0 end → get_or text end 0 ≡ 45 →
     first ≡ take end text → rest ≡ drop (end + 1) text → segments text ≡ first ∷ segments rest
 segments-cut text first rest end below free hyphen is_first is_rest =
-    let one : suc end ≡ end + 1 = omega arith in
     let kept : IsHyphenFree first = grind (arith, common_steps) in
-    let cut : text ≡ first ++ 45 ∷ rest =
-    sym (take-append-drop end text) ∙ ap (λ t. take end text ++ t) (drop-cons text end 0 below) ∙ ap (λ b. take end text ++ b ∷ drop (suc end) text) hyphen
-    ∙ ap (λ t. t ++ 45 ∷ drop (suc end) text) (sym is_first) ∙ ap (λ n. first ++ 45 ∷ drop n text) one ∙ ap (λ t. first ++ 45 ∷ t) (sym is_rest) in
-    rw cut (slice_split_at is_hyphen first 45 rest kept refl)
+    rw (cut_at text first rest end (end + 1) refl (grind (arith, common_steps, is_first)) is_rest below hyphen) (slice_split_at is_hyphen first 45 rest kept refl)
 
 pub segments-whole : (text : List ℕ) (end : ℕ) → end ≡ length text → NoHyphenWithin text 0 end → segments text ≡ text ∷ []
 segments-whole text end is free = grind (arith, nat_tests, slice_split_none is_hyphen text)
@@ -138,10 +132,8 @@ extension-some b r fits text found option is = ap (option_map subtags) is ∙ by
     by_found :
         (o : Option Extension) → find_extension b r.extensions ≡ o → (t : List ℕ) → subtags t ≡ option_map_or (λ e. e.subtags) o [] →
         option_map subtags (some_text t) ≡ option_map (λ e. e.subtags) o
-    by_found None none [] same = refl
-    by_found None none (c ∷ t) same = absurd (omega (arith, ap length same, length-slice_split is_hyphen (c ∷ t)))
-    by_found (Some e) some [] same = absurd (omega (arith, ap length same, (extension_found b r.extensions fits.extensions e some).some))
-    by_found (Some e) some (c ∷ t) same = ap Some same
+    by_found None none t same = grind (arith, nat_tests, length-slice_split is_hyphen t)
+    by_found (Some e) some t same = grind (arith, nat_tests, same, (extension_found b r.extensions fits.extensions e some).some)
 
 pub nothing-some : (text : List ℕ) → subtags text ≡ [] → some_text text ≡ None
 nothing-some text none = grind (arith, nat_tests, length-slice_split is_hyphen)

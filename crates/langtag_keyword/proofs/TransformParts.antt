@@ -1,5 +1,5 @@
 -- The parts of `t`: a language identifier whose parts are found again, and fields that have values.
-use Rattle.langtag_keyword.proofs.Common.{IsTrue, each-weaker, ◌≡◌, ℕ, ◌≤◌, Bool, true, false, ◌&&◌, ◌||◌, List, [], ◌∷◌, ◌++◌, length, map, find, Option, Some, None, option_map, unwrap_or, refl, sym, ap, subst, ◌∙◌, append-nil, append_assoc, arith, false≢true, AllByRecursion, flat_map, list_all, list_any, nat_tests, length-fold, of_extension_subtag, each-append, each_from_test, each_subtag, subtags-joined, are_alike, fold_text, are_alike-decides, is_extension_subtag, is_region, is_script, is_variant, one_flat, join, subtags, TypeAlias, after_one, are_different_variants, are_fields, before_key, value_of, is_field_key, both, found_has}
+use Rattle.langtag_keyword.proofs.Common.{IsTrue, each-weaker, ◌≡◌, ℕ, ◌≤◌, Bool, true, false, ◌&&◌, ◌||◌, List, [], ◌∷◌, ◌++◌, length, map, Some, refl, sym, ap, subst, ◌∙◌, append-nil, append_assoc, arith, false≢true, AllByRecursion, flat_map, list_all, list_any, nat_tests, length-fold, of_extension_subtag, each-append, each_from_test, each_subtag, subtags-joined, are_alike, fold_text, are_alike-decides, is_extension_subtag, is_region, is_script, is_variant, one_flat, join, subtags, after_one, are_different_variants, are_fields, before_key, value_of, is_field_key, both, each-map, length-map}
 use Rattle.langtag_scan.proofs.Prelude.{leb, leb-true}
 use Rattle.langtag_scan.specs.Grammar.{are_letters}
 use Rattle.langtag_text.specs.FieldClasses.{is_region_field, is_script_field}
@@ -11,7 +11,7 @@ use Rattle.langtag_keyword.specs.Form as form
 use Rattle.langtag_keyword.specs.Form.{may_follow, transform_value}
 use Rattle.langtag_keyword.specs.Identifier.{identifier_flat}
 use Rattle.langtag_keyword.proofs.CanonicalKeywords.{alike-back}
-use Rattle.langtag_keyword.proofs.FormRecords.{Good, good-value}
+use Rattle.langtag_keyword.proofs.FormRecords.{Good, good-value, pass-type}
 use Rattle.langtag_keyword.proofs.IdentifierParts.{AreSubtags, language_primary, AreVariants, Apart}
 use Rattle.langtag_keyword.proofs.KeywordsInForm.{AreKeywords, values_in_form}
 use Rattle.langtag_keyword.proofs.WalkLaws.{field_key-fold}
@@ -28,12 +28,10 @@ long-no_field : (s : List ℕ) → 3 ≤ length s → is_field_key s ≡ false
 long-no_field s long = grind (arith, nat_tests)
 
 script-no_field : (s : List ℕ) → is_script_field s ≡ true → AreNoFields (one_flat (subtag_of s))
-script-no_field [] is = tt
-script-no_field (b ∷ s) is = (letters-no_field (b ∷ s) (script_four (b ∷ s) is).1, tt)
+script-no_field s is = grind (arith, nat_tests, letters-no_field s, script_four s)
 
 region-no_field : (s : List ℕ) → is_region_field s ≡ true → AreNoFields (one_flat (subtag_of s))
-region-no_field [] is = tt
-region-no_field (b ∷ s) is = grind (arith, nat_tests, region_two_three (b ∷ s) is, letters-no_field (b ∷ s), long-no_field (b ∷ s))
+region-no_field s is = grind (arith, nat_tests, region_two_three s, letters-no_field s, long-no_field s)
 
 variants-no_field : (vs : List (List ℕ)) → AreVariants vs → AreNoFields vs
 variants-no_field = each-weaker (λ v. IsTrue (is_variant v)) (λ s. is_field_key s ≡ false) (λ v is. let four = variant_four v is in long-no_field v (omega (arith, four)))
@@ -102,31 +100,19 @@ found-field inside after key [] w are found = absurd cc
 found-field inside after key (s ∷ ss) w are found =
     grind (arith, nat_tests, both (may_follow inside after s) (are_fields (inside || is_field_key s) (is_field_key s) ss) are, found-field (inside || is_field_key s) (is_field_key s) key ss w, are_alike-decides s key, or_true inside, field_key-fold key, field_key-fold s, fields-value ss)
 
-types_good : list_all {X = TypeAlias} (λ alias. leb 1 (length (subtags alias.new)) && list_all (λ s. leb 3 (length s)) (subtags alias.new)) transform_type_aliases ≡ true
-unfolding transform_type_aliases
-types_good = refl
-
 transform-value : (key : List ℕ) (w : List (List ℕ)) → Good w → IsValue w → IsValue (subtags (transform_value key (join w)))
-unfolding transform_value
-transform-value key w good value = by_alias (find test transform_type_aliases) refl
-  where
-    test : TypeAlias → Bool
-    test alias = are_alike alias.key key && are_alike alias.old (join w)
-
-    by_alias : (o : Option TypeAlias) → find test transform_type_aliases ≡ o → IsValue (subtags (unwrap_or (option_map (λ alias. alias.new) o) (join w)))
-    by_alias None none = subst IsValue (sym (subtags-joined w (each_subtag is_extension_subtag of_extension_subtag w good))) value
-    by_alias (Some a) found =
-        let is = found_has (λ (alias : TypeAlias). leb 1 (length (subtags alias.new)) && list_all (λ s. leb 3 (length s)) (subtags alias.new)) test transform_type_aliases a types_good found in
-        let parts = both (leb 1 (length (subtags a.new))) (list_all (λ s. leb 3 (length s)) (subtags a.new)) is in
-        record { some = leb-true _ _ parts.0; long = each_from_test (λ s. leb 3 (length s)) (subtags a.new) parts.1 }
-
-lower-long : (ss : List (List ℕ)) → AllByRecursion (λ s. leb 3 (length s) ≡ true) ss → AllByRecursion (λ s. leb 3 (length s) ≡ true) (map fold_text ss)
-lower-long [] long = tt
-lower-long (s ∷ ss) long = (ap (leb 3) (length-fold s) ∙ long.0, lower-long ss long.1)
+unfolding transform_value transform_type_aliases
+transform-value key w good value =
+    let own = subtags-joined w (each_subtag is_extension_subtag of_extension_subtag w good) in
+    pass-type (λ text. leb 1 (length (subtags text)) && list_all (λ s. leb 3 (length s)) (subtags text)) (λ text. IsValue (subtags text))
+    (λ text is. let parts = both _ _ is in record { some = leb-true _ _ parts.0; long = each_from_test (λ s. leb 3 (length s)) (subtags text) parts.1 })
+    transform_type_aliases key (join w) refl (subst IsValue (sym own) value)
 
 lower-value : (ss : List (List ℕ)) → IsValue ss → IsValue (map fold_text ss)
-lower-value [] value = let some = value.some in absurd (omega (arith, some))
-lower-value (s ∷ ss) value = record { some = omega arith; long = lower-long (s ∷ ss) value.long }
+lower-value ss value = record {
+  some = omega (arith, length-map ss fold_text, value.some);
+  long = each-map (λ s. leb 3 (length s) ≡ true) (λ s. leb 3 (length s) ≡ true) fold_text (λ s long. ap (leb 3) (length-fold s) ∙ long) ss value.long;
+}
 
 value-no_field : (ss : List (List ℕ)) → AllByRecursion (λ s. leb 3 (length s) ≡ true) ss → AreNoFields ss
 value-no_field = each-weaker (λ s. leb 3 (length s) ≡ true) (λ s. is_field_key s ≡ false) (λ s long. long-no_field s (leb-true _ _ long))
@@ -151,12 +137,9 @@ field key v opens value = grind (arith, nat_tests, or_true, value-fields v)
 nothing : IsField []
 nothing = record { follows = λ inside rest later. later inside }
 
-pair : (xs ys : List (List ℕ)) → IsField xs → IsField ys → IsField (xs ++ ys)
-pair xs ys one two = grind (arith, nat_tests, append_assoc xs ys)
-
 all-fields : (f : List ℕ → List (List ℕ)) → ((key : List ℕ) → IsField (f key)) → (keys : List (List ℕ)) → IsField (flat_map f keys)
 all-fields f are [] = nothing
-all-fields f are (key ∷ keys) = pair (f key) (flat_map f keys) (are key) (all-fields f are keys)
+all-fields f are (key ∷ keys) = grind (arith, nat_tests, append_assoc (f key) (flat_map f keys), are key, all-fields f are keys)
 
 module _ (ss : List (List ℕ)) (good : Good ss) (are : are_fields false false ss ≡ true) where
   keyword-field : (key : List ℕ) → IsField (form.keyword_form is_field_key transform_value ss key)

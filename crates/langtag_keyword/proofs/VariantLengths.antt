@@ -1,20 +1,16 @@
 -- Variants of which no two are equal take as many bytes when each is written once.
-use Rattle.langtag_keyword.proofs.Common.{each_subtag, each_from_test, ◌≡◌, ℕ, ◌+◌, ◌-◌, ◌<◌, ◌≤◌, true, false, cond, ◌==◌, ◌||◌, List, [], ◌∷◌, length, fold, refl, sym, ap, ◌∙◌, arith, AllByRecursion, list_all, list_any, and_parts, length-slice_split, nat_tests, with_joined, with_subtag, fold_text-twice, length-fold, IsSubtag, of_variant, are_alike, fold_text, are_alike-decides, is_variant, is_hyphen, join, segments, are_different_variants, in_alphabet, is_before, put_among, length_with_hyphens}
+use Rattle.langtag_keyword.proofs.Common.{each_subtag, each_from_test, ◌≡◌, ℕ, ◌+◌, ◌<◌, ◌≤◌, true, false, cond, ◌==◌, List, [], ◌∷◌, length, fold, refl, sym, ap, ◌∙◌, arith, AllByRecursion, list_all, list_any, and_parts, length-slice_split, nat_tests, with_joined, with_subtag, fold_text-twice, length-fold, IsSubtag, of_variant, are_alike, fold_text, are_alike-decides, is_variant, is_hyphen, join, segments, are_different_variants, in_alphabet, put_among, length_with_hyphens}
 use Rattle.langtag_scan.proofs.Prelude.{min, join_with_byte-slice_split}
 use Rattle.langtag_text.proofs.WithSubtag.{with_subtag-none}
-use Rattle.langtag_keyword.proofs.AlphabetLaws.{Rise, before-tie, rise-in_alphabet, AreLower, lower-in_alphabet, among, among-alphabet, before-apart, not-among, under-each}
+use Rattle.langtag_keyword.proofs.AlphabetLaws.{Rise, before-tie, rise-in_alphabet, AreLower, lower-in_alphabet, among, among-alphabet, before-apart, not-among}
 use Rattle.langtag_keyword.proofs.LeastTexts.{HasNumber, each-number}
 use Rattle.langtag_keyword.proofs.SubtagTexts.{length-more}
 
 -- ---- the length of a text
 
-written-length : (s : List ℕ) (ss : List (List ℕ)) → 1 ≤ length s → length (fold with_subtag [] (s ∷ ss)) + 1 ≡ length_with_hyphens (s ∷ ss)
-written-length s ss some =
-    grind (arith, nat_tests, with_joined [] s ss some, with_subtag-none [] (join (s ∷ ss)), length-more s ss)
-
 in_order-length : (ss : List (List ℕ)) → 0 < length ss → AllByRecursion HasNumber ss → length (fold with_subtag [] ss) + 1 ≡ length_with_hyphens ss
 in_order-length [] some all = absurd (omega (arith, some))
-in_order-length (s ∷ ss) some all = written-length s ss all.0.some
+in_order-length (s ∷ ss) some all = grind (arith, nat_tests, with_joined [] s ss all.0.some, with_subtag-none [] (join (s ∷ ss)), length-more s ss)
 
 pub put-some : (x : List ℕ) (ss : List (List ℕ)) → 0 < length (put_among x ss)
 put-some x [] = omega arith
@@ -27,16 +23,13 @@ put-length :
     length_with_hyphens (put_among x ss) ≡ cond (among x ss) (length_with_hyphens ss) (length x + 1 + length_with_hyphens ss)
 put-length x [] low lowers rise = refl
 put-length x (s ∷ ss) low lowers rise =
-    grind (arith, nat_tests, put-length x ss low lowers.1 rise.1, before-apart s x lowers.0 low, before-tie x s, are_alike-decides s x, λ (is : is_before x s ≡ true). not-among x x (s ∷ ss) refl low lowers (under-each x (s ∷ ss) is rise))
+    grind (arith, nat_tests, put-length x ss low lowers.1 rise.1, before-apart s x lowers.0 low, before-tie x s, are_alike-decides s x, not-among x x (s ∷ ss) refl low lowers, rise)
 
 -- ---- among texts
 
-turned : (s t : List ℕ) → are_alike t (fold_text s) ≡ are_alike s t
-turned s t = grind (arith, nat_tests, are_alike-decides t (fold_text s), are_alike-decides s t, fold_text-twice s)
-
 pub among-alike : (s : List ℕ) (ss : List (List ℕ)) → among (fold_text s) ss ≡ list_any (are_alike s) ss
 among-alike s [] = refl
-among-alike s (t ∷ ts) = ap (λ b. b || among (fold_text s) ts) (turned s t) ∙ ap (λ b. are_alike s t || b) (among-alike s ts)
+among-alike s (t ∷ ts) = grind (arith, nat_tests, among-alike s ts, are_alike-decides t (fold_text s), are_alike-decides s t, fold_text-twice s)
 
 -- what the order leaves out
 record Weighs (ss : List (List ℕ)) : Type 0 where
@@ -68,17 +61,11 @@ different_by :
 different_by [] text n all is fits counted = absurd (omega (arith, ap length is, length-slice_split is_hyphen text))
 different_by (s ∷ ss) text n all is fits counted =
     let weighed = weighs (s ∷ ss) all in
-    let written : length (fold with_subtag [] (in_alphabet (s ∷ ss))) + 1 ≡ length_with_hyphens (in_alphabet (s ∷ ss)) =
-    in_order-length (in_alphabet (s ∷ ss)) (put-some (fold_text s) (in_alphabet ss)) (each-number (s ∷ ss) (are_subtags (s ∷ ss) all)) in
+    let written = in_order-length (in_alphabet (s ∷ ss)) (put-some (fold_text s) (in_alphabet ss)) (each-number (s ∷ ss) (are_subtags (s ∷ ss) all)) in
     let whole : length (join (s ∷ ss)) ≡ length text = ap (λ xs. length (join xs)) (sym is) ∙ ap length (join_with_byte-slice_split 45 text) in
-    let more : length s + 1 + length_with_hyphens ss ≡ length text + 1 = omega (arith, length-more s ss, whole) in
-    let counts : n ≡ length_with_hyphens (in_alphabet (s ∷ ss)) - 1 = omega (arith, written, more, weighed.less, counted, fits) in
-    let same : (n == length text) ≡ (length_with_hyphens (in_alphabet (s ∷ ss)) == length s + 1 + length_with_hyphens ss) =
-    tests_same n (length text) (length_with_hyphens (in_alphabet (s ∷ ss))) (length s + 1 + length_with_hyphens ss) counts more (omega (arith, written)) in
-    same ∙ weighed.tells
-  where
-    tests_same : (n m a b : ℕ) → n ≡ a - 1 → b ≡ m + 1 → 1 ≤ a → (n == m) ≡ (a == b)
-    tests_same n m a b one other some = grind (arith, nat_tests)
+    let counts : n + 1 ≡ length_with_hyphens (in_alphabet (s ∷ ss)) = omega (arith, written, whole, length-more s ss, weighed.less, counted, fits) in
+    let size : length text + 1 ≡ length_with_hyphens (s ∷ ss) = omega (arith, whole, length-more s ss) in
+    grind (arith, nat_tests, counts, size, weighed.tells)
 
 -- no two are equal if their text, each once, is as long as the text of all
 pub different_length :

@@ -1,5 +1,5 @@
 -- How long a tag may become when a keyword is set or removed, and what the order of keywords changes: nothing.
-use Rattle.langtag_keyword.proofs.Common.{◌≡◌, ℕ, ◌+◌, ◌≤◌, Bool, true, List, [], ◌∷◌, ◌++◌, length, refl, sym, ap, ◌∙◌, arith, rules, false, find, None, Some, unwrap_or, cond, append-nil, common_steps, flat_map, are_alike, Extension, Record, extension_flat, spell, subtags, length_with_hyphens, and_parts, false≢true, is_some, find_extension, at_place, changed_from, extension_of, is_this_key, put_keyword, with_keyword, without_keyword, without_within, is_key, before_key, value_of, in_alphabet, language_form, transform_form, transform_value, unicode_form, unicode_value, is_field_key}
+use Rattle.langtag_keyword.proofs.Common.{◌≡◌, ℕ, ◌+◌, ◌≤◌, Bool, true, List, [], ◌∷◌, ◌++◌, length, refl, ap, arith, rules, false, find, None, Some, unwrap_or, cond, append-nil, common_steps, flat_map, are_alike, Extension, Record, extension_flat, spell, subtags, length_with_hyphens, and_parts, false≢true, is_some, find_extension, at_place, changed_from, extension_of, is_this_key, put_keyword, with_keyword, without_keyword, without_within, is_key, before_key, value_of, in_alphabet, language_form, transform_form, transform_value, unicode_form, unicode_value, is_field_key, nat_tests}
 use Rattle.langtag_keyword.proofs.SubtagTexts.{length-all, length-with_hyphens}
 use Rattle.langtag_scan.proofs.Laws.{length-spell, normal_or_not}
 use Rattle.langtag_text.proofs.Alike.{alike_length}
@@ -7,9 +7,9 @@ use Rattle.langtag.specs.Form.{IsForm}
 use Rattle.langtag_scan.specs.Tag.{IsNormal}
 use Rattle.langtag_keyword.specs.Edit.{edited_record}
 use Rattle.langtag_keyword.proofs.ExtensionsPut.{flat-last}
-use Rattle.langtag_keyword.proofs.KeywordLaws.{u-here, u-later}
+use Rattle.langtag_keyword.proofs.KeywordLaws.{before-plain, u-here, u-later, value-plain}
 use Rattle.langtag_unicode.specs.FormLaws.{IsKeyword, OrderChangesNothing}
-use Rattle.langtag_keyword.proofs.KeywordsInForm.{before-plain, same-values, value-plain}
+use Rattle.langtag_keyword.proofs.KeywordsInForm.{same-values}
 use Rattle.langtag_keyword.specs.Form as form
 
 -- the bytes of some subtags, each with a hyphen
@@ -18,7 +18,7 @@ size ss = length_with_hyphens ss
 
 pub size-append : (xs ys : List (List ℕ)) → size (xs ++ ys) ≡ size xs + size ys
 size-append [] ys = omega arith
-size-append (x ∷ xs) ys = let later = size-append xs ys in omega (arith, later)
+size-append (x ∷ xs) ys = omega (arith, size-append xs ys)
 
 -- ---- the whole tag
 
@@ -69,20 +69,16 @@ set_length key value r =
     let change = with_keyword key (subtags value) in
     let extra = length key + 1 + size (subtags value) in
     let stands = is_some (find_extension 117 r.extensions) in
-    let one = extension-size 117 (change []) in
-    let many = with-size key (subtags value) [] in
-    let all = changed-size change extra (2 + extra) (with-size key (subtags value)) (omega (arith, one, many)) (omega arith) stands r.extensions in
-    let whole = extensions-length r (changed_from change stands r.extensions) in
-    let short = length-all value in
-    omega (arith, all, whole, short)
+    let new : size (flat_map extension_flat (extension_of 117 (change []))) ≤ 2 + extra = omega (arith, extension-size 117 (change []), with-size key (subtags value) []) in
+    let all = changed-size change extra (2 + extra) (with-size key (subtags value)) new (omega arith) stands r.extensions in
+    omega (arith, all, extensions-length r (changed_from change stands r.extensions), length-all value)
 
 removed_length : (key : List ℕ) (r : Record) → length (spell (edited_record key None r)) ≤ length (spell r)
 unfolding edited_record
 removed_length key r =
     let stands = is_some (find_extension 117 r.extensions) in
-    let all = changed-size (without_keyword key) 0 0 (λ ss. let less = without-size key false ss in omega (arith, less)) (omega arith) (omega arith) stands r.extensions in
-    let whole = extensions-length r (changed_from (without_keyword key) stands r.extensions) in
-    omega (arith, all, whole)
+    let all = changed-size (without_keyword key) 0 0 (λ ss. omega (arith, without-size key false ss)) (omega arith) (omega arith) stands r.extensions in
+    omega (arith, all, extensions-length r (changed_from (without_keyword key) stands r.extensions))
 
 pub set_bounded : (key value old new : List ℕ) → IsForm (edited_record key (Some (subtags value))) old new → length new ≤ length old + length key + length value + 4
 unfolding IsNormal
@@ -100,8 +96,8 @@ module _ (opens : List ℕ → Bool) where
 
   -- before two keys
   before-same : (xs rs qs : List (List ℕ)) (k l : List ℕ) → opens k ≡ true → opens l ≡ true → before_key opens (xs ++ k ∷ rs) ≡ before_key opens (xs ++ l ∷ qs)
-  before-same [] rs qs k l is other = stops k rs is ∙ sym (stops l qs other)
-  before-same (x ∷ xs) rs qs k l is other = ap (λ t. cond (opens x) [] (x ∷ t)) (before-same xs rs qs k l is other)
+  before-same [] rs qs k l is other = grind (arith, nat_tests)
+  before-same (x ∷ xs) rs qs k l is other = grind (arith, nat_tests, before-same xs rs qs k l is other)
 
   value-same :
       (key : List ℕ) (xs rs qs : List (List ℕ)) (k l : List ℕ) → opens k ≡ true → opens l ≡ true → value_of opens key (k ∷ rs) ≡ value_of opens key (l ∷ qs) →

@@ -1,5 +1,5 @@
-use Rattle.langtag_keyword.proofs.Common.{◌≡◌, get_or, ap, sym, subst, ◌∙◌, length, arith, flat_map, drop_all, pushes_ended, pushes_same, IsSubtag, subtags, keyword_form, canonical_value_of, opens_keyword, key_of}
-use Rattle.langtag_keyword.proofs.KeyValues.{AreValues, same-values, value-at}
+use Rattle.langtag_keyword.proofs.Common.{◌≡◌, get_or, ap, sym, subst, length, arith, flat_map, drop_all, pushes_ended, pushes_same, IsSubtag, subtags, keyword_form, canonical_value_of, opens_keyword, key_of, nat_tests}
+use Rattle.langtag_keyword.proofs.KeyValues.{AreValues, value-at}
 use Rattle.langtag_keyword.proofs.LeastTexts.{put_more}
 use Rattle.langtag_keyword.proofs.keyword_form.push_each_of_many.Goals as goal
 use Rattle.langtag_keyword.proofs.keyword_form.push_each_of_many.Goals.{else-key-first, then-key-first}
@@ -12,13 +12,8 @@ loop-number-preserved c =
     let key = c.key_of-key.ensures in
     let index = c.loop-number.number-index in
     let is : IsSubtag c.key_of-key.result = subst IsSubtag (sym key) (c.requires.numbers index 0 c.loop-number-test.true) in
-    let values : AreValues opens ss c.if-key-first.first c.if-key-first.values =
-    elim c.if-key-first.branch [
-      | then-key-first w ↦ same-values opens ss _ _ _ _ w.first-is w.values-is w.values_after-values-then-key-first.ensures
-      | else-key-first w ↦ same-values opens ss _ _ _ _ w.first-is w.values-is c.loop-number.invariant.values
-    ] in
-    let begins : c.if-key-first.first ≡ get_or c.key_of-key.result 0 0 =
-    elim c.if-key-first.branch [ then-key-first w ↦ w.first-is | else-key-first w ↦ w.first-is ∙ sym w.if-key-first.false ] in
+    let values : AreValues opens ss c.if-key-first.first c.if-key-first.values = λ second other. grind (arith, nat_tests, c.if-key-first.branch, c.loop-number.invariant.values second other) in
+    let begins : c.if-key-first.first ≡ get_or c.key_of-key.result 0 0 = grind (arith, nat_tests, c.if-key-first.branch) in
     record {
       values = values;
       so_far = λ new these.

@@ -1,5 +1,5 @@
 use Rattle.std.proofs.lemmas.Grind.{common_steps}
-use Rattle.langtag_keyword.proofs.Common.{[], ◌++◌, not, ◌==◌, sym, ap, subst, ◌∙◌, arith, append-nil, length, filter, take_all, HasText, with_subtag, number_text}
+use Rattle.langtag_keyword.proofs.Common.{[], sym, subst, arith, append-nil, take_all, HasText, with_subtag}
 use Rattle.langtag_keyword.proofs.LeastTexts.{after-hyphen}
 use Rattle.langtag_keyword.proofs.least_numbers.push_number.Goals.{then-byte-gt0, else-byte-gt0}
 use Rattle.langtag_keyword.proofs.least_numbers.push_number.Goals as goal
@@ -11,11 +11,4 @@ pub loop-byte-preserved : goal.loop-byte-preserved
 loop-byte-preserved c = grind (arith, common_steps, c.to_be_bytes-byte-items.result, c.loop-byte.byte-index, c.loop-byte-test.true)
 
 pub returns : goal.returns
-returns c = λ first text has.
-    let items = c.to_be_bytes-byte-items.result in
-    let is = c.to_be_bytes-byte-items.ensures in
-    let ended = c.loop-byte-test.false in
-    subst (HasText first c.loop-byte.out)
-    (ap (λ t. with_subtag text [] ++ filter (λ b. not (b == 0)) t) (take_all c.loop-byte.byte-index items (omega (arith, ended, ap length is)) ∙ is)
-    ∙ after-hyphen text (number_text c.args.number))
-    (c.loop-byte.invariant first text has)
+returns c = grind (arith, common_steps, after-hyphen, take_all, c.to_be_bytes-byte-items.ensures, c.loop-byte-test.false, c.loop-byte.invariant)

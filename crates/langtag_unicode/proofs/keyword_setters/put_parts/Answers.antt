@@ -1,17 +1,13 @@
-use Rattle.langtag_keyword.proofs.Common.{◌++◌, [], sym, subst, ◌∙◌, rules, flat_map, HasText, pushes_both, extension_flat, private_part_flat, with_changed_u, to_variants}
-use Rattle.langtag_keyword.specs.EditText.{edited_by, value_subtags}
-use Rattle.langtag_keyword.proofs.KeywordLaws.{edited_joined}
+use Rattle.langtag_keyword.specs.Edit.{edited_record}
+use Rattle.langtag_keyword.proofs.Common.{sym, ◌∙◌, rules, with_changed_u}
+use Rattle.langtag_keyword.specs.EditText.{edited_by}
+use Rattle.langtag_keyword.proofs.KeywordLaws.{parts_put}
 use Rattle.langtag_unicode.proofs.keyword_setters.put_parts.Goals as goal
 
 pub returns : goal.returns
+unfolding edited_record
 returns c = λ r spells.
-    let pushed =
-    let extensions = flat_map extension_flat (with_changed_u (edited_by c.args.edit) r.extensions) in
-    let private_use = private_part_flat r.private_use in
-    pushes_both (to_variants r) (extensions ++ private_use) _ _ _ (c.push_head.ensures r spells)
-    (pushes_both extensions private_use _ _ _
-    (c.push_edited.ensures r.extensions (record { members = spells.0.extensions; joined = sym (c.extensions.ensures.part r spells) }))
-    (c.push_private_use.ensures r.private_use (c.private_use.ensures.part r spells))) in
-    let has =
-    subst (HasText _ c.push_private_use.new.out) (edited_joined c.args.edit.key.now (value_subtags c.args.edit) r spells.0) (pushed _ [] c.new-out.ensures) in
+    let these = c.push_edited.ensures r.extensions (record { members = spells.0.extensions; joined = sym (c.extensions.ensures.part r spells) }) in
+    let private_use = c.push_private_use.ensures r.private_use (c.private_use.ensures.part r spells) in
+    let has = parts_put r spells.0 (with_changed_u (edited_by c.args.edit) r.extensions) _ _ _ _ (c.push_head.ensures r spells) these private_use _ c.new-out.ensures in
     record { counted = c.len.ensures ∙ has.counted; written = λ fits. search (rules, has.same_buffer, has.written fits) }
