@@ -11,7 +11,7 @@ import shutil
 import subprocess
 import sys
 
-from items import CRATES, ROOT, File, file_of, words_of
+from items import CRATES, ROOT, File, file_of, origin_of, page_of, words_of
 
 RECORD, SHOWN = ROOT / ".ci/wrong_bodies.txt", ROOT / ".ci/shown.txt"
 HEAD = """# A line for each wrong body: its name | a hash, and how it was refused | a hash, and what shows that it is wrong (.ci/edits.py).
@@ -132,11 +132,8 @@ def definitions(items):
 
 
 def pages_for(path):
-    """Returns the page that a path names. A page that only passes names on stands for the page with the definition."""
-    for page in PAGE.findall(path)[:1]:
-        passed = {} if defined_words(*page) else dict(origins(text_of(*page)))
-        return pages_for(passed[name]) if (name := path.rpartition(".")[2]) in passed else [page]
-    return []
+    """Returns the page that a path names."""
+    return PAGE.findall(origin_of(path))[:1]
 
 
 @functools.cache
@@ -162,13 +159,9 @@ def declared_items(crate, name):
 
 @functools.cache
 def text_of(crate, declared, name):
-    """Returns the text of a page of definitions, which may be of another crate, or of a source that declares types."""
-    paths = [CRATES / crate / "specs" / f"{name}.antt", *(CRATES / crate / "src").glob(f"**/{name}.rt")]
-    if found := next((path for path in paths[bool(declared) :] if path.is_file()), None):
-        return found.read_text()
-    lib = CRATES / crate / "specs/Lib.antt"
-    passed = lib.is_file() and re.search(rf"(?m)^pub use Rattle\.(\w+)\.specs\.{name}$", lib.read_text())
-    return text_of(passed[1], declared, name) if passed else ""
+    """Returns the text of a page of definitions, or of a source that declares types."""
+    found = next((CRATES / crate / "src").glob(f"**/{name}.rt"), None) if declared else page_of(crate, name)
+    return found.read_text() if found and found.is_file() else ""
 
 
 @functools.cache

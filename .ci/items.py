@@ -90,9 +90,17 @@ class Item:
 
 
 @functools.cache
+def page_of(crate, page):
+    """Returns the path of a page of definitions, which the crate may pass on from another."""
+    path, lib = (CRATES / crate / "specs" / f"{name}.antt" for name in (page, "Lib"))
+    further = re.search(rf"(?m)^pub use Rattle\.(\w+)\.specs\.{page}$", lib.read_text()) if lib.exists() and not path.exists() else None
+    return page_of(further[1], page) if further else path
+
+
+@functools.cache
 def passed_on(crate, page):
     """Returns the page from which each name comes that a page of definitions passes on."""
-    path = CRATES / crate / "specs" / f"{page}.antt"
+    path = page_of(crate, page)
     uses = re.findall(r"^(?:unfoldable )?pub use ([\w.]+)\.\{(.*)\}$", path.read_text(), re.M) if path.exists() else []
     return {name: source for source, names in uses for name in names.split(", ")}
 
