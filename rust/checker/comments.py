@@ -53,7 +53,6 @@ class Doc:
 
 
 def words_in(text):
-    text = re.sub(r"\btry_(from_parts|lenient)\b", r"\1", " ".join(text.split()))
     text = re.sub(rf"\[({SECTION}|`[\w:]+`)\]", r"\1", PATH.sub("", text))
     return re.sub(r"\balloc, |, alloc\b(?=\))|(?<=\()alloc(?=\))", "", text).split()
 
@@ -77,7 +76,7 @@ def docs_of(text, counted):
 def comment_of(line):
     """Returns the text of a `//` comment, which is not within a string."""
     found = re.match(r"""(?:"(?:\\.|[^"\\])*"|b?'(?:\\.[^']*|[^'\\])'|[^"/]|/(?!/))*//(?![/!])(.*)""", line)
-    return found and found[1].strip()
+    return found and found[1]
 
 
 def compare_comments(source, module):

@@ -9,8 +9,8 @@ class Difference(Exception):
 def compare(old, new, kinds, counts):
     """Goes through both lists, and raises a Difference if they differ in a way that is not a known kind."""
     at, to = 0, 0
-    while at < len(old) or to < len(new):
-        if at < len(old) and to < len(new) and old[at] == new[to]:
+    while (at, to) != (len(old), len(new)):
+        if old[at : at + 1] == new[to : to + 1]:
             at, to = at + 1, to + 1
             continue
         for kind in kinds:
