@@ -73,9 +73,9 @@ def without_imports(words):
     out, items, at = [], set(), 0
     while at < len(words):
         start = at
-        if words[at] == "pub" and (out[-1:] or [";"])[0] in (";", "]", "}"):
+        if words[at] == "pub":
             at = group_end(words, at + 1) if words[at + 1] == "(" else at + 1
-        if words[at] in ("use", "mod") and (words[start] == "pub" or (out[-1:] or [";"])[0] in (";", "]", "}")):
+        if words[at] in ("use", "mod") and (not out or out[-1] in (";", "}")):
             end = words.index(";", at)
             items |= set(paths_of("".join(words[start:at]), words[at], words[at + 1 : end]))
             at = end + 1
@@ -87,8 +87,6 @@ def without_imports(words):
 
 def paths_of(visibility, keyword, words):
     """Yields each path of an item: `use a::{b, c}` has two."""
-    text = "".join(f" {word} " if word == "as" else word for word in words)
-    root, brace, names = text.partition("{")
-    for name in names.rstrip("}").split(",") if brace else [""]:
-        if name or not brace:
-            yield f"{visibility} {keyword} {root}{name}".strip()
+    root, _, names = "".join(words).partition("{")
+    for name in names.rstrip(",}").split(","):
+        yield f"{visibility} {keyword} {root}{name}".strip()
