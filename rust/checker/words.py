@@ -2,7 +2,7 @@
 import re
 
 WORD = re.compile(
-    r"""//[^\n]*|/\*.*?\*/|b?r(\#*)".*?"\1|b?"(?:\\.|[^"\\])*"|b?'(?:\\x..|\\u\{\w+\}|\\.|[^\\'\n])'|'\w+|\w+|\S""",
+    r"""//[^\n]*|b?r(\#*)".*?"\1|b?"(?:\\.|[^"\\])*"|b?'(?:\\x..|\\u\{\w+\}|\\.|[^\\'\n])'|'\w+|\w+|\S""",
     re.DOTALL | re.VERBOSE,
 )
 OPENED_BY = {")": "(", "]": "[", "}": "{"}
@@ -18,7 +18,7 @@ def words_of(text):
     words, line, at = [], 1, 0
     for found in WORD.finditer(text):
         line, at = line + text.count("\n", at, found.start()), found.start()
-        if not found[0].startswith(("//", "/*")):
+        if not found[0].startswith("//"):
             words.append(Word(found[0]))
             words[-1].line = line
     return words
