@@ -27,7 +27,7 @@ WRONG = {
     "from_checked is public": ("erased/place/script.rs", "pub(crate) const fn from_checked", "pub const fn from_checked"),
     "a message is another": ("erased/place/variant.rs", '"invalid variant"', '"invalid variant "'),
     "a message has another variant": ("erased/registry/invalid_subtag.rs", "InvalidSubtag::Script(value)", "InvalidSubtag::Region(value)"),
-    "a type is compared by derives": ("erased/tag/lang_tag.rs", "by_text!(LangTag<'_>);", ""),
+    "a type is compared as another": ("erased/tag/lang_tag.rs", "by_text!(LangTag<'_>);", "by_text!(NormalLangTag<'_>);"),
     "a derive is lost": ("erased/place/script.rs", "PartialOrd, Ord, Hash)]\npub struct Script<", "PartialOrd, Ord)]\npub struct Script<"),
     "a derive is added": ("erased/place/script.rs", "PartialOrd, Ord, Hash)]\npub struct Script<", "PartialOrd, Ord, Hash, Default)]\npub struct Script<"),
     "an import is public": ("erased/place/script.rs", "use crate::erased::scan::{is_script,", "pub use crate::erased::scan::{is_script,"),
