@@ -40,9 +40,8 @@ class Checker:
                 names.remove(LAWS)
                 self.faults += faults_of_laws(self.sources / crate / "src" / f"{LAWS}.rt", self.ghosts)
             folder = self.modules / ELSEWHERE.get(crate, MADE) / module
-            for path in folder.iterdir():
-                if path.suffix != ".rs" or path.stem not in names:
-                    self.faults.append(f"{path.relative_to(self.modules)}: no source has this file")
+            for path in set(folder.iterdir()) - {folder / f"{name}.rs" for name in names}:
+                self.faults.append(f"{path.relative_to(self.modules)}: no source has this file")
             for name in sorted(names):
                 source = self.sources / crate / "src" / ("lib.rt" if name == "mod" else name + ".rt")
                 yield crate, source, folder / (name + ".rs")

@@ -9,8 +9,8 @@ class Difference(Exception):
 def compare(old, new, kinds, counts):
     """Goes through both lists, and raises a Difference if they differ in a way that is not a known kind."""
     at, to = 0, 0
-    while at < len(old) or to < len(new):
-        if at < len(old) and to < len(new) and old[at] == new[to]:
+    while (at, to) != (len(old), len(new)):
+        if old[at : at + 1] == new[to : to + 1]:
             at, to = at + 1, to + 1
             continue
         for kind in kinds:
@@ -41,18 +41,16 @@ def step(kind, old, at, new, to, kinds, counts):
 def match(form, words, at):
     """Returns where a form that begins here ends, and the words that its variables stand for."""
     found, place_in_form = {}, 0
-    if at < 0:
-        return None
     while place_in_form < len(form):
         if form[place_in_form] == "$":
             try:
                 end = skip_to(words, at, (form[place_in_form + 2],))
             except (IndexError, ValueError):
                 return None
-            if found.setdefault(str(form[place_in_form + 1]), words[at:end]) != words[at:end]:
+            if found.setdefault(form[place_in_form + 1], words[at:end]) != words[at:end]:
                 return None
             at, place_in_form = end, place_in_form + 2
-        elif at < len(words) and words[at] == form[place_in_form]:
+        elif words[at : at + 1] == form[place_in_form : place_in_form + 1]:
             at, place_in_form = at + 1, place_in_form + 1
         else:
             return None

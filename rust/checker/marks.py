@@ -1,36 +1,32 @@
 """Removes the attributes that the eraser adds, and the imports, which are compared separately from the code."""
 from words import OPENED_BY, group_end, starts, words_of
 
-INLINE = words_of("#[inline]")
-USED = words_of("#[must_use]")
+MARKS = {tuple(words_of("#[inline]")): "inline", tuple(words_of("#[must_use]")): "must use"}
 GROWING = words_of("#[non_exhaustive]")
 DERIVED = {"Clone", "Copy", "PartialEq", "Eq", "Hash"}
 FEATURE = words_of('#[cfg(feature = "alloc")]')
-BEFORE_ITEMS = ("pub", "fn", "struct", "enum", "impl", "use", "mod", "const", "type", "trait", "static", "by_text", "shown", "#", "unsafe")
 
 
 def without_marks(words, counts):
-    """Removes `#[inline]` before a function, and `#[cfg(feature = "alloc")]` before an item or a method."""
+    """Removes `#[inline]` and `#[must_use]` before a function, and `#[cfg(feature = "alloc")]` before an item or a method."""
     kept, at, opened = [], 0, []
     while at < len(words):
-        if starts(words, at, *INLINE) and is_function(words, at + len(INLINE)):
-            counts["inline"] += 1
-            at += len(INLINE)
-        elif starts(words, at, *USED) and is_function(words, at + len(USED)):
-            counts["must use"] += 1
-            at += len(USED)
-        elif starts(words, at, *GROWING) and starts(words, at + len(GROWING), "pub") and words[at + len(GROWING) + 1] in ("struct", "enum"):
+        mark = tuple(words[at : at + 4])
+        if mark in MARKS and is_function(words, at + len(mark)):
+            counts[MARKS[mark]] += 1
+            at += len(mark)
+        elif starts(words, at, *GROWING) and words[at + len(GROWING)] == "pub":
             counts["non-exhaustive"] += 1
             at += len(GROWING)
         elif starts(words, at, "const", "fn"):
             counts["const"] += 1
             at += 1
-        elif starts(words, at, *FEATURE) and words[at + len(FEATURE)] in BEFORE_ITEMS and all(opened):
+        elif starts(words, at, *FEATURE) and all(opened):
             counts["feature"] += 1
             at += len(FEATURE)
         else:
             if words[at] in OPENED_BY.values():
-                opened.append(words[at] == "{" and opens_impl(kept))
+                opened.append(opens_impl(kept))
             elif words[at] in OPENED_BY:
                 opened.pop()
             kept.append(words[at])
@@ -56,25 +52,20 @@ def derives(words):
         if starts(words, at, "#", "[", "derive"):
             end = group_end(words, at + 1)
             item = next(place for place in range(end, len(words)) if words[place] in ("struct", "enum"))
-            yield words[item + 1], [place for place in range(at + 4, end - 2) if words[place] != ","]
+            yield words[item + 1], range(at + 4, end - 2)
 
 
 def is_function(words, at):
-    while starts(words, at, *INLINE) or starts(words, at, *USED):
-        at += len(INLINE)
-    while words[at] in ("pub", "const", "unsafe", "(", "crate", ")"):
+    while tuple(words[at : at + 4]) in MARKS:
+        at += 4
+    while words[at] in ("pub", "const", "(", "crate", ")"):
         at += 1
     return words[at] == "fn"
 
 
 def opens_impl(kept):
-    """Returns whether the next brace opens an impl or a trait."""
-    at = len(kept) - 1
-    while at >= 0 and kept[at] not in (";", "{", "}"):
-        if kept[at] in ("impl", "trait"):
-            return at == 0 or kept[at - 1] in (";", "{", "}", "]", "pub", ")")
-        at -= 1
-    return False
+    """Returns whether the next brace opens an impl."""
+    return next((word for word in reversed(kept) if word in ("impl", "{")), None) == "impl"
 
 
 def without_imports(words):
@@ -82,9 +73,9 @@ def without_imports(words):
     out, items, at = [], set(), 0
     while at < len(words):
         start = at
-        if words[at] == "pub" and (out[-1:] or [";"])[0] in (";", "]", "}"):
+        if words[at] == "pub":
             at = group_end(words, at + 1) if words[at + 1] == "(" else at + 1
-        if words[at] in ("use", "mod") and (words[start] == "pub" or (out[-1:] or [";"])[0] in (";", "]", "}")):
+        if words[at] in ("use", "mod") and (not out or out[-1] in (";", "}")):
             end = words.index(";", at)
             items |= set(paths_of("".join(words[start:at]), words[at], words[at + 1 : end]))
             at = end + 1
@@ -96,8 +87,6 @@ def without_imports(words):
 
 def paths_of(visibility, keyword, words):
     """Yields each path of an item: `use a::{b, c}` has two."""
-    text = "".join(f" {word} " if word == "as" else word for word in words)
-    root, brace, names = text.partition("{")
-    for name in names.rstrip("}").split(",") if brace else [""]:
-        if name or not brace:
-            yield f"{visibility} {keyword} {root}{name}".strip()
+    root, _, names = "".join(words).partition("{")
+    for name in names.rstrip(",}").split(","):
+        yield f"{visibility} {keyword} {root}{name}".strip()

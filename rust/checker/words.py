@@ -2,7 +2,7 @@
 import re
 
 WORD = re.compile(
-    r"""//[^\n]*|/\*.*?\*/|b?r(\#*)".*?"\1|b?"(?:\\.|[^"\\])*"|b?'(?:\\x..|\\u\{\w+\}|\\.|[^\\'\n])'|'\w+|\w+|\S""",
+    r"""//[^\n]*|b?r(\#*)".*?"\1|b?"(?:\\.|[^"\\])*"|b?'(?:\\x..|\\u\{\w+\}|\\.|[^\\'\n])'|'\w+|\w+|\S""",
     re.DOTALL | re.VERBOSE,
 )
 OPENED_BY = {")": "(", "]": "[", "}": "{"}
@@ -18,21 +18,18 @@ def words_of(text):
     words, line, at = [], 1, 0
     for found in WORD.finditer(text):
         line, at = line + text.count("\n", at, found.start()), found.start()
-        if not found[0].startswith(("//", "/*")):
+        if not found[0].startswith("//"):
             words.append(Word(found[0]))
             words[-1].line = line
     return words
 
 
 def group_end(words, at):
-    """Returns the place after the group that opens here."""
-    opened = []
+    """Returns the place after the group that opens here, or after this word if none opens."""
+    depth = 0
     for place in range(at, len(words)):
-        if words[place] in OPENED_BY.values():
-            opened.append(words[place])
-        elif words[place] in OPENED_BY and opened.pop() != OPENED_BY[words[place]]:
-            break
-        if not opened:
+        depth += (words[place] in OPENED_BY.values()) - (words[place] in OPENED_BY)
+        if depth <= 0:
             return place + 1
     raise ValueError(f"line {words[at].line}: a group that does not end")
 
@@ -40,7 +37,7 @@ def group_end(words, at):
 def skip_to(words, at, wanted):
     """Returns the first place from here on, outside of all groups, that has one of these words."""
     while words[at] not in wanted:
-        at = group_end(words, at) if words[at] in OPENED_BY.values() else at + 1
+        at = group_end(words, at)
     return at
 
 
@@ -66,25 +63,12 @@ def without_last_commas(words):
 
 
 def without_arm_braces(words):
-    """Removes the braces around a single expression of an arm, `=> { a }`, since they are layout."""
+    """Removes the braces around the body of an arm, `=> { a }`, since they are layout if it is a single expression."""
     for at in range(len(words) - 3, -1, -1):
         if starts(words, at, "=", ">", "{"):
             end = group_end(words, at + 2)
-            inner = words[at + 3 : end - 1]
-            if inner and not has_statement(inner):
-                comma = [] if words[end : end + 1] == [","] else [","]
-                words = words[: at + 2] + inner + comma + words[end:]
+            words = words[: at + 2] + words[at + 3 : end - 1] + [","] + words[end:]
     return words
-
-
-def has_statement(words):
-    """Returns whether there is a `;` outside of all groups."""
-    at = 0
-    while at < len(words):
-        if words[at] == ";":
-            return True
-        at = group_end(words, at) if words[at] in OPENED_BY.values() else at + 1
-    return False
 
 
 def without_layout(words):
