@@ -28,7 +28,7 @@ SQUARES = {(name, shape): most for names, shapes, most in (
     ("best_for_header", "refused", 4.4),
 ) for name in names.split() for shape in shapes.split()}
 # The millions of instructions of a choice for 8 kB of a header that names one range again and again, by the number of tags.
-CHOICES = {"best_of_list": {"40": 16, "1000": 320}, "best_of_site": {"40": 5, "1000": 60}}
+CHOICES = {"best_of_list": {"40": 18, "1000": 340}, "best_of_site": {"40": 6, "1000": 60}}
 # The functions that a header declares.
 DECLARED = re.compile(r'\blangtag_(\w+)\([^;{]*\);')
 # By function and shape, the instructions by the times of the text, or by the number of tags.
