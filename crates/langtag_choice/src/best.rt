@@ -135,6 +135,7 @@ pub fn match_among<'a, R: RangeList<'a>, T: TagList>(ranges: R, tags: &T) -> Opt
     ensures choice { spec.IsChoice (R.elements ranges) (T.texts tags.now) (option_map (λ found. found.index) result) }
 {
     let found = best(ranges, tags)?;
+    // What is known of the candidate's range is how it is read, so the list is asked how it is written.
     let range = range_at(ranges, found.rank.place)?;
     Some(match_of(found, range))
 }

@@ -139,6 +139,7 @@ pub fn match_for_header<'a>(header: &'a [u8], tags: &[LangTag<'_>]) -> Option<Be
 #[must_use]
 pub fn match_among<'a, R: RangeList<'a>, T: TagList>(ranges: R, tags: &T) -> Option<BestMatch<'a>> {
     let found = best(ranges, tags)?;
+    // What is known of the candidate's range is how it is read, so the list is asked how it is written.
     let range = range_at(ranges, found.rank.place)?;
     Some(match_of(found, range))
 }
