@@ -1,12 +1,12 @@
 -- The distance of texts, and what it is made of, do not change with the case of letters.
-use Rattle.langtag_scan.proofs.Prelude.{◌≡◌, ℕ, ◌==◌, ◌&&◌, cond, List, [], ◌∷◌, Option, refl, ap, ◌∙◌, arith, rules, codes, Bool, map, None, Some, option_map, sym, nat_tests, common_steps, option_map_or, unwrap_or}
+use Rattle.langtag_scan.proofs.Prelude.{◌≡◌, ℕ, ◌==◌, ◌&&◌, cond, List, [], ◌∷◌, Option, refl, ap, ◌∙◌, arith, rules, codes, Bool, map, None, Some, option_map, sym, nat_tests, common_steps, option_map_or}
 use Rattle.langtag_scan.specs.Grammar.{Alike, are_alike, fold_byte, fold_text, are_alike-decides, is_primary, is_extended, is_script, is_region, subtags}
 use Rattle.langtag_scan.proofs.CaseLaw.{fold_byte-twice, fold_text-twice, length-fold, classes-fold, subtags-fold}
-use Rattle.langtag_range.specs.Definitions.{basic_text, hyphened}
+use Rattle.langtag_range.specs.Definitions.{basic_text}
 use Rattle.langtag_range.proofs.AlikeTexts.{hyphened-fold, is_star-fold}
 use Rattle.langtag_range.proofs.BasicForms.{basic_text-alike}
-use Rattle.langtag_cldr.specs.Definitions.{current_text, known, without_region, without_language, most_unknown, most_likely, completed, matching_form, replaced_form, text_fields, fields_of_subtags, counted, last_language, is_extended_by, language_of, after_mark, first_marked, marked_region, region_after, or_other, after_language, script_of, after_script, region_of}
-use Rattle.langtag_fields.specs.Fields.{is_prefix_of, preferred_tag}
+use Rattle.langtag_cldr.specs.Definitions.{current_text, known, without_region, without_language, most_unknown, most_likely, completed, matching_form, replaced_form, text_fields, fields_of_subtags, counted, last_language, is_extended_by, language_of, after_mark, marked_region, region_after, or_other, after_language, script_of, after_script, region_of}
+use Rattle.langtag_fields.specs.Fields.{is_prefix_of}
 use Rattle.langtag_fields.proofs.Values.{preferred_tag-alike}
 use Rattle.langtag_text.specs.Fields.{Fields}
 use Rattle.langtag_cldr.proofs.AlikeFields.{AlikeOptions, form_completed, fields-right, alone_alike, added-alike, is_prefix_of-alike, by_options, language-alike, letters-alike, suffices-alike}
@@ -43,10 +43,6 @@ among-alike : (words : List (List ℕ)) (a b : List ℕ) → Alike a b → is_am
 among-alike [] a b h = refl
 among-alike (word ∷ words) a b h = rw (are_alike-right word a b h, among-alike words a b h) refl
 
-scripts-alike : (a b c d : Fields) → AlikeFields a b → AlikeFields c d → script_distance a c ≡ script_distance b d
-unfolding script_distance
-scripts-alike a b c d h k = grind (arith, common_steps, both-alike, distance_by-alike)
-
 regions-alike : (a b c d : Fields) → AlikeFields a b → AlikeFields c d → region_distance a c ≡ region_distance b d
 unfolding region_distance
 regions-alike a b c d h k = grind (arith, both-alike, common_steps, are_alike-right, among-alike, nat_tests)
@@ -55,8 +51,9 @@ regions-alike a b c d h k = grind (arith, both-alike, common_steps, are_alike-ri
 
 pub forms-alike :
     (a b c d : List ℕ) → Alike a b → Alike c d → (f g v w : Option Fields) → AlikeOptions f g → AlikeOptions v w → distance_of_forms a c f v ≡ distance_of_forms b d g w
-unfolding language_distance
-forms-alike a b c d h k f g v w same also = grind (arith, nat_tests, both-alike a b c d h k, distance_by-alike, alone_alike, scripts-alike, regions-alike)
+unfolding language_distance script_distance
+forms-alike a b c d h k f g v w same also =
+    grind (arith, nat_tests, common_steps, both-alike a b c d h k, distance_by-alike, alone_alike, both-alike, regions-alike)
 
 -- ---- the fields of subtags
 
@@ -95,32 +92,24 @@ language_of-fold language subtags =
     (cond-map fold_text (is_extended_by language subtags) (last_language [] subtags) (known (codes "und") language))
 
 or_other-fold : (text other : List ℕ) → or_other (fold_text text) (fold_text other) ≡ fold_text (or_other text other)
-or_other-fold [] other = refl
-or_other-fold (b ∷ text) other = refl
+or_other-fold text other = grind (arith, nat_tests, common_steps)
 
 after_mark-fold : (subtag : List ℕ) → after_mark (fold_text subtag) ≡ fold_text (after_mark subtag)
 after_mark-fold [] = refl
 after_mark-fold (mark ∷ region) =
     rw (fold_byte-twice mark, ap (λ c. c.region) (classes-fold region)) (cond-map fold_text ((fold_byte mark == 114) && is_region region) region [])
 
-first_marked-fold : (subtags : List (List ℕ)) → first_marked (map fold_text subtags) ≡ fold_text (first_marked subtags)
-first_marked-fold [] = refl
-first_marked-fold (s ∷ others) = after_mark-fold s
-
 marked_region-fold : (language : List ℕ) (subtags : List (List ℕ)) → marked_region (fold_text language) (map fold_text subtags) ≡ fold_text (marked_region language subtags)
-marked_region-fold language subtags =
-    rw (is_extended_by-fold language subtags, first_marked-fold subtags) (cond-map fold_text (is_extended_by language subtags) [] (first_marked subtags))
+marked_region-fold language subtags = grind (arith, nat_tests, common_steps, is_extended_by-fold, after_mark-fold, cond-map)
 
 region_after-fold : (language : List ℕ) (subtags : List (List ℕ)) → region_after (fold_text language) (map fold_text subtags) ≡ fold_text (region_after language subtags)
 region_after-fold language subtags =
-    let l = after_language subtags in
-    rw (after_language-fold subtags, after_script-fold l, region_of-fold (after_script l), marked_region-fold language subtags)
-    (or_other-fold (region_of (after_script l)) (marked_region language subtags))
+    grind (arith, common_steps, after_language-fold, after_script-fold, region_of-fold, marked_region-fold, or_other-fold)
 
 abbrev fold_fields : Fields → Fields
 fold_fields f = record { language = fold_text f.language; script = fold_text f.script; region = fold_text f.region }
 
-counted-fold : (subtags : List (List ℕ)) → counted (map fold_text subtags) ≡ map fold_text (counted subtags)
+pub counted-fold : (subtags : List (List ℕ)) → counted (map fold_text subtags) ≡ map fold_text (counted subtags)
 counted-fold [] = refl
 counted-fold (s ∷ others) = grind (arith, common_steps, is_star-fold, length-fold, cond-map, counted-fold others)
 
@@ -141,11 +130,8 @@ text_fields-fold text = ap fields_of_subtags (subtags-fold text) ∙ fields_of_s
 
 current_text-alike : (a b : List ℕ) → Alike a b → Alike (current_text a) (current_text b)
 current_text-alike a b alike =
-    ap (λ o. fold_text (unwrap_or o (hyphened a))) (preferred_tag-alike (basic_text a) (basic_text b) (basic_text-alike a b alike)) ∙ by_option (preferred_tag (basic_text b))
-  where
-    by_option : (o : Option (List ℕ)) → Alike (unwrap_or o (hyphened a)) (unwrap_or o (hyphened b))
-    by_option None = sym (hyphened-fold a) ∙ ap hyphened alike ∙ hyphened-fold b
-    by_option (Some new) = refl
+    let same = preferred_tag-alike (basic_text a) (basic_text b) (basic_text-alike a b alike) in
+    grind (arith, common_steps, same, hyphened-fold)
 
 pub replaced_form-alike : (a b : List ℕ) → Alike a b → AlikeOptions (replaced_form a) (replaced_form b)
 unfolding replaced_form

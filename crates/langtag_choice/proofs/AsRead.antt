@@ -1,16 +1,16 @@
 -- A range and a tag behind their first subtags, and languages as they are read.
-use Rattle.langtag_scan.proofs.Prelude.{◌≡◌, ℕ, Bool, true, false, not, ◌==◌, ◌≤◌, ◌-◌, ◌&&◌, cond, List, [], ◌∷◌, ◌++◌, length, take, drop, get_or, refl, sym, ap, subst, and_parts, eqb-true, not-true, ◌∙◌, arith, nat_tests, common_steps, before_first, take_while-cons, option_map_or, drop-append_seam, drop-map, take_all, length-drop, length-take, position_or_len, filter}
+use Rattle.langtag_scan.proofs.Prelude.{◌≡◌, ℕ, Bool, true, false, not, ◌==◌, ◌≤◌, ◌-◌, ◌&&◌, cond, List, [], ◌∷◌, ◌++◌, length, take, drop, get_or, refl, sym, ap, subst, and_parts, eqb-true, not-true, ◌∙◌, arith, nat_tests, common_steps, before_first, take_while-cons, option_map_or, drop-append_seam, drop-map, length-take, position_or_len}
 use Rattle.langtag_scan.specs.Grammar.{Alike, are_alike-decides, fold_text, subtags, is_hyphen}
 use Rattle.langtag_scan.proofs.CaseLaw.{hyphen-fold, length-fold}
-use Rattle.langtag_range.specs.Definitions.{are_extended_range, basic_form, basic_text, hyphened, ends_subtag, is_language_range, is_separator}
+use Rattle.langtag_range.specs.Definitions.{basic_form, basic_text, hyphened, ends_subtag, is_language_range, is_separator}
 use Rattle.langtag_range.proofs.AlikeTexts.{before_first-fold}
-use Rattle.langtag_range.proofs.BasicForms.{basic_of, is_plain, IsBasicOf}
 use Rattle.langtag_range.proofs.WantedTexts.{cut_or_whole}
 use Rattle.langtag_text.specs.Fields.{Fields}
 use Rattle.langtag_cldr.proofs.AlikeFields.{by_options}
-use Rattle.langtag_cldr.proofs.CommonTexts.{read_byte}
+use Rattle.langtag_cldr.proofs.CommonTexts.{read_byte, rest_of, unmarked}
 use Rattle.langtag_text.proofs.Alike.{AlikeFields}
 use Rattle.langtag_choice.proofs.AlikeDistances.{both-alike, replaced_form-alike}
+use Rattle.langtag_choice.proofs.FarTags.{read_subtags}
 use Rattle.langtag_choice.specs.AsRead.{alone_or, are_two_codes, behind_first, first_subtag, language_read}
 
 -- ---- the first subtag of a range, in which "_" is read as "-"
@@ -18,9 +18,6 @@ use Rattle.langtag_choice.specs.AsRead.{alone_or, are_two_codes, behind_first, f
 -- the bytes before the first mark
 abbrev before_mark : List ℕ → List ℕ
 before_mark text = before_first is_separator text
-
-unmarked : (b : ℕ) (text : List ℕ) → is_separator b ≡ false → before_mark (b ∷ text) ≡ b ∷ before_mark text
-unmarked b text is = take_while-cons (λ b. not (is_separator b)) b text ∙ ap (λ s. cond (not s) (b ∷ before_mark text) []) is
 
 marked : (b : ℕ) (text : List ℕ) → is_separator b ≡ true → before_mark (b ∷ text) ≡ []
 marked b text is = take_while-cons (λ b. not (is_separator b)) b text ∙ ap (λ s. cond (not s) (b ∷ before_mark text) []) is
@@ -34,20 +31,16 @@ first_hyphened [] = refl
 first_hyphened (b ∷ text) = grind (arith, nat_tests, first_cons, unmarked b text, marked b text, first_hyphened text)
 
 -- the first of the subtags is the first subtag
-first_of_subtags : (text first : List ℕ) (others : List (List ℕ)) → subtags text ≡ first ∷ others → first_subtag text ≡ first
-first_of_subtags [] first others is = absurd cc
-first_of_subtags (b ∷ text) first others is = grind (arith, cut_or_whole is_hyphen (b ∷ text))
+first_of_subtags : (text : List ℕ) → first_subtag text ≡ get_or (subtags text) 0 []
+first_of_subtags [] = refl
+first_of_subtags (b ∷ text) = grind (arith, cut_or_whole is_hyphen (b ∷ text))
 
 -- each "-*" that is left out of a range stands behind its first subtag
 pub first_read : (range : List ℕ) → is_language_range (hyphened range) ≡ true → before_mark range ≡ first_subtag (basic_text range)
 unfolding basic_text
-first_read range is = by_subtags (subtags (hyphened range)) refl is (basic_of (hyphened range) is)
-  where
-    by_subtags : (ss : List (List ℕ)) → subtags (hyphened range) ≡ ss → are_extended_range ss ≡ true → IsBasicOf (hyphened range) (basic_form (hyphened range)) → before_mark range ≡ first_subtag (basic_form (hyphened range))
-    by_subtags [] are in_class basic = absurd cc
-    by_subtags (first ∷ others) are in_class basic =
-        sym (first_hyphened range) ∙ first_of_subtags (hyphened range) first others are
-        ∙ sym (first_of_subtags (basic_form (hyphened range)) first (filter is_plain others) (basic.subtags first others are))
+first_read range is =
+    let same = read_subtags (λ ss. get_or ss 0 []) (λ first others. refl) (hyphened range) is in
+    cc (first_hyphened range, first_of_subtags (hyphened range), same, first_of_subtags (basic_form (hyphened range)))
 
 -- ---- what follows it
 
@@ -56,16 +49,6 @@ read_from : (range : List ℕ) → basic_text range ≡ before_mark range ++ bas
 read_from [] = refl
 read_from (b ∷ range) = grind (arith, nat_tests, common_steps, read_byte b range, unmarked b range, marked b range, read_from range)
 
--- what follows the first subtag is read alone
-pub behind_read : (range : List ℕ) → is_language_range (hyphened range) ≡ true → basic_text (drop (length (before_mark range)) range) ≡ behind_first (basic_text range)
-behind_read range is =
-    sym (drop-append_seam (before_mark range) (basic_text (drop (length (before_mark range)) range)))
-    ∙ ap (drop (length (before_mark range))) (sym (read_from range)) ∙ ap (λ first. drop (length first) (basic_text range)) (first_read range is)
-
--- the rest of a text as a slice has it
-rest_of : (n : ℕ) (text : List ℕ) → take (length text - n) (drop n text) ≡ drop n text
-rest_of n text = take_all (length text - n) (drop n text) (omega (arith, length-drop n text))
-
 -- what stands before a mark is no longer than the text
 pub first_within : (p : ℕ → Bool) (text : List ℕ) → length (before_first p text) ≤ length text
 first_within p text = omega (arith, length-take (position_or_len p text) text)
@@ -73,7 +56,7 @@ first_within p text = omega (arith, length-take (position_or_len p text) text)
 pub range_split :
     (range first : List ℕ) → first ≡ before_mark range → is_language_range (hyphened range) ≡ true →
     basic_text (take (length range - length first) (drop (length first) range)) ≡ behind_first (basic_text range)
-range_split range first same is = rw same (ap basic_text (rest_of (length (before_mark range)) range) ∙ behind_read range is)
+range_split range first same is = grind (arith, nat_tests, common_steps, rest_of, drop-append_seam, read_from, first_read)
 
 pub tag_split : (tag first : List ℕ) → first ≡ first_subtag tag → take (length tag - length first) (drop (length first) tag) ≡ behind_first tag
 tag_split tag first same = rw same (rest_of (length (first_subtag tag)) tag)
@@ -86,15 +69,13 @@ alike_codes a b alike = grind (arith, nat_tests, are_alike-decides a b)
 
 -- nothing stands before a mark at the start
 ends_marked : (rest : List ℕ) → ends_subtag rest ≡ true → (before_mark rest ≡ []) × (first_subtag rest ≡ [])
-ends_marked [] ends = (refl, refl)
-ends_marked (b ∷ rest) ends = grind (arith, nat_tests, marked b rest, first_cons b rest)
+ends_marked rest ends = grind (arith, nat_tests, common_steps, marked, first_cons)
 
 -- two bytes before an end or a mark are the first subtag
 two_first :
     (a b : ℕ) (rest : List ℕ) → is_separator a ≡ false → is_separator b ≡ false → ends_subtag rest ≡ true →
     (before_mark (a ∷ b ∷ rest) ≡ a ∷ b ∷ []) × (first_subtag (a ∷ b ∷ rest) ≡ a ∷ b ∷ [])
-two_first a b rest first second ends =
-    (unmarked a (b ∷ rest) first ∙ ap (λ t. a ∷ t) (unmarked b rest second ∙ ap (λ t. b ∷ t) (ends_marked rest ends).0), grind (arith, nat_tests, first_cons, ends_marked rest ends))
+two_first a b rest first second ends = grind (arith, nat_tests, common_steps, unmarked, ends_marked, first_cons)
 
 -- what equal bytes that are no separators say
 pair_parts :

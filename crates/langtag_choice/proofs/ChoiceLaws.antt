@@ -1,11 +1,10 @@
 -- The choice is the only one, answers lookup, is the tag that is equal, and does not change with the case of letters.
-use Rattle.langtag_scan.proofs.Prelude.{◌≡◌, ℕ, true, List, get_or, Option, Some, None, option_map, ap, refl, sym, subst, ◌∙◌, ◌-◌, ◌==◌, ◌≤◌, false, nat_lt, arith, Ordering, Less, Equal, Greater, inl, inr, ◌<◌, cond, not, [], ◌∷◌, ◌++◌, length, map, filter, All, eq-eqb, IsTrue, length-take, Bool, slice_get, take-append_seam, drop-append_seam, take-length, eqb_tells, nat_tests, and_parts, ltb-false, nat_list_cmp_total, common_steps, All-cons, All-nil, length-map, take-map, drop-map, slice_get-map, bytes_decides, slice_cmp, is_eq, nat_cmp, ordering_reverse}
+use Rattle.langtag_scan.proofs.Prelude.{◌≡◌, ℕ, true, List, get_or, Option, Some, None, option_map, ap, refl, sym, subst, ◌∙◌, ◌-◌, ◌==◌, ◌≤◌, false, nat_lt, arith, inl, inr, ◌<◌, cond, not, [], ◌∷◌, ◌++◌, length, map, filter, All, eq-eqb, IsTrue, length-take, Bool, slice_get, take-append_seam, drop-append_seam, take-length, eqb_tells, nat_tests, and_parts, ltb-false, nat_list_cmp_total, common_steps, All-cons, All-nil, length-map, take-map, drop-map, slice_get-map, bytes_decides}
 use Rattle.langtag_scan.specs.Grammar.{Alike, fold_byte, fold_text, are_alike, are_alike-decides}
 use Rattle.std.proofs.Math.ListN.{get_or-map}
 use Rattle.std.proofs.Math.Seq.{drop-length}
 use Rattle.std.proofs.lemmas.List.Elements.{All-append, All-filter, All-map, filter_passes}
 use Rattle.std.specs.Cmp.Lexicographic.{texts_ties}
-use Rattle.std.specs.Ordering.{is_gt}
 use Rattle.langtag_scan.proofs.CaseLaw.{hyphen-fold, fold_text-twice, length-fold}
 use Rattle.langtag_range.specs.Definitions.{Element, ends_subtag, before_hyphens, ends_in_single, fallbacks, is_star, folded, wanted_elements}
 use Rattle.langtag_range.proofs.AlikeTexts.{alike_headers, is_star-fold}
@@ -15,7 +14,7 @@ use Rattle.langtag_choice.specs.Serves.{IsAtMost, rank}
 use Rattle.langtag_choice.specs.Best.{IsChoice, Pair, rank_of_pair, is_refused, longest}
 use Rattle.langtag_choice.specs.ChoiceLaws.{IsOnlyChoice, AnswersLookUp, IsHeaviest, IsFirstAlike, AnswersEqual, IgnoresCase, IgnoresHeaderCase}
 use Rattle.langtag_choice.specs.Nearness.{kept, is_fallback, lost}
-use Rattle.langtag_choice.specs.AsRead.{behind_first, lost_as_read}
+use Rattle.langtag_choice.specs.AsRead.{lost_as_read}
 use Rattle.langtag_choice.proofs.AsRead.{behind-fold, codes-alike, first-alike, one_code}
 use Rattle.langtag_choice.proofs.VariantTexts.{lacking-fold, lacking-none}
 use Rattle.langtag_choice.proofs.AlikeDistances.{distance-none, unlikely-alike, distance-alike, both-alike}
@@ -25,12 +24,7 @@ use Rattle.langtag_choice.proofs.AlikeDistances.{distance-none, unlikely-alike, 
 -- two that are at most each other are one
 pub both_at_most : (a b : List ℕ) → IsAtMost a b → IsAtMost b a → a ≡ b
 both_at_most a b one other =
-    (bytes_decides a b).0 (texts_ties a b ∙ by_order (slice_cmp nat_cmp a b) one (sym (ap is_gt (nat_list_cmp_total.antisymm b a)) ∙ other))
-  where
-    by_order : (o : Ordering) → is_gt o ≡ false → is_gt (ordering_reverse o) ≡ false → is_eq o ≡ true
-    by_order Less one other = absurd cc
-    by_order Equal one other = refl
-    by_order Greater one other = absurd cc
+    (bytes_decides a b).0 (grind (arith, common_steps, texts_ties a b, nat_list_cmp_total.antisymm b a))
 
 module _ (elements : List Element) (tags : List (Option (List ℕ))) where
   -- pairs that are at most each other have one index
@@ -40,14 +34,13 @@ module _ (elements : List Element) (tags : List (Option (List ℕ))) where
   unfolding rank
   same_index a b one other = ap (λ ranks. get_or ranks 8 0) (both_at_most (rank_of_pair elements tags a) (rank_of_pair elements tags b) one other)
 
-  same_choice : (a b : Option ℕ) → IsChoice elements tags a → IsChoice elements tags b → b ≡ a
-  same_choice None None none also = refl
-  same_choice None (Some j) none some = absurd (none some.pair)
-  same_choice (Some i) None some none = absurd (none some.pair)
-  same_choice (Some i) (Some j) some also = grind (arith, nat_tests, same_index also.pair some.pair (also.least some.pair) (some.least also.pair))
-
+  -- so there is only one choice
   pub only_choice : (answer : Option ℕ) → IsChoice elements tags answer → IsOnlyChoice elements tags answer
-  only_choice answer is = λ other also. same_choice answer other is also
+  only_choice None none None also = refl
+  only_choice None none (Some j) some = absurd (none some.pair)
+  only_choice (Some i) some None none = absurd (none some.pair)
+  only_choice (Some i) some (Some j) also =
+      grind (arith, nat_tests, same_index also.pair some.pair (also.least some.pair) (some.least also.pair))
 
 -- ---- what a range falls back to
 
@@ -155,8 +148,8 @@ lost-fold range tag = rw (kept-fold range tag, length-fold range) refl
 lost_as_read-fold : (range tag : List ℕ) → lost_as_read (fold_text range) (fold_text tag) ≡ lost_as_read range tag
 unfolding lost_as_read
 lost_as_read-fold range tag =
-    rw (codes-alike _ _ _ _ (first-alike _ _ (fold_text-twice range)) (first-alike _ _ (fold_text-twice tag)), behind-fold range, behind-fold tag)
-    (rw (is_fallback-fold (behind_first range) (behind_first tag), length-fold (behind_first range), length-fold (behind_first tag), lost-fold range tag) refl)
+    let codes = codes-alike _ _ _ _ (first-alike _ _ (fold_text-twice range)) (first-alike _ _ (fold_text-twice tag)) in
+    grind (arith, codes, behind-fold, is_fallback-fold, length-fold, lost-fold range tag)
 
 reach-fold : (range tag : List ℕ) → reach (fold_text range) (fold_text tag) ≡ reach range tag
 unfolding reach
@@ -197,19 +190,15 @@ module _ (elements es : List Element) (tags ts : List (Option (List ℕ))) (same
   pair-alike : (pair : Pair elements tags) → IsPairAlike pair
   pair-alike pair = by_tag (at-folded (option_map fold_text) tags ts pair.index (Some pair.tag) same_tags pair.there)
     where
-      by_found : (element : Element) (tag : List ℕ) → slice_get es pair.place ≡ Some element → folded pair.element ≡ folded element → slice_get ts pair.index ≡ Some (Some tag) → fold_text pair.tag ≡ fold_text tag → IsPairAlike pair
-      by_found element tag wanted same there alike =
-          let served : serves element tag ≡ true = cc (serves-fold element tag, serves-fold pair.element pair.tag, pair.served) in
-          let free : is_refused es tag ≡ false = cc (is_refused-fold es tag, is_refused-fold elements pair.tag, pair.unrefused) in
-          let ranks : rank pair.place element pair.index tag ≡ rank pair.place pair.element pair.index pair.tag = cc (rank-fold pair.place element pair.index tag, rank-fold pair.place pair.element pair.index pair.tag) in
-          (record { place = pair.place; element = element; wanted = wanted; index = pair.index; tag = tag; there = there; served = served; unrefused = free }, refl, ranks)
-
       by_tag : (o : Option (List ℕ)) × (slice_get ts pair.index ≡ Some o) × (Some (fold_text pair.tag) ≡ option_map fold_text o) → IsPairAlike pair
       by_tag (None, there, same) = absurd cc
       by_tag (Some tag, there, same) =
-          let alike : fold_text pair.tag ≡ fold_text tag = cc in
           let at = at-folded folded elements es pair.place pair.element same_elements pair.wanted in
-          by_found at.0 tag at.1 at.2 there alike
+          let served : serves at.0 tag ≡ true = cc (serves-fold at.0 tag, serves-fold pair.element pair.tag, pair.served, at.2) in
+          let free : is_refused es tag ≡ false = cc (is_refused-fold es tag, is_refused-fold elements pair.tag, pair.unrefused) in
+          let ranks : rank pair.place at.0 pair.index tag ≡ rank pair.place pair.element pair.index pair.tag =
+          cc (rank-fold pair.place at.0 pair.index tag, rank-fold pair.place pair.element pair.index pair.tag, at.2) in
+          (record { place = pair.place; element = at.0; wanted = at.1; index = pair.index; tag = tag; there = there; served = served; unrefused = free }, refl, ranks)
 
 pub case_ignored : (elements : List Element) (tags : List (Option (List ℕ))) (answer : Option ℕ) → IsChoice elements tags answer → IgnoresCase elements tags answer
 case_ignored elements tags None none es ts same_elements same_tags = λ pair. none (pair-alike es elements ts tags (sym same_elements) (sym same_tags) pair).0

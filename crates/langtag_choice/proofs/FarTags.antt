@@ -1,5 +1,5 @@
 -- Ranges as they are read, and tags that are far from a range, as their first letters and the numbers of languages show.
-use Rattle.langtag_scan.proofs.Prelude.{◌≡◌, ℕ, true, not, ◌==◌, List, [], ◌∷◌, length, length-drop, length-take, take, drop, filter, refl, sym, ap, ◌∙◌, arith, ◌&&◌, ◌||◌, codes, Bool, false, ◌<◌, ◌≤◌, ◌+◌, ◌-◌, ◌*◌, cond, get_or, Option, Some, None, option_map, nat_tests, eqb_tells, eqb-true, inl, inr, cases_lt, ◌++◌, common_steps, and_parts, both_ways, eq-eqb, false_from_ne_true, or_cases, or_parts, not-true, ForSome, list_all, after_first, before_first, position_or_len, subst, unwrap_or}
+use Rattle.langtag_scan.proofs.Prelude.{◌≡◌, ℕ, true, not, ◌==◌, List, [], ◌∷◌, length, length-drop, length-take, take, drop, filter, refl, sym, ap, ◌∙◌, arith, ◌&&◌, ◌||◌, codes, Bool, false, ◌<◌, ◌≤◌, ◌+◌, ◌-◌, ◌*◌, cond, get_or, Option, Some, None, option_map, nat_tests, eqb_tells, eqb-true, cases_lt, ◌++◌, common_steps, and_parts, both_ways, false_from_ne_true, or_cases, or_parts, not-true, ForSome, list_all, after_first, before_first, position_or_len, subst, unwrap_or}
 use Rattle.langtag_scan.specs.Grammar.{are_alike, fold_byte, are_alike-decides, subtags, are_letters, is_letter, is_primary}
 use Rattle.std.proofs.Common.{lit≤}
 use Rattle.langtag_range.proofs.AlikeTexts.{is_star-fold}
@@ -41,13 +41,22 @@ pub counted_plain : (ss : List (List ℕ)) → counted (filter is_plain ss) ≡ 
 counted_plain [] = refl
 counted_plain (s ∷ ss) = grind (arith, common_steps, counted_plain ss, is_plain)
 
+-- each "-*" that is left out of a range stands behind its first subtag
+pub read_subtags :
+    {A : Type 0} (f : List (List ℕ) → A) →
+    ((first : List ℕ) (others : List (List ℕ)) → f (first ∷ filter is_plain others) ≡ f (first ∷ others)) →
+    (text : List ℕ) → is_language_range text ≡ true → f (subtags (basic_form text)) ≡ f (subtags text)
+read_subtags {A} f same text is = by_subtags (subtags text) refl is (basic_of text is)
+  where
+    by_subtags :
+        (ss : List (List ℕ)) → subtags text ≡ ss → are_extended_range ss ≡ true → IsBasicOf text (basic_form text) →
+        f (subtags (basic_form text)) ≡ f (subtags text)
+    by_subtags [] are range basic = absurd cc
+    by_subtags (first ∷ others) are range basic = rw (basic.subtags first others are, are) (same first others)
+
 fields_read : (text : List ℕ) → is_language_range text ≡ true → text_fields (basic_form text) ≡ text_fields text
 unfolding text_fields
-fields_read text is = by_subtags (subtags text) refl is (basic_of text is)
-  where
-    by_subtags : (ss : List (List ℕ)) → subtags text ≡ ss → are_extended_range ss ≡ true → IsBasicOf text (basic_form text) → fields_of_subtags (subtags (basic_form text)) ≡ fields_of_subtags (subtags text)
-    by_subtags [] are range basic = absurd cc
-    by_subtags (first ∷ others) are range basic = rw (basic.subtags first others are, are, counted_plain others) refl
+fields_read text is = read_subtags fields_of_subtags (λ first others. rw (counted_plain others) refl) text is
 
 current_read : (o : Option (List ℕ)) (basic text : List ℕ) → text_fields basic ≡ text_fields text → text_fields (unwrap_or o basic) ≡ text_fields (unwrap_or o text)
 current_read None basic text same = same
@@ -61,26 +70,22 @@ form_read range is =
 -- ---- what is left of it and of a tag
 
 tag_left : (range tag : List ℕ) → are_alike (take (length tag) range) tag ≡ (length (after_common range tag).1 == 0)
-tag_left [] [] = refl
-tag_left [] (b ∷ tag) = rw (some_length b tag) refl
+tag_left [] tag = grind (arith, nat_tests, common_steps, some_length)
 tag_left (a ∷ range) [] = refl
 tag_left (a ∷ range) (b ∷ tag) = grind (arith, nat_tests, some_length b tag, tag_left range tag)
 
 tag_dropped : (range tag : List ℕ) → (length (after_common range tag).1 == 0) ≡ true → drop (length tag) range ≡ (after_common range tag).0
-tag_dropped [] [] none = refl
-tag_dropped [] (b ∷ tag) none = refl
+tag_dropped [] tag none = grind (arith, common_steps)
 tag_dropped (a ∷ range) [] none = refl
 tag_dropped (a ∷ range) (b ∷ tag) none = grind (arith, tag_dropped range tag, some_length b tag)
 
 range_left : (range tag : List ℕ) → are_alike range (take (length range) tag) ≡ (length (after_common range tag).0 == 0)
 range_left [] tag = refl
-range_left (a ∷ range) [] = rw (some_length a range) refl
-range_left (a ∷ range) (b ∷ tag) = grind (arith, nat_tests, some_length a range, range_left range tag)
+range_left (a ∷ range) tag = grind (arith, nat_tests, common_steps, some_length a range, range_left range)
 
 range_dropped : (range tag : List ℕ) → (length (after_common range tag).0 == 0) ≡ true → drop (length range) tag ≡ (after_common range tag).1
 range_dropped [] tag none = refl
-range_dropped (a ∷ range) [] none = refl
-range_dropped (a ∷ range) (b ∷ tag) none = grind (arith, range_dropped range tag, some_length a range)
+range_dropped (a ∷ range) tag none = grind (arith, common_steps, range_dropped range, some_length a range)
 
 ends_read : (left : List ℕ) → BeginsPlain left → ends_subtag (basic_text left) ≡ ends_subtag (hyphened left)
 ends_read [] plain = ap ends_subtag read_nothing
@@ -130,34 +135,17 @@ module _ (key : Fields) (two : length key.language ≡ 2) (letters : are_letters
 head-take : (n : ℕ) (text : List ℕ) → 2 ≤ length (take n text) → first_two (take n text) ≡ first_two text
 head-take n text long = grind (arith, common_steps)
 
-two_or_more : (text : List ℕ) (letters : ℕ × ℕ) → first_two text ≡ Some letters → 2 ≤ length text
-two_or_more [] letters is = absurd cc
-two_or_more (a ∷ []) letters is = absurd cc
-two_or_more (a ∷ b ∷ text) letters is = omega arith
-
 head-alike : (a b : List ℕ) → are_alike a b ≡ true → first_two a ≡ first_two b
-head-alike [] [] alike = refl
-head-alike [] (d ∷ b) alike = absurd cc
-head-alike (c ∷ a) [] alike = absurd cc
-head-alike (c ∷ []) (d ∷ []) alike = refl
-head-alike (c ∷ []) (d ∷ f ∷ b) alike = grind (arith, nat_tests, and_parts)
-head-alike (c ∷ e ∷ a) (d ∷ []) alike = grind (arith, nat_tests, and_parts)
-head-alike (c ∷ e ∷ a) (d ∷ f ∷ b) alike = grind (arith, nat_tests, and_parts, eqb-true)
+head-alike a b alike = grind (arith, nat_tests, common_steps, and_parts, eqb-true)
 
 head-filled : (text : List ℕ) (letters : ℕ × ℕ) → first_two text ≡ Some letters → first_two (text ++ 0 ∷ []) ≡ Some letters
-head-filled [] letters is = absurd cc
-head-filled (a ∷ []) letters is = absurd cc
-head-filled (a ∷ b ∷ text) letters is = is
+head-filled text letters is = grind (arith, common_steps)
 
 -- a range that begins with two bytes of it, and one that is its first byte
 pub begins_with_two :
     (basic range : List ℕ) (letters : ℕ × ℕ) → are_alike (take (length (take 2 range)) basic) (take 2 range) ≡ true → first_two range ≡ Some letters → first_two (basic ++ 0 ∷ []) ≡ Some letters
-begins_with_two basic [] letters starts is = absurd cc
-begins_with_two basic (a ∷ []) letters starts is = absurd cc
-begins_with_two basic (a ∷ b ∷ range) letters starts is =
-    let same = head-alike (take 2 basic) (a ∷ b ∷ []) starts in
-    let long = alike_length (take 2 basic) (a ∷ b ∷ []) starts in
-    head-filled basic letters (sym (head-take 2 basic (omega (arith, long))) ∙ same ∙ is)
+begins_with_two basic range letters starts is =
+    grind (arith, nat_tests, common_steps, head-alike, alike_length, head-filled, head-take)
 
 pub begins_with_one : (basic range : List ℕ) → 1 ≤ length range → are_alike basic (take 1 range) ≡ true → first_two (basic ++ 0 ∷ []) ≡ Some (fold_byte (get_or range 0 0), 0)
 unfolding fold_byte
@@ -179,10 +167,9 @@ marked_short a b m rest mark keeps =
     (grind (arith, common_steps, cut a (b ∷ m ∷ rest), cut b (m ∷ rest), cut m rest), λ two. subst KeepsLanguage (sym (rest_after a b m rest two)) keeps)
 
 pub short_of_more : (text : List ℕ) → 3 ≤ length text → is_separator (get_or text 2 0) ≡ true → KeepsLanguage (drop 3 text) → IsShort text
-short_of_more [] least mark keeps = absurd (omega (arith, least))
-short_of_more (a ∷ []) least mark keeps = absurd (omega (arith, least))
-short_of_more (a ∷ b ∷ []) least mark keeps = absurd (omega (arith, least))
-short_of_more (a ∷ b ∷ m ∷ rest) least mark keeps = marked_short a b m rest mark keeps
+short_of_more text least mark keeps =
+    let is : text ≡ get_or text 0 0 ∷ get_or text 1 0 ∷ get_or text 2 0 ∷ drop 3 text = grind (arith, common_steps) in
+    subst IsShort (sym is) (marked_short (get_or text 0 0) (get_or text 1 0) (get_or text 2 0) (drop 3 text) mark keeps)
 
 -- ---- the language of a text
 
@@ -207,9 +194,7 @@ unfolding fold_byte
 letter_free x letter = grind (arith, nat_tests)
 
 two_letters : (text : List ℕ) (letters : ℕ × ℕ) → first_two text ≡ Some letters → 97 ≤ letters.0 → 97 ≤ letters.1 → 2 ≤ length (before_first is_separator text)
-two_letters [] letters begins a b = absurd cc
-two_letters (x ∷ []) letters begins a b = absurd cc
-two_letters (x ∷ y ∷ text) letters begins a b = grind (arith, common_steps, letter_free x, letter_free y, unmarked x (y ∷ text), unmarked y text)
+two_letters text letters begins a b = grind (arith, common_steps, letter_free, unmarked)
 
 -- a short text that begins with two letters is not replaced as a whole
 not_whole : (text : List ℕ) (letters : ℕ × ℕ) → IsShort text → first_two text ≡ Some letters → 97 ≤ letters.0 → 97 ≤ letters.1 → preferred_tag (basic_text text) ≡ None
@@ -236,26 +221,19 @@ language_of_letters letters number number_is a b absent text short begins = by_u
         let plain = primary_letters f.language there.0 in
         let is_number : letter_number f.language ≡ number = number_of_letters f.language letters there.1 (there.2 ∙ begins) ∙ sym number_is in
         let same = not_replaced f there.1 plain (ap (is_among_numbers SHORT_ALIAS_KEYS) is_number ∙ absent) in
-        let some : 0 < length (language_replaced f).language = rw same (omega (arith, there.1)) in
-        let made_is : matching_fields f ≡ form = cc in
-        let language = ap (λ f. f.language) (sym made_is) ∙ completed_language (language_replaced f) some ∙ ap (λ f. f.language) same in
-        let two = ap length language ∙ there.1 in
-        (ap are_letters language ∙ plain, ap letter_number language ∙ is_number, omega (arith, two))
+        grind (arith, same, completed_language (language_replaced f))
 
     own : text_fields (current_text text) ≡ text_fields (hyphened text)
     own = ap (λ o. text_fields (unwrap_or o (hyphened text))) (not_whole text letters short begins a b)
 
     by_und : (b : Bool) → ForSome (cond b None (option_map matching_fields (text_fields (current_text text)))) (HasNumber number)
-    by_und true form made = absurd cc
-    by_und false form made = by_fields (text_fields (current_text text)) (sym own) form made
+    by_und b form made = grind (arith, own, by_fields (text_fields (hyphened text)) refl form)
 
 -- ---- how far it is
 
 -- a tag that begins otherwise than a range is not the range
 unalike : (letters begin : ℕ × ℕ) (range tag : List ℕ) → first_two (range ++ 0 ∷ []) ≡ Some letters → first_two tag ≡ Some begin → (begin ≡ letters → ⊥) → are_alike range tag ≡ false
-unalike letters begin range tag starts is other =
-    false_from_ne_true (are_alike range tag)
-    (λ yes. let filled = head-filled range begin (head-alike range tag yes ∙ is) in let same : Some begin ≡ Some letters = sym filled ∙ starts in other cc)
+unalike letters begin range tag starts is other = grind (arith, false_from_ne_true, head-filled range begin, head-alike range tag)
 
 -- a range and a tag whose languages are far
 pub far_by_numbers :
@@ -275,13 +253,8 @@ far_without_form letters begin range tag none starts is apart = grind (arith, na
 pub one_language :
     (own other : ℕ) (r t : Option Fields) → ForSome r (HasNumberOrNone own) → ForSome t (HasNumber other) → (other ≡ 0 → ⊥) → own ≡ other → HaveOneLanguage r t
 one_language own other r t own_is other_is some same d s d_is s_is =
-    let its = other_is s s_is in
-    elim (cases_lt 3 (length d.language)) [
-      | inl long ↦ absurd (some (sym same ∙ (own_is d d_is).1 long))
-      | inr short ↦
-          let has = (own_is d d_is).0 short in
-          sym (letter_number-tells d.language s.language has.0 its.0) ∙ eq-eqb (letter_number s.language) (letter_number d.language) (its.1 ∙ sym same ∙ sym has.1)
-    ]
+    let tells = letter_number-tells d.language s.language in
+    grind (arith, nat_tests, cases_lt 3 (length d.language), own_is d d_is, other_is s s_is, tells)
 
 pub none_between_forms : (r t : Option Fields) (d s : Fields) → HaveOneLanguage r t → r ≡ Some d → t ≡ Some s → 0 ≡ language_distance d s
 unfolding language_distance
@@ -293,12 +266,4 @@ pub nothing_kept :
     (letters begin : ℕ × ℕ) (range tag : List ℕ) → first_two (range ++ 0 ∷ []) ≡ Some letters → first_two tag ≡ Some begin → (begin ≡ letters → ⊥) → kept range tag ≡ 0
 unfolding kept
 nothing_kept letters begin range tag starts is other =
-    let not_its : are_alike (take (length tag) range) tag ≡ false =
-    false_from_ne_true (are_alike (take (length tag) range) tag)
-    (λ yes.
-    let same = head-alike (take (length tag) range) tag yes ∙ is in
-    let long = alike_length (take (length tag) range) tag yes in
-    let whole = head-filled range begin (sym (head-take (length tag) range (two_or_more (take (length tag) range) begin same)) ∙ same) in
-    let equal : Some begin ≡ Some letters = sym whole ∙ starts in
-    other cc) in
-    grind (arith, nat_tests, not_its)
+    grind (arith, nat_tests, common_steps, false_from_ne_true, head-alike, alike_length, head-filled, head-take)

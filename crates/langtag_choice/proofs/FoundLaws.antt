@@ -1,16 +1,16 @@
 -- What loops over ranges and over tags have found, and that it is the choice.
-use Rattle.langtag_scan.proofs.Prelude.{◌≡◌, ℕ, true, List, get_or, Option, Some, None, option_map, ap, refl, sym, subst, ◌∙◌, ◌-◌, ◌==◌, ◌≤◌, false, ◌&&◌, ◌||◌, nat_lt, arith, Bool, [], ◌∷◌, ◌+◌, ◌<◌, zero, suc, length, min, inl, inr, slice_get, replicate, or-true, eqb_tells, nat_tests, and_parts, eq-eqb, eqb-true, not-true, or_cases, cases_lt, get_or_from_slice_get, slice_get-get_or, slice_get_within, list_any, ForSome}
+use Rattle.langtag_scan.proofs.Prelude.{◌≡◌, ℕ, true, List, get_or, Option, Some, None, option_map, ap, refl, sym, subst, ◌∙◌, ◌-◌, ◌==◌, ◌≤◌, false, ◌&&◌, ◌||◌, nat_lt, arith, Bool, [], ◌∷◌, ◌+◌, ◌<◌, suc, length, min, common_steps, get_or-replicate, get_or_past, inl, inr, slice_get, replicate, or-true, eqb_tells, nat_tests, and_parts, eq-eqb, eqb-true, not-true, or_cases, cases_lt, get_or_from_slice_get, slice_get-get_or, slice_get_within, list_any, ForSome}
 use Rattle.std.proofs.lemmas.Option.{slice_get_cases}
 use Rattle.std.specs.Bool.{nat_le}
 use Rattle.langtag_range.specs.Definitions.{Element, basic_text}
 use Rattle.langtag_choice.specs.Nearness.{kept}
 use Rattle.langtag_choice.specs.Serves.{serves, is_excluded, reach}
-use Rattle.langtag_choice.specs.Serves.{IsAtMost, rank}
+use Rattle.langtag_choice.specs.Serves.{IsAtMost}
 use Rattle.langtag_choice.specs.Best.{IsChoice, IsMatchOf, Pair, rank_of_pair, is_refused, longest}
 use Rattle.langtag_choice.specs.Distance.{distance_of_texts}
 use Rattle.langtag_choice.specs.Near.{wish_element}
-use Rattle.langtag_choice.specs.Candidates.{IsNotAfter, Takes}
-use Rattle.langtag_choice.specs.Found.{AddsNothing, IsBestFound, IsBestOf, Tries, TriesOf, TriesRange, TriesRangeOf, is_flagged, is_unrefused_at}
+use Rattle.langtag_choice.specs.Candidates.{IsNotAfter, Takes, rank_of}
+use Rattle.langtag_choice.specs.Found.{AddsNothing, IsBestFound, IsBestOf, IsFor, IsPairOf, Tries, TriesOf, TriesRange, TriesRangeOf, is_flagged, is_unrefused_at}
 use Rattle.langtag_choice.specs.KnownTexts.{is_known, known_text}
 use Rattle.langtag_choice.specs.declared.best_match.BestMatch.{BestMatch}
 use Rattle.langtag_choice.specs.declared.candidate.Candidate.{Candidate}
@@ -31,17 +31,8 @@ module _ {S : Type 0} (Covers : S → ℕ → List ℕ → Type 0) (Has : S → 
     tries_both first second both old middle new one other same = record {
       keeps = λ index r is. other.keeps index r (one.keeps index r is);
       covers = λ place element index tag tried wanted there served.
-          elim (or_cases (first place index) (second place index) (sym (same place index (slice_get_within elements place element wanted) (slice_get_within tags index (Some tag) there)) ∙ tried)) [
-            | inl before ↦ other.keeps index (rank place element index tag) (one.covers place element index tag before wanted there served)
-            | inr after ↦ other.covers place element index tag after wanted there served
-          ];
-      from = λ c is. elim (other.from c is) [
-        | inl was ↦ elim (one.from c was) [
-          | inl old ↦ inl old
-          | inr at ↦ inr (same c.rank.place c.index at.1.among at.1.inside ∙ ap (λ b. b || second c.rank.place c.index) at.0, at.1)
-        ]
-        | inr at ↦ inr (same c.rank.place c.index at.1.among at.1.inside ∙ ap (λ b. first c.rank.place c.index || b) at.0 ∙ or-true (first c.rank.place c.index), at.1)
-      ];
+          grind (arith, slice_get_within, same place index, or_cases, other.keeps index, one.covers place, other.covers place);
+      from = λ c is. grind (arith, other.from c is, one.from c, same c.rank.place c.index, or-true);
       apart = λ apart. other.apart (one.apart apart);
     }
 
@@ -51,22 +42,10 @@ module _ {S : Type 0} (Covers : S → ℕ → List ℕ → Type 0) (Has : S → 
         ((place index : ℕ) → place < length elements → index < length tags → same place index ≡ some place index) → TriesHere same old new
     tries_same some same old new tries is = record {
       keeps = tries.keeps;
-      covers = λ place element index tag tried wanted there.
-          tries.covers place element index tag (sym (is place index (slice_get_within elements place element wanted) (slice_get_within tags index (Some tag) there)) ∙ tried) wanted there;
-      from = λ c found. elim (tries.from c found) [
-        | inl old ↦ inl old
-        | inr at ↦ inr (is c.rank.place c.index at.1.among at.1.inside ∙ at.0, at.1)
-      ];
+      covers = λ place element index tag tried wanted there served.
+          grind (arith, is place index, slice_get_within, tries.covers place element index tag);
+      from = λ c found. grind (arith, tries.from c found, is c.rank.place c.index);
       apart = tries.apart;
-    }
-
-    -- no pair
-    pub tries_no_pair : (is_tried : ℕ → ℕ → Bool) (found : S) → ((place index : ℕ) → is_tried place index ≡ false) → TriesHere is_tried found found
-    tries_no_pair is_tried found none = record {
-      keeps = λ index r is. is;
-      covers = λ place element index tag tried wanted there served. absurd (cc (none place index));
-      from = λ c is. inl is;
-      apart = λ apart. apart;
     }
 
     -- one more range
@@ -103,6 +82,36 @@ pub unrefused_entry :
     (elements : List Element) (tags : List (Option (List ℕ))) (index : ℕ) (tag : List ℕ) → get_or tags index None ≡ Some tag → is_refused elements tag ≡ false → is_unrefused_at elements tags index ≡ true
 unrefused_entry elements tags index tag here free = rw (here, free) refl
 
+-- the candidate is a tag that is not refused, among the tags that are left
+pub pair_left :
+    (elements : List Element) (tags left : List (Option (List ℕ))) (c : Candidate) → length left ≡ length tags →
+    ((tag : List ℕ) → slice_get left c.index ≡ Some (Some tag) → slice_get tags c.index ≡ Some (Some tag)) →
+    IsFor elements tags c → is_unrefused_at elements left c.index ≡ true → IsPairOf elements left c
+pair_left elements tags left c long stays for free =
+    let entry = unrefused_tag elements left c.index (rw long for.inside) free in
+    record { tag = entry.0; there = entry.1; unrefused = entry.2; at = for.there entry.0 (stays entry.0 entry.1) }
+
+-- the candidate is the pair with the least rank
+pub best_of :
+    (elements : List Element) (tags : List (Option (List ℕ))) (c : Candidate) → IsPairOf elements tags c →
+    ((other : Pair elements tags) → IsAtMost (rank_of c) (rank_of_pair elements tags other)) → IsBestOf elements tags c
+best_of elements tags c of least = record {
+  pair = record {
+    place = c.rank.place;
+    element = of.at.element;
+    wanted = of.at.wanted;
+    index = c.index;
+    tag = of.tag;
+    there = of.there;
+    served = of.at.served;
+    unrefused = of.unrefused;
+  };
+  place = refl;
+  index = refl;
+  tag = sym of.at.tag;
+  least = rw of.at.same_rank at least;
+}
+
 module _ (elements : List Element) (tags : List (Option (List ℕ))) where
   -- the candidate is the choice if it is found among all pairs whose tags are not refused, and its tag is not refused
   pub best_found :
@@ -120,15 +129,8 @@ module _ (elements : List Element) (tags : List (Option (List ℕ))) where
       by_found (Some c) is = elim (tries.from c is) [
         | inl none ↦ absurd cc
         | inr for ↦
-            let entry = unrefused_tag elements tags c.index for.1.inside (free c is for.0) in
-            let at = for.1.there entry.0 entry.1 in
-            record {
-              pair = record { place = c.rank.place; element = at.element; wanted = at.wanted; index = c.index; tag = entry.0; there = entry.1; served = at.served; unrefused = entry.2 };
-              place = refl;
-              index = refl;
-              tag = sym at.tag;
-              least = λ other. subst (λ ranks. IsAtMost ranks (rank_of_pair elements tags other)) at.same_rank (subst (λ o. IsNotAfter o (rank_of_pair elements tags other)) is (covers other));
-            }
+            best_of elements tags c (pair_left elements tags tags c refl (λ tag there. there) for.1 (free c is for.0))
+            (λ other. rw is at (covers other))
       ]
 
   -- what was found has the index of the choice
@@ -151,12 +153,6 @@ module _ (elements : List Element) (tags : List (Option (List ℕ))) where
         distance = distance ∙ ap (λ r. distance_of_texts r c.tag.now) same ∙ ap (distance_of_texts best.pair.element.range) (sym best.tag);
         least = best.least;
       }
-
-  -- there is a range at the place of what was found
-  pub range_found : (o : Option Candidate) (c : Candidate) → o ≡ Some c → IsBestFound elements tags o → (slice_get elements c.rank.place ≡ None) → ⊥
-  range_found o c is found none =
-      let best : IsBestOf elements tags c = subst (IsBestFound elements tags) is found in
-      cc (best.place, best.pair.wanted, none)
 
 -- ---- where no range has the weight 0, no tag is refused
 
@@ -184,10 +180,8 @@ takes_at tags wish known index old new inside at takes elements wanted = record 
       let parts = and_parts (there == index) (place == wish.place) tried in
       let same_index = eqb-true there index parts.0 in
       let same_place = eqb-true place wish.place parts.1 in
-      let same_element : element ≡ wish_element wish = cc in
       let here = at tag (get_or_from_slice_get tags index (Some tag) None (cc)) in
-      let ranks : rank wish.place (wish_element wish) index (known_text known) ≡ rank place element there tag = cc in
-      subst (IsNotAfter new) ranks (takes.covers here.1 (cc));
+      grind (arith, takes.covers here.1);
   from = λ c is. elim (takes.from c is) [
     | inl was ↦ inl was
     | inr of ↦
@@ -217,12 +211,7 @@ pub far_at :
 far_at tags wish index far none found elements wanted = record {
   keeps = λ there r is. is;
   covers = λ place element there tag tried asked at served.
-      let parts = and_parts (there == index) (place == wish.place) tried in
-      let same_index = eqb-true there index parts.0 in
-      let same_place = eqb-true place wish.place parts.1 in
-      let same_element : element ≡ wish_element wish = cc in
-      let here : get_or tags index None ≡ Some tag = get_or_from_slice_get tags index (Some tag) None (cc) in
-      absurd (cc (far_serves wish tag (far tag here) (none tag here), same_element, served));
+      grind (arith, and_parts, eqb-true, far tag, none tag, get_or_from_slice_get, far_serves wish tag);
   from = λ c is. inl is;
   apart = λ apart. apart;
 }
@@ -239,9 +228,7 @@ far_next tags wish from index after before here found =
 
 -- at first no flag is set
 pub none_flagged : (n k : ℕ) (is : Bool) → get_or (replicate n false) k false ≡ (nat_lt k 0 && is)
-none_flagged zero k is = grind (arith, nat_tests)
-none_flagged (suc n) zero is = grind (arith, nat_tests)
-none_flagged (suc n) (suc k) is = none_flagged n k is ∙ grind (arith, nat_tests)
+none_flagged n k is = grind (arith, common_steps, nat_tests, cases_lt k n, get_or-replicate {A = Bool}, get_or_past)
 
 -- the flag of the next entry
 pub flag_next :

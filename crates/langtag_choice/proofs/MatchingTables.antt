@@ -1,10 +1,11 @@
 -- The tables of language matching have the rows of the lists, by computation, and a rule is found by its number.
 -- The languages that are near another, by the keys of the rules.
-use Rattle.langtag_scan.proofs.Prelude.{◌≡◌, ℕ, ◌<◌, true, false, ◌==◌, Bool, ltb, List, [], ◌∷◌, length, max, get_or, map, refl, arith, rules, ◌&&◌, is_some, ◌+◌, ◌*◌, ap, ◌∙◌, cond, Option, sym, ◌≢◌, zero, suc, ◌-◌, ◌≤◌, length-drop, length-take, None, subst, nat_tests, eqb_tells, and_parts, ltb-true, eq-eqb, ne_eqb, both_ways, cases_lt, or_parts, common_steps, list_all, inl, inr, false_from_ne_true, slice_range, option_map_or, get_or-drop, get_or-take, list_any_at}
+use Rattle.langtag_scan.proofs.Prelude.{◌≡◌, ℕ, ◌<◌, true, false, ◌==◌, Bool, ltb, List, [], ◌∷◌, length, max, get_or, map, refl, arith, rules, ◌&&◌, is_some, ◌+◌, ◌*◌, Option, sym, ◌≢◌, zero, suc, ◌-◌, ◌≤◌, length-drop, length-take, None, nat_tests, eqb_tells, and_parts, ltb-true, eq-eqb, ne_eqb, both_ways, cases_lt, or_parts, common_steps, list_all, false_from_ne_true, slice_range, option_map_or, get_or-drop, get_or-take, list_any_at, list_any_none}
+use Rattle.std.proofs.lemmas.List.{get_or_default}
 use Rattle.langtag_scan.specs.Grammar.{folded_number, fold_byte, are_alike, are_alphanumeric, are_letters, is_letter, is_digit}
 use Rattle.langtag_scan.proofs.FoldedNumbers.{folded_number-tells}
 use Rattle.langtag_text.specs.Numbers.{letter_number, climbs_from}
-use Rattle.langtag_cldr.specs.Definitions.{are_alike_fields, Likely, language_alone, without_region, first_index, key_number}
+use Rattle.langtag_cldr.specs.Definitions.{Likely, language_alone, without_region, first_index, key_number}
 use Rattle.langtag_text.specs.Fields.{Fields}
 use Rattle.langtag_text.proofs.Elements.{list_all_get}
 use Rattle.langtag_cldr.proofs.TableRows.{are_plain, is_numbered, key_number-tells}
@@ -80,12 +81,9 @@ pub language_pair-tells :
     (rule : Rule) → is_language_rule rule ≡ true →
     (language_pair desired supported == language_pair rule.desired rule.supported) ≡ fits (language_alone desired) (language_alone supported) rule
 language_pair-tells desired supported dl sl small rule good =
-    let k = and_parts (is_language (row_of rule.desired)) (is_language (row_of rule.supported) && ltb (letter_number rule.supported.language) 32768) good in
-    let l = and_parts (is_language (row_of rule.supported)) (ltb (letter_number rule.supported.language) 32768) k.1 in
-    languages-tell (letter_number desired.language) (letter_number supported.language) (letter_number rule.desired.language) (letter_number rule.supported.language)
-    small (ltb-true (letter_number rule.supported.language) 32768 l.1)
-    ∙ ap (λ b. b && (letter_number supported.language == letter_number rule.supported.language)) (language-tells desired.language dl (row_of rule.desired) k.0)
-    ∙ ap (λ b. are_alike_fields rule.desired (language_alone desired) && b) (language-tells supported.language sl (row_of rule.supported) l.0)
+    let desired_tells = language-tells desired.language dl (row_of rule.desired) in
+    let supported_tells = language-tells supported.language sl (row_of rule.supported) in
+    grind (arith, nat_tests, and_parts, ltb-true, languages-tell, desired_tells, supported_tells)
 
 abbrev pub is_script_rule : Rule → Bool
 is_script_rule rule = is_numbered (row_of rule.desired) && (is_numbered (row_of rule.supported) && ltb (key_number rule.supported) 4294967296)
@@ -94,11 +92,9 @@ pub script_pair-tells :
     (desired supported : Fields) → are_plain desired ≡ true → are_plain supported ≡ true → key_number supported < 4294967296 →
     (rule : Rule) → is_script_rule rule ≡ true → (script_pair desired supported == script_pair rule.desired rule.supported) ≡ fits desired supported rule
 script_pair-tells desired supported dp sp small rule good =
-    let k = and_parts (is_numbered (row_of rule.desired)) (is_numbered (row_of rule.supported) && ltb (key_number rule.supported) 4294967296) good in
-    let l = and_parts (is_numbered (row_of rule.supported)) (ltb (key_number rule.supported) 4294967296) k.1 in
-    scripts-tell (key_number desired) (key_number supported) (key_number rule.desired) (key_number rule.supported) small (ltb-true (key_number rule.supported) 4294967296 l.1)
-    ∙ ap (λ b. b && (key_number supported == key_number rule.supported)) (key_number-tells desired (row_of rule.desired) dp k.0)
-    ∙ ap (λ b. are_alike_fields rule.desired desired && b) (key_number-tells supported (row_of rule.supported) sp l.0)
+    let desired_tells = key_number-tells desired (row_of rule.desired) dp in
+    let supported_tells = key_number-tells supported (row_of rule.supported) sp in
+    grind (arith, nat_tests, and_parts, ltb-true, scripts-tell, desired_tells, supported_tells)
 
 -- ---- rules
 
@@ -158,36 +154,34 @@ partly_plain set = grind (arith, nat_tests)
 module _ (d s : Fields) where
   -- ---- languages
 
-  language_other : (n : ℕ) → are_alike d.language s.language ≡ false → n ≡ distance_by language_rules 80 (language_alone d) (language_alone s) → n ≡ language_distance d s
-  unfolding language_distance
-  language_other n other is = is ∙ sym (ap (λ b. cond b 0 (distance_by language_rules 80 (language_alone d) (language_alone s))) other)
-
   pub language_long : are_alike d.language s.language ≡ false → 3 < max (length d.language) (length s.language) → 80 ≡ language_distance d s
-  language_long other long = language_other 80 other (sym (long_languages 80 language_rules (language_alone d) (language_alone s) long language_rules_listed.short))
+  unfolding language_distance
+  language_long other long =
+      rw other (sym (long_languages 80 language_rules (language_alone d) (language_alone s) long language_rules_listed.short))
 
   pub language_found :
       (o : Option ℕ) (n : ℕ) (keys : List ℕ) (number : ℕ) → are_alike d.language s.language ≡ false → are_letters d.language ≡ true → are_letters s.language ≡ true →
       letter_number s.language < 32768 → keys ≡ map language_rule_number language_rules → number ≡ language_pair d s → o ≡ first_index keys number →
       n ≡ option_map_or (λ i. get_or (map distance_of language_rules) i 0) o 80 → n ≡ language_distance d s
+  unfolding language_distance
   language_found o n keys number other dl sl small keys_are number_is is value =
-      language_other n other
+      rw other
       (cc (distance_by_number language_rule_number is_language_rule (language_pair d s) (language_alone d) (language_alone s) (language_pair-tells d s dl sl small) 80 language_rules language_rules_listed.good))
 
   -- ---- scripts
 
-  script_other : (n : ℕ) → are_alike d.script s.script ≡ false → n ≡ distance_by script_rules 50 (without_region d) (without_region s) → n ≡ script_distance d s
-  unfolding script_distance
-  script_other n other is = is ∙ sym (ap (λ b. cond b 0 (distance_by script_rules 50 (without_region d) (without_region s))) other)
-
   pub script_long : are_alike d.script s.script ≡ false → 3 < max (length d.language) (length s.language) → 50 ≡ script_distance d s
-  script_long other long = script_other 50 other (sym (long_languages 50 script_rules (without_region d) (without_region s) long script_rules_listed.short))
+  unfolding script_distance
+  script_long other long =
+      rw other (sym (long_languages 50 script_rules (without_region d) (without_region s) long script_rules_listed.short))
 
   pub script_found :
       (o : Option ℕ) (n : ℕ) (keys : List ℕ) (number : ℕ) → are_alike d.script s.script ≡ false → are_plain (without_region d) ≡ true → are_plain (without_region s) ≡ true →
       key_number (without_region s) < 4294967296 → keys ≡ map script_rule_number script_rules → number ≡ script_pair (without_region d) (without_region s) → o ≡ first_index keys number →
       n ≡ option_map_or (λ i. get_or (map distance_of script_rules) i 0) o 50 → n ≡ script_distance d s
+  unfolding script_distance
   script_found o n keys number other dp sp small keys_are number_is is value =
-      script_other n other
+      rw other
       (cc (distance_by_number script_rule_number is_script_rule (script_pair (without_region d) (without_region s)) (without_region d) (without_region s)
       (script_pair-tells (without_region d) (without_region s) dp sp small) 50 script_rules script_rules_listed.good))
 
@@ -210,22 +204,16 @@ far_known :
     (desired supported : ℕ) → supported < 32768 → (supported ≡ desired → ⊥) → is_among_numbers rule_keys (desired * 32768 + supported) ≡ false →
     (d s : Fields) → HasNumber desired d → HasNumber supported s → language_distance d s ≡ 80
 far_known desired supported small other none d s has its =
-    let apart : are_alike d.language s.language ≡ false =
-    sym (letter_number-tells d.language s.language has.0 its.0) ∙ ne_eqb (letter_number s.language) (letter_number d.language) (λ same. other (sym its.1 ∙ same ∙ has.1)) in
-    let pair : desired * 32768 + supported ≡ language_pair d s = ap (λ n. n * 32768 + supported) (sym has.1) ∙ ap (λ n. letter_number d.language * 32768 + n) (sym its.1) in
-    sym (language_found d s None 80 rule_keys (language_pair d s) apart has.0 its.0 (subst (λ n. n < 32768) (sym its.1) small) refl refl
-    (sym (absent_index rule_keys (language_pair d s) (ap (is_among_numbers rule_keys) (sym pair) ∙ none))) refl)
+    let apart : are_alike d.language s.language ≡ false = grind (arith, nat_tests, letter_number-tells d.language s.language) in
+    let pair : desired * 32768 + supported ≡ language_pair d s = cc in
+    sym (language_found d s None 80 rule_keys (language_pair d s) apart has.0 its.0 (omega arith) refl refl
+    (sym (absent_index rule_keys (language_pair d s) (rw (← pair) none))) refl)
 
 -- two languages that differ, for which there is no rule
 pub far_without_rule :
     (desired supported : ℕ) → supported < 32768 → (supported ≡ desired → ⊥) → is_among_numbers rule_keys (desired * 32768 + supported) ≡ false → AreFar desired supported
-far_without_rule desired supported small other none = λ d s has its.
-    elim (cases_lt 3 (length d.language)) [
-      | inl long ↦
-          let short = its.2 in
-          sym (language_long d s (false_from_ne_true (are_alike d.language s.language) (λ yes. let same = alike_length d.language s.language yes in omega (arith, same, long, short))) (omega (arith, long)))
-      | inr short ↦ far_known desired supported small other none d s (has.0 short) its
-    ]
+far_without_rule desired supported small other none =
+    grind (arith, nat_tests, common_steps, cases_lt, language_long, false_from_ne_true, alike_length, far_known)
 
 -- a list that climbs does so strictly
 pub climbs_at : (low : ℕ) (numbers : List ℕ) (i j : ℕ) → climbs_from low numbers ≡ true → i < j → j < length numbers → get_or numbers i 0 < get_or numbers j 0
@@ -235,9 +223,8 @@ climbs_at low (n ∷ numbers) zero (suc j) climbs order inside = above_first n n
 climbs_at low (n ∷ numbers) (suc i) (suc j) climbs order inside = climbs_at n numbers i j (and_parts (ltb low n) (climbs_from n numbers) climbs).1 (omega (arith, order)) (omega (arith, inside))
 
 absent_at : (numbers : List ℕ) (number : ℕ) → ((k : ℕ) → k < length numbers → get_or numbers k 0 ≢ number) → is_among_numbers numbers number ≡ false
-absent_at [] number none = refl
-absent_at (n ∷ numbers) number none =
-    rw (ne_eqb n number (none 0 (omega arith)), absent_at numbers number (λ k inside. none (suc k) (omega (arith, inside)))) refl
+absent_at numbers number none =
+    list_any_none (λ n. n == number) numbers (λ k d inside. grind (arith, nat_tests, none k inside, get_or_default numbers k d 0))
 
 part_at : (numbers : List ℕ) (start end k : ℕ) → start ≤ k → k < end → get_or (slice_range numbers start end) (k - start) 0 ≡ get_or numbers k 0
 part_at numbers start end k from below = grind (arith, get_or-take, get_or-drop)

@@ -1,7 +1,7 @@
 -- What a prepared form says of the tag for which it was prepared.
-use Rattle.langtag_scan.proofs.Prelude.{◌≡◌, ℕ, Bool, cond, codes, true, List, [], ◌∷◌, ◌==◌, Option, Some, refl, subst, sym, ap, ◌∙◌, ◌&&◌, ◌||◌, get_or, arith, bytes_eq, ◌≤◌, length, ◌<◌, false, nat_tests, and_parts, eqb-true, or_cases, false_from_ne_true, bytes_eq-Decides, ForSome, MatchOption, None, option_map_or}
+use Rattle.langtag_scan.proofs.Prelude.{common_steps, ◌≡◌, rules, ℕ, Bool, cond, true, List, [], ◌∷◌, ◌==◌, Option, Some, refl, subst, sym, ap, ◌&&◌, ◌||◌, get_or, arith, bytes_eq, ◌≤◌, length, ◌<◌, false, nat_tests, and_parts, eqb-true, or_cases, false_from_ne_true, bytes_eq-Decides, ForSome, MatchOption, None}
 use Rattle.std.proofs.lemmas.Grind.{same_number_lists}
-use Rattle.langtag_choice.specs.Distance.{RegionSet, americas, by_language, by_side, cnsar, distance_of_texts, en_us, english, fields_distance, is_british, maghreb, on_one_side, region_distance}
+use Rattle.langtag_choice.specs.Distance.{by_language, distance_of_texts, fields_distance, region_distance}
 use Rattle.langtag_choice.specs.Near.{IsNearer}
 use Rattle.langtag_choice.specs.declared.nearness.Nearness.{Nearness}
 use Rattle.langtag_text.specs.Fields.{Fields}
@@ -10,10 +10,8 @@ use Rattle.langtag_choice.specs.NearLanguages.{HasNumber}
 use Rattle.langtag_choice.specs.Nearness.{unlikely, unlikely_form, unlikely_kept, unlikely_of}
 use Rattle.langtag_choice.specs.Prepared.{has_fields, has_head, is_prepared_for}
 use Rattle.langtag_choice.specs.declared.prepared_form.PreparedForm.{PreparedForm}
-use Rattle.std.specs.Bool.{nat_le}
 use Rattle.std.proofs.lemmas.Bool.{eq-eqb}
-use Rattle.std.specs.Cmp.Derive.{both_true}
-use Rattle.langtag_scan.specs.Grammar.{are_alike, are_alphanumeric, are_letters, is_alphanumeric, is_digit, is_letter, is_primary}
+use Rattle.langtag_scan.specs.Grammar.{are_alike, are_letters, is_alphanumeric, is_digit, is_letter, is_primary}
 use Rattle.langtag_text.specs.Numbers.{letter_number}
 use Rattle.langtag_text.specs.FieldClasses.{is_language_field, is_script_field, is_region_field}
 use Rattle.langtag_scan.proofs.Laws.{script_four, region_two_three}
@@ -23,69 +21,14 @@ use Rattle.langtag_text.proofs.Alike.{same_fields}
 
 -- ---- a field that zeros fill up to four bytes
 
-not_zero : (b : ℕ) → is_alphanumeric b ≡ true → (b == 0) ≡ false
+pub not_zero : (b : ℕ) → is_alphanumeric b ≡ true → (b == 0) ≡ false
 unfolding is_letter is_digit
 not_zero b is = false_from_ne_true (b == 0) (λ zero. let no : false ≡ true = subst (λ n. is_alphanumeric n ≡ true) (eqb-true b 0 zero) is in absurd cc)
-
-pub name_of_two :
-    (field : List ℕ) → 2 ≤ length field → length field < 3 → are_alphanumeric field ≡ true →
-    name_text (get_or field 0 0 ∷ get_or field 1 0 ∷ 0 ∷ 0 ∷ []) ≡ field
-name_of_two [] least most is = absurd (omega arith)
-name_of_two (a ∷ []) least most is = absurd (omega arith)
-name_of_two (a ∷ b ∷ []) least most is = rw (not_zero b (and_parts (is_alphanumeric b) true (and_parts (is_alphanumeric a) _ is).1).0) refl
-name_of_two (a ∷ b ∷ c ∷ s) least most is = absurd (omega arith)
-
-pub name_of_three :
-    (field : List ℕ) → 3 ≤ length field → length field < 4 → are_alphanumeric field ≡ true →
-    name_text (get_or field 0 0 ∷ get_or field 1 0 ∷ get_or field 2 0 ∷ 0 ∷ []) ≡ field
-name_of_three [] least most is = absurd (omega arith)
-name_of_three (a ∷ []) least most is = absurd (omega arith)
-name_of_three (a ∷ b ∷ []) least most is = absurd (omega arith)
-name_of_three (a ∷ b ∷ c ∷ []) least most is =
-    let rest = (and_parts (is_alphanumeric a) _ is).1 in
-    let last = (and_parts (is_alphanumeric b) _ rest).1 in
-    rw (not_zero b (and_parts (is_alphanumeric b) _ rest).0, not_zero c (and_parts (is_alphanumeric c) true last).0) refl
-name_of_three (a ∷ b ∷ c ∷ d ∷ s) least most is = absurd (omega arith)
-
-pub name_of_four :
-    (field : List ℕ) → 4 ≤ length field → length field < 5 → are_alphanumeric field ≡ true →
-    name_text (get_or field 0 0 ∷ get_or field 1 0 ∷ get_or field 2 0 ∷ get_or field 3 0 ∷ []) ≡ field
-name_of_four [] least most is = absurd (omega arith)
-name_of_four (a ∷ []) least most is = absurd (omega arith)
-name_of_four (a ∷ b ∷ []) least most is = absurd (omega arith)
-name_of_four (a ∷ b ∷ c ∷ []) least most is = absurd (omega arith)
-name_of_four (a ∷ b ∷ c ∷ d ∷ []) least most is =
-    let rest = (and_parts (is_alphanumeric a) _ is).1 in
-    let more = (and_parts (is_alphanumeric b) _ rest).1 in
-    let last = (and_parts (is_alphanumeric c) _ more).1 in
-    rw (not_zero b (and_parts (is_alphanumeric b) _ rest).0, not_zero c (and_parts (is_alphanumeric c) _ more).0, not_zero d (and_parts (is_alphanumeric d) true last).0) refl
-name_of_four (a ∷ b ∷ c ∷ d ∷ e ∷ s) least most is = absurd (omega arith)
-
-pub language_of_two :
-    (language : List ℕ) → 2 ≤ length language → length language < 3 → are_alphanumeric language ≡ true → name_text (get_or language 0 0 ∷ get_or language 1 0 ∷ 0 ∷ []) ≡ language
-language_of_two [] least most is = absurd (omega arith)
-language_of_two (a ∷ []) least most is = absurd (omega arith)
-language_of_two (a ∷ b ∷ []) least most is = rw (not_zero b (and_parts (is_alphanumeric b) true (and_parts (is_alphanumeric a) _ is).1).0) refl
-language_of_two (a ∷ b ∷ c ∷ s) least most is = absurd (omega arith)
-
-pub language_of_three :
-    (language : List ℕ) → 3 ≤ length language → length language < 4 → are_alphanumeric language ≡ true →
-    name_text (get_or language 0 0 ∷ get_or language 1 0 ∷ get_or language 2 0 ∷ []) ≡ language
-language_of_three [] least most is = absurd (omega arith)
-language_of_three (a ∷ []) least most is = absurd (omega arith)
-language_of_three (a ∷ b ∷ []) least most is = absurd (omega arith)
-language_of_three (a ∷ b ∷ c ∷ []) least most is =
-    let rest = (and_parts (is_alphanumeric a) _ is).1 in
-    let last = (and_parts (is_alphanumeric b) _ rest).1 in
-    rw (not_zero b (and_parts (is_alphanumeric b) _ rest).0, not_zero c (and_parts (is_alphanumeric c) true last).0) refl
-language_of_three (a ∷ b ∷ c ∷ d ∷ s) least most is = absurd (omega arith)
 
 -- no field has one byte
 pub language_counted : (text : List ℕ) → is_language_field text ≡ true → length text ≡ 1 → ⊥
 unfolding is_primary
-language_counted [] good one = omega arith
-language_counted (b ∷ []) good one = let no : false ≡ true = good in cc
-language_counted (b ∷ c ∷ s) good one = omega arith
+language_counted text good one = grind (arith, common_steps)
 
 pub script_counted : (text : List ℕ) → is_script_field text ≡ true → length text ≡ 1 → ⊥
 script_counted text good = grind (arith, script_four)
@@ -99,14 +42,7 @@ pub form_is_kept :
     p.letters ≡ first ∷ second ∷ [] → name_text p.language ≡ f.language → name_text p.script ≡ f.script → name_text p.region ≡ f.region →
     unlikely_form f ≡ p.unlikely → (has_head f (first, second) p && has_fields f p) ≡ true
 form_is_kept f first second p short are number letters language script region unlikely =
-    let counted : nat_le (length f.language) 3 ≡ true = grind (arith, nat_tests) in
-    let one : (first == get_or p.letters 0 0) ≡ true = eq-eqb first _ (rw letters refl) in
-    let two : (second == get_or p.letters 1 0) ≡ true = eq-eqb second _ (rw letters refl) in
-    both_true
-    (both_true (both_true (both_true counted are) (eq-eqb (letter_number f.language) p.number number)) (both_true one two))
-    (both_true (both_true ((bytes_eq-Decides (name_text p.language) f.language).1 language)
-    (both_true ((bytes_eq-Decides (name_text p.script) f.script).1 script) ((bytes_eq-Decides (name_text p.region) f.region).1 region)))
-    (eq-eqb (unlikely_form f) p.unlikely unlikely))
+    grind (arith, nat_tests, common_steps, eq-eqb, bytes_eq-Decides)
 
 pub or_second : (a b : Bool) → b ≡ true → (a || b) ≡ true
 or_second a b is = grind (arith, nat_tests)
@@ -119,15 +55,9 @@ pub record Kept (tag : List ℕ) (p : PreparedForm) : Type 0 where
   pub head : has_head form letters p ≡ true
   pub fields : has_fields form p ≡ true
 
-letters_are : (f : Fields) (letters : ℕ × ℕ) (p : PreparedForm) → has_head f letters p ≡ true → Some letters ≡ Some (get_or p.letters 0 0, get_or p.letters 1 0)
-letters_are f letters p is = grind (arith, nat_tests, and_parts, eqb-true)
-
 kept_of : (tag : List ℕ) (p : PreparedForm) → is_prepared_for tag p ≡ true → (p.number ≡ 0 → ⊥) → Kept tag p
 unfolding is_prepared_for
-kept_of tag p is some = grind (arith, letters_are, eqb-true, or_cases, and_parts)
-
-abbrev fields_of : List ℕ → List ℕ → List ℕ → Fields
-fields_of l s r = record { language = l; script = s; region = r }
+kept_of tag p is some = grind (arith, eqb-true, or_cases, and_parts)
 
 -- the form that is kept is the form of the tag
 pub form_kept :
@@ -135,13 +65,7 @@ pub form_kept :
     fields.language ≡ name_text p.language → fields.script ≡ name_text p.script → fields.region ≡ name_text p.region → matching_form tag ≡ Some fields
 form_kept tag p fields is some language script region =
     let kept = kept_of tag p is some in
-    let names = and_parts _ (unlikely_form kept.form == p.unlikely) kept.fields in
-    let parts = and_parts (bytes_eq (name_text p.language) kept.form.language) _ names.0 in
-    let more = and_parts (bytes_eq (name_text p.script) kept.form.script) (bytes_eq (name_text p.region) kept.form.region) parts.1 in
-    kept.form_is ∙ ap Some (same_fields kept.form fields
-    (sym ((bytes_eq-Decides (name_text p.language) kept.form.language).0 parts.0) ∙ sym language)
-    (sym ((bytes_eq-Decides (name_text p.script) kept.form.script).0 more.0) ∙ sym script)
-    (sym ((bytes_eq-Decides (name_text p.region) kept.form.region).0 more.1) ∙ sym region))
+    grind (arith, and_parts, bytes_eq-Decides, same_fields kept.form fields)
 
 -- the number that is kept is the number of the tag's language
 pub number_kept : (tag : List ℕ) (p : PreparedForm) (number : ℕ) → is_prepared_for tag p ≡ true → (p.number ≡ 0 → ⊥) → number ≡ p.number → ForSome (matching_form tag) (HasNumber number)
@@ -154,7 +78,7 @@ pub unlikely_is_kept : (tag : List ℕ) (p : PreparedForm) → is_prepared_for t
 unfolding unlikely unlikely_of
 unlikely_is_kept tag p is some =
     let kept = kept_of tag p is some in
-    sym (ap (λ form. option_map_or unlikely_form form 2) kept.form_is ∙ eqb-true (unlikely_form kept.form) p.unlikely (and_parts _ (unlikely_form kept.form == p.unlikely) kept.fields).1)
+    grind (arith, nat_tests, and_parts, eqb-true)
 
 -- how unlikely a form is, whether it was kept or not
 pub unlikely_either : (kept : Option ℕ) (form : Option Fields) (tag : List ℕ) → ForSome kept (λ n. n ≡ unlikely tag) → form ≡ matching_form tag → unlikely_kept kept form ≡ unlikely tag
@@ -166,7 +90,7 @@ unlikely_either (Some n) form tag kept is = kept n refl
 pub letters_kept : (tag : List ℕ) (p : PreparedForm) → is_prepared_for tag p ≡ true → (p.number ≡ 0 → ⊥) → first_two tag ≡ Some (get_or p.letters 0 0, get_or p.letters 1 0)
 letters_kept tag p is some =
     let kept = kept_of tag p is some in
-    kept.letters_are ∙ letters_are kept.form kept.letters p kept.head
+    grind (arith, nat_tests, and_parts, eqb-true)
 
 -- ---- how near it is
 
@@ -184,22 +108,10 @@ either_some : (b : Bool) (x y : ℕ) → 1 ≤ x → 1 ≤ y → 1 ≤ cond b x 
 either_some true x y one other = one
 either_some false x y one other = other
 
-side_some : (set : RegionSet) (a b : List ℕ) → 1 ≤ by_side set a b
-side_some set a b = either_some (on_one_side set a b) 4 5 (omega arith) (omega arith)
-
-english_some : (a b : List ℕ) → 1 ≤ english a b
-english_some a b = either_some (is_british a b || is_british b a) 3 (by_side en_us a b) (omega arith) (side_some en_us a b)
-
-language_some : (d s : Fields) → 1 ≤ by_language d s
-language_some d s =
-    let chinese = either_some (are_alike (codes "zh") d.language && (are_alike (codes "Hant") d.script && are_alike (codes "Hant") s.script)) (by_side cnsar d.region s.region) 4 (side_some cnsar d.region s.region) (omega arith) in
-    let american = either_some (are_alike (codes "es") d.language || are_alike (codes "pt") d.language) (by_side americas d.region s.region) _ (side_some americas d.region s.region) chinese in
-    either_some (are_alike (codes "ar") d.language) (by_side maghreb d.region s.region) _ (side_some maghreb d.region s.region)
-    (either_some (are_alike (codes "en") d.language) (english d.region s.region) _ (english_some d.region s.region) american)
-
 region_some : (d s : Fields) → are_alike d.region s.region ≡ false → 1 ≤ region_distance d s
 unfolding region_distance
-region_some d s other = rw other (either_some (are_alike d.language s.language) _ 4 (language_some d s) (omega arith))
+region_some d s other =
+    rw other (either_some (are_alike d.language s.language) (by_language d s) 4 (search (rules, either_some)) (omega arith))
 
 pub region_apart :
     (range tag : List ℕ) (p : PreparedForm) (d : Fields) → matching_form range ≡ Some d → is_prepared_for tag p ≡ true → (p.number ≡ 0 → ⊥) → are_alike d.region (name_text p.region) ≡ false →
@@ -207,10 +119,7 @@ pub region_apart :
 unfolding distance_of_texts
 region_apart range tag p d range_is is some other =
     let kept = kept_of tag p is some in
-    let names = and_parts _ (unlikely_form kept.form == p.unlikely) kept.fields in
-    let region : name_text p.region ≡ kept.form.region = (bytes_eq-Decides (name_text p.region) kept.form.region).0 (and_parts (bytes_eq (name_text p.script) kept.form.script) _ (and_parts (bytes_eq (name_text p.language) kept.form.language) _ names.0).1).1 in
-    let apart = region_some d kept.form (ap (are_alike d.region) (sym region) ∙ other) in
-    grind (arith, range_is, kept.form_is, apart)
+    grind (arith, and_parts, bytes_eq-Decides, region_some d kept.form)
 
 -- ---- equal strings
 

@@ -1,6 +1,6 @@
 -- The tags of a site by their indices.
 -- The tags that are chosen in turn.
-use Rattle.langtag_scan.proofs.Prelude.{◌≡◌, ℕ, ◌<◌, List, length, get_or, None, Some, sym, ap, ◌∙◌, option_map, zero, suc, ◌≢◌, ◌⊎◌, inl, inr, ◌≤◌, ◌+◌, ◌-◌, ◌==◌, [], ◌∷◌, ◌++◌, Option, is_some, cond, count_by, slice_get, set, drop, refl, subst, arith, All, get_or-map, length-map, append_assoc, append-nil, drop-drop, drop-set-lt, length-append, length-set, eqb_tells, All-cons, All-nil, count_by-le-length, sum_by-cons, list_any, common_steps, nat_tests, cases_lt, take, length-take, get_or_past, true, false, true≢false, ◌&&◌, and_parts}
+use Rattle.langtag_scan.proofs.Prelude.{◌≡◌, slice_get-get_or, get_or-set_other, get_or-set_at, ℕ, ◌<◌, List, length, get_or, None, Some, sym, ap, ◌∙◌, option_map, ◌≢◌, ◌⊎◌, inl, inr, ◌≤◌, ◌+◌, ◌-◌, ◌==◌, [], ◌∷◌, ◌++◌, Option, is_some, cond, count_by, slice_get, set, drop, refl, arith, All, get_or-map, length-map, append_assoc, append-nil, drop-drop, drop-set-lt, length-append, length-set, eqb_tells, All-cons, All-nil, count_by-le-length, slice_get_within, get_or_from_slice_get, list_any, common_steps, nat_tests, cases_lt, take, length-take, get_or_past, true, false, ◌&&◌, and_parts}
 use Rattle.std.proofs.Common.{Contains}
 use Rattle.langtag.specs.Text.{lang_tag_text}
 use Rattle.langtag_choice.specs.ListTexts.{tag_texts}
@@ -8,7 +8,8 @@ use Rattle.langtag_choice.specs.Sites.{prepared_tags}
 use Rattle.langtag_choice.specs.declared.prepared_tag.PreparedTag.{PreparedTag}
 use Rattle.std.proofs.lemmas.List.Elements.{Contains-append_right}
 use Rattle.std.proofs.lemmas.List.Kept.{AllPairs-cons}
-use Rattle.std.proofs.lemmas.Option.{unwrap_or-slice_get}
+use Rattle.std.proofs.lemmas.List.Sums.{sum_by-set}
+use Rattle.std.proofs.lemmas.Option.{slice_get_past, unwrap_or-slice_get}
 use Rattle.langtag_range.specs.Element.{Element}
 use Rattle.langtag_choice.specs.Best.{IsChoice}
 use Rattle.langtag_choice.specs.Found.{is_tag_at, is_unrefused_at}
@@ -35,11 +36,10 @@ without_count tags (index ∷ chosen) = without_count (without tags index) chose
 
 -- the entry at an index, once another is taken away
 gone : (tags : List (Option (List ℕ))) (index other : ℕ) → slice_get (without tags index) other ≡ option_map (λ entry. cond (index == other) None entry) (slice_get tags other)
-gone [] index other = refl
-gone (tag ∷ tags) zero zero = refl
-gone (tag ∷ tags) zero (suc other) = grind arith
-gone (tag ∷ tags) (suc index) zero = grind arith
-gone (tag ∷ tags) (suc index) (suc other) = grind (arith, gone tags index other)
+gone tags index other =
+    let old = slice_get-get_or tags other None in
+    let new = slice_get-get_or (without tags index) other None in
+    grind (arith, old, new, slice_get_past, cases_lt other (length tags), eqb_tells, length-set, get_or-set_other, get_or-set_at)
 
 -- an entry that was chosen is no tag, and the others stay
 pub entry_left :
@@ -52,15 +52,10 @@ pub without_one_more : (tags : List (Option (List ℕ))) (chosen : List ℕ) (in
 without_one_more tags [] index = refl
 without_one_more tags (first ∷ chosen) index = without_one_more (without tags first) chosen index
 
-tag_none : (tags : List (Option (List ℕ))) (index : ℕ) → get_or tags index None ≡ None → is_tag_at tags index ≡ false
-tag_none tags index none = rw none refl
-
 -- a tag that is left is one of the entries
 pub tag_within : (tags : List (Option (List ℕ))) (chosen : List ℕ) (index : ℕ) → is_tag_at (without_all tags chosen) index ≡ true → index < length tags
-tag_within tags chosen index tag = elim (cases_lt index (length tags)) [
-  | inl below ↦ below
-  | inr past ↦ absurd (true≢false (sym tag ∙ tag_none (without_all tags chosen) index (get_or_past (without_all tags chosen) index None (subst (λ n. n ≤ index) (sym (without_count tags chosen)) past))))
-]
+tag_within tags chosen index tag =
+    grind (arith, common_steps, cases_lt index (length tags), entry_left tags chosen index, get_or_past)
 
 -- a tag that is left is a tag of the list
 pub tag_there : (tags : List (Option (List ℕ))) (chosen : List ℕ) (index : ℕ) → is_tag_at (without_all tags chosen) index ≡ true → is_tag_at tags index ≡ true
@@ -87,35 +82,18 @@ free_within elements tags chosen index free =
 -- ---- choosing in turn
 
 module _ (elements : List Element) (tags : List (Option (List ℕ))) (room : ℕ) where
-  pub goes_on_from_none : GoesOn elements tags room []
-  goes_on_from_none more suitable = grind (arith)
-
   pub one_more : (chosen : List ℕ) (index : ℕ) → length chosen < room → IsChoice elements (without_all tags chosen) (Some index) → GoesOn elements tags room chosen → GoesOn elements tags room (chosen ++ index ∷ [])
   one_more chosen index below choice goes more suitable =
       let number : room - length (chosen ++ index ∷ []) ≡ room - length chosen - 1 = omega (arith, length-append chosen (index ∷ [])) in
-      let rest : AreSuitable elements (without_all tags (chosen ++ index ∷ [])) (room - length chosen - 1) more = subst (λ n. AreSuitable elements (without_all tags (chosen ++ index ∷ [])) n more) number suitable in
-      let others : AreSuitable elements (without (without_all tags chosen) index) (room - length chosen - 1) more = subst (λ left. AreSuitable elements left (room - length chosen - 1) more) (without_one_more tags chosen index) rest in
-      subst (AreSuitable elements tags room) (sym (append_assoc chosen (index ∷ []) more)) (goes (index ∷ more) (omega (arith, below), choice, others))
-
-  pub none_more : (chosen : List ℕ) → IsChoice elements (without_all tags chosen) None → GoesOn elements tags room chosen → AreSuitable elements tags room chosen
-  none_more chosen none goes = subst (AreSuitable elements tags room) (append-nil chosen) (goes [] (λ some. none))
-
-  pub all_room : (chosen : List ℕ) → length chosen ≡ room → GoesOn elements tags room chosen → AreSuitable elements tags room chosen
-  all_room chosen full goes = subst (AreSuitable elements tags room) (append-nil chosen) (goes [] (λ some. absurd (omega (arith, full, some))))
+      rw append_assoc
+      (goes (index ∷ more) (omega (arith, below), choice, rw (number, without_one_more tags chosen index) at suitable))
 
 -- the indices are all: no other tag is suitable, or there is no room left
 pub all_chosen :
     (elements : List Element) (tags : List (Option (List ℕ))) (room count : ℕ) (found : List ℕ) → length found ≡ room → count ≤ room → (count < room → IsChoice elements (without_all tags (take count found)) None) →
     GoesOn elements tags room (take count found) → AreSuitable elements tags room (take count found)
-all_chosen elements tags room count found long within last goes = elim (cases_lt count room) [
-  | inl below ↦ none_more elements tags room (take count found) (last below) goes
-  | inr full ↦ all_room elements tags room (take count found) (omega (arith, length-take count found)) goes
-]
-
-pub goes_with :
-    (elements : List Element) (tags : List (Option (List ℕ))) (some room : ℕ) (before after : List ℕ) → some ≡ room → (GoesOn elements tags some before → GoesOn elements tags some after) →
-    GoesOn elements tags room before → GoesOn elements tags room after
-goes_with elements tags some room before after same step goes = subst (λ n. GoesOn elements tags n after) same (step (subst (λ n. GoesOn elements tags n before) (sym same) goes))
+all_chosen elements tags room count found long within last goes =
+    rw append-nil at (goes [] (λ some. last (omega (arith, length-take count found, some))))
 
 -- the rest of an array is unchanged from a later place on
 pub rest_later : (new old : List ℕ) (count later : ℕ) → drop count new ≡ drop count old → count ≤ later → drop later new ≡ drop later old
@@ -180,9 +158,8 @@ number_of_tags tags = count_by is_some tags
 
 -- without a tag they are one fewer
 one_fewer : (tags : List (Option (List ℕ))) (index : ℕ) (tag : List ℕ) → slice_get tags index ≡ Some (Some tag) → number_of_tags (without tags index) + 1 ≡ number_of_tags tags
-one_fewer [] index tag there = absurd cc
-one_fewer (first ∷ tags) zero tag there = grind (arith, sum_by-cons one_if_tag None tags, sum_by-cons one_if_tag first tags)
-one_fewer (first ∷ tags) (suc index) tag there = grind (arith, common_steps, sum_by-cons, one_fewer tags index tag there)
+one_fewer tags index tag there =
+    grind (arith, sum_by-set one_if_tag tags index None None, slice_get_within, get_or_from_slice_get)
 
 module _ (elements : List Element) where
   none_left : (tags : List (Option (List ℕ))) (room : ℕ) (indices : List ℕ) → AreSuitable elements tags room indices → (length indices < room) ⊎ (number_of_tags tags ≤ room) →
@@ -190,19 +167,14 @@ module _ (elements : List Element) where
   none_left tags room [] suitable (inl short) index serving = absurd (suitable short serving.0)
   none_left tags room [] suitable (inr enough) index serving =
       absurd (suitable (omega (arith, enough, one_fewer tags serving.0.index serving.0.tag serving.0.there)) serving.0)
-  none_left tags room (first ∷ indices) suitable enough index serving =
-      elim (eqb_tells index first) [
-        | inl same ↦ (0, omega arith, sym same.1)
-        | inr other ↦ Contains-append_right (first ∷ []) indices index
-            (none_left (without tags first) (room - 1) indices suitable.2 fewer index (serving_after elements tags first index other.1 serving))
-      ]
-    where
-      here : number_of_tags (without tags first) + 1 ≡ number_of_tags tags
-      here = subst (λ i. number_of_tags (without tags i) + 1 ≡ number_of_tags tags) suitable.1.here (one_fewer tags suitable.1.pair.index suitable.1.pair.tag suitable.1.pair.there)
-
-      fewer : (length indices < room - 1) ⊎ (number_of_tags (without tags first) ≤ room - 1)
-      fewer = elim enough [ inl short ↦ inl (omega (arith, short)) | inr few ↦ inr (omega (arith, few, here)) ]
+  none_left tags room (first ∷ indices) suitable enough index serving = elim (eqb_tells index first) [
+    | inl same ↦ (0, omega arith, sym same.1)
+    | inr other ↦ Contains-append_right (first ∷ []) indices index
+        (none_left (without tags first) (room - 1) indices suitable.2
+        (grind (arith, enough, one_fewer tags suitable.1.pair.index suitable.1.pair.tag suitable.1.pair.there)) index
+        (serving_after elements tags first index other.1 serving))
+  ]
 
   pub none_left_out : (tags : List (Option (List ℕ))) (room : ℕ) (indices : List ℕ) → AreSuitable elements tags room indices → LeavesNoneOut elements tags room indices
-  none_left_out tags room indices suitable (inl short) = none_left tags room indices suitable (inl short)
-  none_left_out tags room indices suitable (inr enough) = none_left tags room indices suitable (inr (omega (arith, enough, count_by-le-length is_some tags)))
+  none_left_out tags room indices suitable enough =
+      none_left tags room indices suitable (grind (arith, enough, count_by-le-length is_some tags))

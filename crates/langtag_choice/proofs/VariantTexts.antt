@@ -1,48 +1,36 @@
 -- The variants of texts as they are read, and how many of a range's variants a tag lacks.
-use Rattle.langtag_scan.proofs.Prelude.{◌≡◌, ℕ, true, false, not, cond, List, [], ◌∷◌, ◌++◌, inl, inr, refl, sym, ap, ◌∙◌, arith, length, map, filter, before_first, after_first, nat_tests, length-map, append_assoc, common_steps, list_any, or-true, bytes_eq, bytes_decides}
+use Rattle.langtag_scan.proofs.Prelude.{◌≡◌, ℕ, true, false, not, cond, List, [], ◌∷◌, ◌++◌, refl, sym, ap, ◌∙◌, arith, length, map, filter, before_first, after_first, nat_tests, length-map, append_assoc, common_steps, list_any, or-true, bytes_eq, bytes_decides}
 use Rattle.langtag_scan.specs.Grammar.{Alike, are_alike, fold_text, is_single, is_variant, subtags}
 use Rattle.langtag_scan.proofs.CaseLaw.{classes-fold, fold_text-twice, length-fold, subtags-fold}
-use Rattle.langtag_range.specs.Definitions.{are_extended_range, basic_form, basic_text, hyphened, is_language_range, is_separator}
-use Rattle.langtag_range.proofs.AlikeTexts.{hyphened-fold, is_star-fold}
-use Rattle.langtag_range.proofs.BasicForms.{basic_of, hyphened_range, IsBasicOf}
+use Rattle.langtag_range.specs.Definitions.{basic_text, hyphened, is_language_range, is_separator}
+use Rattle.langtag_range.proofs.AlikeTexts.{hyphened-fold}
+use Rattle.langtag_range.proofs.BasicForms.{basic_of, hyphened_range}
 use Rattle.langtag_range.proofs.WantedTexts.{cut_or_whole, segments-read}
 use Rattle.langtag_cldr.specs.Definitions.{counted, counts}
 use Rattle.langtag_cldr.proofs.CommonTexts.{next_part}
 use Rattle.langtag_choice.specs.Variants.{lacking, missing, text_variants, variant_parts, variants_among, variants_of, variants_of_subtags}
-use Rattle.langtag_choice.proofs.FarTags.{counted_plain}
+use Rattle.langtag_choice.proofs.AlikeDistances.{counted-fold}
+use Rattle.langtag_choice.proofs.FarTags.{counted_plain, read_subtags}
 
 -- ---- as they are read
 
 pub first_off : (text : List ℕ) → text_variants text ≡ cond (is_single (before_first is_separator text)) [] (variant_parts (after_first is_separator text))
-first_off [] = refl
-first_off (b ∷ text) = elim (cut_or_whole is_separator (b ∷ text)) [
-  | inl more ↦ ap variants_of_subtags (segments-read (b ∷ text) ∙ more)
-  | inr whole ↦ ap variants_of_subtags (segments-read (b ∷ text) ∙ whole.0) ∙ rw whole.1 refl
-]
+first_off text = grind (arith, common_steps, cut_or_whole is_separator text, segments-read text)
 
 variant_counts : (s : List ℕ) → is_variant s ≡ true → counts s ≡ true
 unfolding is_variant
-variant_counts [] is = absurd cc
-variant_counts (b ∷ []) is = absurd cc
-variant_counts (b ∷ c ∷ s) is = grind (arith, nat_tests)
+variant_counts s is = grind (arith, nat_tests, common_steps)
 
 variant_long : (s : List ℕ) → is_variant s ≡ true → is_single s ≡ false
 unfolding is_variant
-variant_long [] is = absurd cc
-variant_long (b ∷ []) is = absurd cc
-variant_long (b ∷ c ∷ s) is = grind (arith, nat_tests)
+variant_long s is = grind (arith, nat_tests, common_steps)
 
 -- the first variant, and those of the rest
 pub next_variant :
     (text : List ℕ) → is_variant (before_first is_separator text) ≡ true → variant_parts text ≡ before_first is_separator text ∷ variant_parts (after_first is_separator text)
-next_variant text is =
-    ap variants_among (next_part text) ∙ rw (variant_counts (before_first is_separator text) is, variant_long (before_first is_separator text) is, is) refl
+next_variant text is = grind (arith, common_steps, next_part text, variant_counts, variant_long)
 
 -- ---- in lowercase
-
-counted-fold : (ss : List (List ℕ)) → counted (map fold_text ss) ≡ map fold_text (counted ss)
-counted-fold [] = refl
-counted-fold (s ∷ ss) = grind (arith, common_steps, is_star-fold s, length-fold s, counted-fold ss)
 
 variant-fold : (s : List ℕ) → is_variant (fold_text s) ≡ is_variant s
 variant-fold s = ap (λ classes. classes.variant) (classes-fold s)
@@ -51,29 +39,18 @@ among-fold : (ss : List (List ℕ)) → variants_among (map fold_text ss) ≡ ma
 among-fold [] = refl
 among-fold (s ∷ ss) = grind (arith, common_steps, length-fold s, variant-fold s, among-fold ss)
 
-subtags_variants-fold : (ss : List (List ℕ)) → variants_of_subtags (map fold_text ss) ≡ map fold_text (variants_of_subtags ss)
-subtags_variants-fold [] = refl
-subtags_variants-fold (s ∷ ss) = grind (arith, common_steps, length-fold s, counted-fold ss, among-fold (counted ss))
-
 text_folded : (text : List ℕ) → variants_of text ≡ map fold_text (text_variants text)
 unfolding variants_of
-text_folded text = ap variants_of_subtags (ap subtags (hyphened-fold text) ∙ subtags-fold (hyphened text)) ∙ subtags_variants-fold (subtags (hyphened text))
+text_folded text =
+    grind (arith, nat_tests, common_steps, hyphened-fold, subtags-fold, hyphened, length-fold, counted-fold, among-fold, counted)
 
 -- ---- of a range
-
-basic_variants : (text : List ℕ) → is_language_range text ≡ true → variants_of_subtags (subtags (basic_form text)) ≡ variants_of_subtags (subtags text)
-basic_variants text is = by_subtags (subtags text) refl is (basic_of text is)
-  where
-    by_subtags : (ss : List (List ℕ)) → subtags text ≡ ss → are_extended_range ss ≡ true → IsBasicOf text (basic_form text) → variants_of_subtags (subtags (basic_form text)) ≡ variants_of_subtags (subtags text)
-    by_subtags [] are range basic = absurd cc
-    by_subtags (first ∷ others) are range basic = rw (basic.subtags first others are, are, counted_plain others) refl
 
 range_folded : (range : List ℕ) → is_language_range (hyphened range) ≡ true → variants_of (basic_text range) ≡ map fold_text (text_variants range)
 unfolding basic_text
 range_folded range is =
-    text_folded (basic_form (hyphened range))
-    ∙ ap (λ text. map fold_text (variants_of_subtags (subtags text))) (hyphened_range (basic_form (hyphened range)) (basic_of (hyphened range) is).range)
-    ∙ ap (map fold_text) (basic_variants (hyphened range) is)
+    let basic = read_subtags variants_of_subtags (λ first others. rw (counted_plain others) refl) (hyphened range) is in
+    grind (arith, nat_tests, common_steps, text_folded, hyphened, hyphened_range, basic_of, basic)
 
 pub range_count : (range : List ℕ) → is_language_range (hyphened range) ≡ true → length (variants_of (basic_text range)) ≡ length (text_variants range)
 range_count range is = ap length (range_folded range is) ∙ length-map (text_variants range) fold_text
@@ -108,11 +85,7 @@ lacking_all range tag none = rw (text_folded tag, none) (missing_all (variants_o
 -- none is lacking if there is none
 pub lacking_nothing : (range tag : List ℕ) → length (variants_of range) ≡ 0 → lacking range tag ≡ 0
 unfolding lacking
-lacking_nothing range tag none = by_variants (variants_of range) none
-  where
-    by_variants : (wanted : List (List ℕ)) → length wanted ≡ 0 → missing wanted (variants_of tag) ≡ 0
-    by_variants [] none = refl
-    by_variants (variant ∷ wanted) none = absurd (omega (arith, none))
+lacking_nothing range tag none = grind (arith, nat_tests, common_steps)
 
 -- ---- laws
 

@@ -59,7 +59,8 @@ fn are_equal_letters(own: (u8, u8), other: (u8, u8)) -> bool
 fn removed_as_read(range: &[u8], tag: &[u8]) -> Option<usize>
     requires { IsTrue (is_language_range (hyphened range.now)) }
     ensures { MatchOption result (is_fallback_as_read (basic_text range.now) tag.now ≡ false)
-        (λ removed. IsTrue (is_fallback_as_read (basic_text range.now) tag.now) × (removed ≡ length (behind_first (basic_text range.now)) - length (behind_first tag.now))) }
+        (λ removed. IsTrue (is_fallback_as_read (basic_text range.now) tag.now) ×
+        (removed ≡ length (behind_first (basic_text range.now)) - length (behind_first tag.now))) }
 {
     let (own, left) = split_range(range);
     let (other, rest) = split_tag(tag);

@@ -1,10 +1,12 @@
 //! Making the choice tag by tag. Each entry is checked once: whether it is a tag, and whether it is refused. To find
 //! the refused tags, each range is read once for a block of tags.
-ghost use Rattle.std.specs.Prelude.{◌≡◌, ◌<◌, ◌+◌, ◌^◌, ◌&&◌, ◌∷◌, [], ℕ, IsTrue, List, MatchOption, None, false, true, length, nat_lt, slice_index_or};
+ghost use Rattle.std.specs.Prelude.{◌≡◌, ◌<◌, ◌+◌, ◌^◌, ◌&&◌, ◌∷◌, [], ℕ, IsTrue, List, MatchOption};
+ghost use Rattle.std.specs.Prelude.{None, false, true, length, nat_lt, slice_index_or};
 ghost use Rattle.langtag_scan.specs.Prelude.{list_any};
 ghost use Rattle.langtag_range.specs.Definitions.{Element, listed_element, is_language_range, hyphened};
 ghost use Rattle.langtag_choice.specs.Serves.{is_excluded};
-ghost use Rattle.langtag_choice.specs.Found.{IsBestFound, IsWorst, ListTries, ListTriesRange, is_flagged, is_tag_at, is_unrefused_at};
+ghost use Rattle.langtag_choice.specs.Found.{IsBestFound, IsWorst, ListTries, ListTriesRange};
+ghost use Rattle.langtag_choice.specs.Found.{is_flagged, is_tag_at, is_unrefused_at};
 ghost use Rattle.langtag_choice.specs.Refusals.{AreLongestBefore, nothing_read};
 ghost use Rattle.langtag_choice.specs.Remaining.{without_all};
 
@@ -40,7 +42,8 @@ pub(crate) fn best_by_tags<'a, 't, R: RangeList<'a>, T: TagList>(
     best: &mut [Option<Candidate<'a, 't>>],
 )
     requires { 0 < length best.old }
-    ensures { ListTries (R.elements ranges) (T.texts tags.now) (λ place index. is_unrefused_at (R.elements ranges) (without_all (T.texts tags.now) chosen.now) index) best.old best.new }
+    ensures { ListTries (R.elements ranges) (T.texts tags.now)
+        (λ place index. is_unrefused_at (R.elements ranges) (without_all (T.texts tags.now) chosen.now) index) best.old best.new }
 {
     let Some(has_zero) = has_zero(ranges) else {
         return;
@@ -80,7 +83,8 @@ fn free_from<'a, R: RangeList<'a>, T: TagList>(
     requires inside { start < length (T.texts tags.now) }
     requires few { length (T.texts tags.now) < 2 ^ 64 }
     requires zero { has_zero ≡ list_any is_excluded (R.elements ranges) }
-    ensures { (k : ℕ) → slice_index_or result k false ≡ (nat_lt k 64 && is_unrefused_at (R.elements ranges) (without_all (T.texts tags.now) chosen.now) (start + k)) }
+    ensures { (k : ℕ) → slice_index_or result k false
+        ≡ (nat_lt k 64 && is_unrefused_at (R.elements ranges) (without_all (T.texts tags.now) chosen.now) (start + k)) }
 {
     let mut free = not_chosen(tags, chosen, start);
     if has_zero {
@@ -92,7 +96,8 @@ fn free_from<'a, R: RangeList<'a>, T: TagList>(
 /// Returns which entries from an index on are tags that are not chosen, up to [`BLOCK`] entries.
 fn not_chosen<T: TagList>(tags: &T, chosen: &[usize], start: usize) -> [bool; BLOCK]
     requires { start < length (T.texts tags.now) }
-    ensures { (k : ℕ) → slice_index_or result k false ≡ (nat_lt k 64 && is_tag_at (without_all (T.texts tags.now) chosen.now) (start + k)) }
+    ensures { (k : ℕ) → slice_index_or result k false
+        ≡ (nat_lt k 64 && is_tag_at (without_all (T.texts tags.now) chosen.now) (start + k)) }
 {
     let mut free = [false; BLOCK];
     for offset in 0..BLOCK.min(tags.count() - start) {
@@ -121,7 +126,8 @@ fn clear_refused<'a, R: RangeList<'a>, T: TagList>(
 )
     requires few { length (T.texts tags.now) < 2 ^ 64 }
     requires tags { (k : ℕ) → slice_index_or free.old k false ≡ true → IsTrue (is_tag_at (T.texts tags.now) (start + k)) }
-    ensures { (k : ℕ) → slice_index_or free.new k false ≡ (slice_index_or free.old k false && is_unrefused_at (R.elements ranges) (T.texts tags.now) (start + k)) }
+    ensures { (k : ℕ) → slice_index_or free.new k false
+        ≡ (slice_index_or free.old k false && is_unrefused_at (R.elements ranges) (T.texts tags.now) (start + k)) }
 {
     let mut longest = [Longest::none(); BLOCK];
     let mut left = ranges;
@@ -146,7 +152,9 @@ fn read_for_refusals<T: TagList>(
 )
     requires few { length (T.texts tags.now) < 2 ^ 64 }
     requires tags { (k : ℕ) → slice_index_or free.now k false ≡ true → IsTrue (is_tag_at (T.texts tags.now) (start + k)) }
-    ensures { (elements others : List Element) → AreLongestBefore elements (listed_element range.entry ∷ others) (T.texts tags.now) start free.now longest.old → AreLongestBefore elements others (T.texts tags.now) start free.now longest.new }
+    ensures { (elements others : List Element)
+        → AreLongestBefore elements (listed_element range.entry ∷ others) (T.texts tags.now) start free.now longest.old
+        → AreLongestBefore elements others (T.texts tags.now) start free.now longest.new }
 {
     for offset in 0..BLOCK {
         if free[offset] {
@@ -176,7 +184,8 @@ fn improve_at<'a, 't, R: RangeList<'a>, T: TagList>(
     requires some { 0 < length best.old }
     requires few { length (T.texts tags.now) < 2 ^ 64 }
     requires within { (k : ℕ) → slice_index_or free.now k false ≡ true → start + k < length (T.texts tags.now) }
-    ensures { ListTries (R.elements ranges) (T.texts tags.now) (λ place index. is_flagged start free.now index) best.old best.new }
+    ensures { ListTries (R.elements ranges) (T.texts tags.now) (λ place index. is_flagged start free.now index) best.old
+        best.new }
 {
     let mut worst = worst_of(best);
     let mut place = 0;
@@ -204,7 +213,8 @@ fn improve_for_range<'a, 't, T: TagList>(
     requires last { IsWorst best.old worst }
     requires few { length (T.texts tags.now) < 2 ^ 64 }
     requires within { (k : ℕ) → slice_index_or free.now k false ≡ true → start + k < length (T.texts tags.now) }
-    ensures tries { ListTriesRange (listed_element wanted.entry) place (T.texts tags.now) (is_flagged start free.now) best.old best.new }
+    ensures tries { ListTriesRange (listed_element wanted.entry) place (T.texts tags.now) (is_flagged start free.now) best.old
+        best.new }
     ensures inside { result < length best.new }
     ensures last { IsWorst best.new result }
 {

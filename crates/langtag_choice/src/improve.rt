@@ -17,7 +17,8 @@ use crate::wish::Wish;
 /// It is 0 if no tag can be better, and 51 if even a tag that only lookup finds may be better.
 #[tactic(auto, using(crate::proofs::RankLaws::reach_most))]
 pub(crate) fn limit(found: &Option<Candidate<'_, '_>>, weight: u32, place: usize) -> u8
-    ensures { (element : Element) (index : ℕ) (tag : List ℕ) → element.weight ≡ weight → result ≤ reach element.range tag → IsNotAfter found.now (spec.rank place element index tag) }
+    ensures { (element : Element) (index : ℕ) (tag : List ℕ) → element.weight ≡ weight → result ≤ reach element.range tag
+        → IsNotAfter found.now (spec.rank place element index tag) }
 {
     let lacking = lack(weight);
     match found {

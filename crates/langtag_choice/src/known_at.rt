@@ -1,5 +1,6 @@
 //! The entry of a list as the choice reads it, and the candidate after it was tried.
-ghost use Rattle.std.specs.Prelude.{◌≡◌, ◌≤◌, ◌<◌, ◌+◌, ◌^◌, ◌==◌, ◌&&◌, IsTrue, MatchOption, None, length, nat_le, nat_lt, slice_index_or};
+ghost use Rattle.std.specs.Prelude.{◌≡◌, ◌≤◌, ◌<◌, ◌+◌, ◌^◌, ◌==◌, ◌&&◌, IsTrue, MatchOption};
+ghost use Rattle.std.specs.Prelude.{None, length, nat_le, nat_lt, slice_index_or};
 ghost use Rattle.langtag_scan.specs.Prelude.{ForSome};
 ghost use Rattle.langtag_choice.specs.Found.{AddsNothing, TriesRange};
 ghost use Rattle.langtag_choice.specs.Near.{wish_element};
@@ -15,7 +16,8 @@ use crate::wish::Wish;
 /// Returns the tag at an index of a list as the choice reads it.
 fn known_at<T: TagList>(tags: &T, index: usize) -> KnownTag<'_>
     requires { index < length (T.texts tags.now) }
-    ensures { ForSome (slice_index_or (T.texts tags.now) index None) (λ text. (known_text result ≡ text) × IsTrue (is_known result)) }
+    ensures { ForSome (slice_index_or (T.texts tags.now) index None)
+        (λ text. (known_text result ≡ text) × IsTrue (is_known result)) }
 {
     match tags.form_at(index) {
         Some(prepared) => KnownTag::Prepared(tags.bytes_at(index), prepared),
@@ -47,7 +49,8 @@ fn is_far_at<T: TagList>(
 #[inline(never)]
 pub(crate) fn next_near<T: TagList>(tags: &T, wish: &Wish<'_>, from: usize) -> Option<usize>
     ensures { MatchOption result (AddsNothing wish.now (T.texts tags.now) (λ there. nat_le from there))
-        (λ index. (from ≤ index) × (index < length (T.texts tags.now)) × (index + 1 < 2 ^ 64) × AddsNothing wish.now (T.texts tags.now) (λ there. nat_le from there && nat_lt there index)) }
+        (λ index. (from ≤ index) × (index < length (T.texts tags.now)) × (index + 1 < 2 ^ 64) × AddsNothing wish.now
+        (T.texts tags.now) (λ there. nat_le from there && nat_lt there index)) }
 {
     let own = wish.language;
     for index in from..tags.count() {

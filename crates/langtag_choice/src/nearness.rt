@@ -50,7 +50,8 @@ pub(crate) fn measured<'t>(limit: u8, wish: &Wish<'_>, tag: KnownTag<'t>) -> Opt
 #[inline(always)]
 fn nearer_than<'t>(limit: u8, wish: &Wish<'_>, tag: KnownTag<'t>) -> Option<Nearness<'t>>
     ensures { IsTrue (is_known tag.entry) → MatchOption result (limit ≤ distance_of_texts (basic_text wish.now.range.now) (known_text tag.entry))
-        (IsNearer limit (distance_of_texts (basic_text wish.now.range.now) (known_text tag.entry)) (matching_form (known_text tag.entry))) }
+        (IsNearer limit (distance_of_texts (basic_text wish.now.range.now) (known_text tag.entry))
+        (matching_form (known_text tag.entry))) }
 {
     match tag {
         KnownTag::Text(text) => nearer_text(limit, wish, text),
@@ -106,7 +107,8 @@ fn nearer_fields<'t>(
     supported: TagFields<'t>,
 ) -> Option<Nearness<'t>>
     ensures { MatchOption result (limit ≤ fields_distance (field_texts desired.entry) (completed (field_texts supported.entry)))
-        (IsNearer limit (fields_distance (field_texts desired.entry) (completed (field_texts supported.entry))) (Some (completed (field_texts supported.entry)))) }
+        (IsNearer limit (fields_distance (field_texts desired.entry) (completed (field_texts supported.entry)))
+        (Some (completed (field_texts supported.entry)))) }
 {
     let language = language_distance(desired, with_language(supported));
     if language >= limit {
@@ -152,7 +154,8 @@ fn nearer_places<'t>(
 /// Returns the fields; if they have no language, likely subtags are added first.
 #[tactic(auto, unfolding(crate::specs::Distance::language_distance), using(langtag_cldr::proofs::AlikeFields::completed_language))]
 fn with_language<'t>(fields: TagFields<'t>) -> TagFields<'t>
-    ensures { (desired : Fields) → language_distance desired (field_texts result) ≡ language_distance desired (completed (field_texts fields.entry)) }
+    ensures { (desired : Fields) → language_distance desired (field_texts result)
+        ≡ language_distance desired (completed (field_texts fields.entry)) }
 {
     if fields.language.is_empty() {
         completed(fields)

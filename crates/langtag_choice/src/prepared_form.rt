@@ -69,7 +69,8 @@ impl PreparedForm {
     /// Keeps a matching form and the first letters of its tag.
     fn with(form: TagFields<'_>, letters: (u8, u8)) -> PreparedForm
         ensures prepared { IsTrue (keeps (Some (field_texts form.entry)) (Some letters) result) }
-        ensures kept { length form.entry.language.now ≤ 3 → IsTrue (has_head (field_texts form.entry) letters result && has_fields (field_texts form.entry) result) }
+        ensures kept { length form.entry.language.now ≤ 3
+            → IsTrue (has_head (field_texts form.entry) letters result && has_fields (field_texts form.entry) result) }
     {
         if form.language.len() > 3 {
             return PreparedForm::empty();
@@ -124,7 +125,8 @@ impl PreparedForm {
 
     /// Returns the matching form, or `None` if nothing is kept.
     pub(crate) fn form(&self) -> Option<TagFields<'_>>
-        ensures { ForSome result (λ form. (tag : List ℕ) → IsTrue (is_prepared_for tag self.now) → matching_form tag ≡ Some (field_texts form)) }
+        ensures { ForSome result (λ form. (tag : List ℕ) → IsTrue (is_prepared_for tag self.now)
+            → matching_form tag ≡ Some (field_texts form)) }
     {
         if self.number == 0 {
             return None;
@@ -155,7 +157,8 @@ impl PreparedForm {
 
     /// Returns whether the language of the tag is that of a range.
     pub(crate) fn has_language_of(&self, wish: &Wish<'_>) -> bool
-        ensures { IsTrue result → (tag : List ℕ) → IsTrue (is_prepared_for tag self.now) → HaveOneLanguage (matching_form (basic_text wish.now.range.now)) (matching_form tag) }
+        ensures { IsTrue result → (tag : List ℕ) → IsTrue (is_prepared_for tag self.now)
+            → HaveOneLanguage (matching_form (basic_text wish.now.range.now)) (matching_form tag) }
     {
         match wish.language {
             Some(own) => self.number != 0 && own.number == u32::from(self.number),
@@ -165,7 +168,8 @@ impl PreparedForm {
 
     /// Returns whether the region of the tag is not that of a range.
     pub(crate) fn has_other_region(&self, wish: &Wish<'_>) -> bool
-        ensures { IsTrue result → (tag : List ℕ) → IsTrue (is_prepared_for tag self.now) → 1 ≤ distance_of_texts (basic_text wish.now.range.now) tag }
+        ensures { IsTrue result → (tag : List ℕ) → IsTrue (is_prepared_for tag self.now)
+            → 1 ≤ distance_of_texts (basic_text wish.now.range.now) tag }
     {
         match wish.form {
             Some(form) => self.number != 0 && !case_insensitive_eq(form.region, name(&self.region)),
@@ -177,8 +181,10 @@ impl PreparedForm {
     /// language. A loop over tags passes its own copy of the language, so that it stays in registers.
     pub(crate) fn is_far_from(&self, wish: &Wish<'_>, own: &Option<RangeLanguage>) -> bool
         requires { own.now ≡ wish.now.language }
-        ensures far { IsTrue result → (tag : List ℕ) → IsTrue (is_prepared_for tag self.now) → 50 ≤ distance_of_texts (basic_text wish.now.range.now) tag }
-        ensures kept { IsTrue result → (tag : List ℕ) → IsTrue (is_prepared_for tag self.now) → kept (basic_text wish.now.range.now) tag ≡ 0 }
+        ensures far { IsTrue result → (tag : List ℕ) → IsTrue (is_prepared_for tag self.now)
+            → 50 ≤ distance_of_texts (basic_text wish.now.range.now) tag }
+        ensures kept { IsTrue result → (tag : List ℕ) → IsTrue (is_prepared_for tag self.now)
+            → kept (basic_text wish.now.range.now) tag ≡ 0 }
     {
         if self.number == 0 || self.number >= 32768 {
             return false;
@@ -190,7 +196,8 @@ impl PreparedForm {
 
 /// Returns a language with zeros that fill it up to three bytes.
 fn filled_language(language: &[u8]) -> [u8; 3]
-    ensures { IsTrue (are_alphanumeric language.now) → (length language.now ≡ 1 → ⊥) → length language.now ≤ 3 → name_text result ≡ language.now }
+    ensures { IsTrue (are_alphanumeric language.now) → (length language.now ≡ 1 → ⊥) → length language.now ≤ 3
+        → name_text result ≡ language.now }
 {
     match language {
         [first, second] => [*first, *second, 0],
@@ -215,7 +222,8 @@ fn language_name(field: &[u8; 3]) -> &[u8]
 
 /// Returns a field with zeros that fill it up to four bytes.
 fn filled(field: &[u8]) -> [u8; 4]
-    ensures { IsTrue (are_alphanumeric field.now) → (length field.now ≡ 1 → ⊥) → length field.now ≤ 4 → name_text result ≡ field.now }
+    ensures { IsTrue (are_alphanumeric field.now) → (length field.now ≡ 1 → ⊥) → length field.now ≤ 4
+        → name_text result ≡ field.now }
 {
     match field {
         [first, second] => [*first, *second, 0, 0],

@@ -1,7 +1,8 @@
 //! The lists of language ranges for which a tag can be chosen.
 ghost use Rattle.std.specs.Prelude.{◌≡◌, ◌<◌, ◌^◌, ◌∷◌, [], ℕ, IfSome, IsTrue, List, None, Some, length, slice_get};
 ghost use Rattle.langtag_scan.specs.Prelude.{option_map_or};
-ghost use Rattle.langtag_range.specs.Definitions.{Element, basic_text, listed_element, is_language_range, hyphened, wanted_elements};
+ghost use Rattle.langtag_range.specs.Definitions.{Element, basic_text, listed_element};
+ghost use Rattle.langtag_range.specs.Definitions.{is_language_range, hyphened, wanted_elements};
 ghost use Rattle.langtag_choice.specs.ListTexts.{header_ranges, ordered_elements, range_texts, weighted_elements, weighted_texts};
 
 use langtag_match::{LanguageRange, WeightedRange};
@@ -81,7 +82,8 @@ impl<'a> RangeList<'a> for &'a [LanguageRange<'a>] {
 /// Returns the bytes of the range with `place` ranges before it.
 pub(crate) fn range_at<'a, R: RangeList<'a>>(ranges: R, place: usize) -> Option<&'a [u8]>
     ensures text { IfSome result (λ range. slice_get (R.texts ranges) place ≡ Some range.now) }
-    ensures read { (element : Element) → slice_get (R.elements ranges) place ≡ Some element → IfSome result (λ range. basic_text range.now ≡ element.range) }
+    ensures read { (element : Element) → slice_get (R.elements ranges) place ≡ Some element
+        → IfSome result (λ range. basic_text range.now ≡ element.range) }
     ensures in_class { IfSome result (λ range. IsTrue (is_language_range (hyphened range.now))) }
     ensures none { result ≡ None → slice_get (R.elements ranges) place ≡ None }
 {

@@ -23,7 +23,8 @@ pub(crate) fn starts(range: &[u8], tag: &[u8]) -> bool
 
 /// Returns whether a tag equals a range, or begins with the range and a hyphen.
 pub(crate) fn begins(range: &[u8], tag: &[u8]) -> bool
-    ensures { result ≡ (are_alike (basic_text range.now) (take (length (basic_text range.now)) tag.now) && ends_subtag (drop (length (basic_text range.now)) tag.now)) }
+    ensures { result ≡ (are_alike (basic_text range.now) (take (length (basic_text range.now)) tag.now)
+        && ends_subtag (drop (length (basic_text range.now)) tag.now)) }
 {
     let (left, rest) = after_common(range, tag);
     left.is_empty() && ends_subtag(rest)

@@ -29,7 +29,8 @@ impl Longest {
 
     /// Returns the lengths after one more range is read.
     pub(crate) fn with(self, range: WantedRange<'_>, tag: &[u8]) -> Longest
-        ensures { (elements left : List Element) → IsLongestBefore elements (listed_element range.entry ∷ left) tag.now self → IsLongestBefore elements left tag.now result }
+        ensures { (elements left : List Element) → IsLongestBefore elements (listed_element range.entry ∷ left) tag.now self
+            → IsLongestBefore elements left tag.now result }
     {
         if !matches(range, tag) {
             return self;
@@ -51,7 +52,8 @@ impl Longest {
     /// Returns whether the longest range that matches the tag has the weight 0.
     #[tactic(auto, unfolding(crate::specs::Best::is_refused))]
     pub(crate) fn is_refused(self) -> bool
-        ensures { (elements : List Element) (tag : List ℕ) → IsLongestBefore elements [] tag self → result ≡ spec.is_refused elements tag }
+        ensures { (elements : List Element) (tag : List ℕ) → IsLongestBefore elements [] tag self
+            → result ≡ spec.is_refused elements tag }
     {
         self.wanted < self.refused
     }

@@ -63,7 +63,8 @@ fn language_pair(desired: TagFields<'_>, supported: TagFields<'_>) -> u32
 fn script_pair(desired: TagFields<'_>, supported: TagFields<'_>) -> u64
     requires desired { length desired.language.now ≤ 3 }
     requires supported { length supported.language.now ≤ 3 }
-    ensures number { result ≡ script_pair (without_region (field_texts desired.entry)) (without_region (field_texts supported.entry)) }
+    ensures number { result ≡ script_pair (without_region (field_texts desired.entry))
+        (without_region (field_texts supported.entry)) }
     ensures half { key_number (without_region (field_texts supported.entry)) < 4294967296 }
 {
     let supported = key_number(supported.without_region());

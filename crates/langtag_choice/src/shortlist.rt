@@ -21,7 +21,8 @@ pub(crate) fn improve<'a, 't, T: TagList>(
     requires inside { worst < length best.old }
     requires last { IsWorst best.old worst }
     requires there { index < length (T.texts tags.now) }
-    ensures tries { ListTriesRange (wish_element wish.now) wish.now.place (T.texts tags.now) (λ there. there == index) best.old best.new }
+    ensures tries { ListTriesRange (wish_element wish.now) wish.now.place (T.texts tags.now) (λ there. there == index) best.old
+        best.new }
     ensures inside { result < length best.new }
     ensures last { IsWorst best.new result }
 {
@@ -100,7 +101,8 @@ fn is_before(next: &Option<Candidate<'_, '_>>, other: &Option<Candidate<'_, '_>>
 
 /// Returns the place of the candidate of the tag at an index.
 fn place_of(best: &[Option<Candidate<'_, '_>>], index: usize) -> Option<usize>
-    ensures { MatchOption result ((c : _) → IsListed best.now c → (c.index ≡ index → ⊥)) (λ place. (place < length best.now) × IsOfTag best.now place index) }
+    ensures { MatchOption result ((c : _) → IsListed best.now c → (c.index ≡ index → ⊥))
+        (λ place. (place < length best.now) × IsOfTag best.now place index) }
 {
     for place in 0..best.len() {
         if let Some(other) = &best[place] {

@@ -63,7 +63,8 @@ impl<'s, 't> Site<'s, 't> {
     /// Returns the index of the best tag for a parsed header, as
     /// [`best_for_accept_language`](crate::best_for_accept_language) does.
     pub fn best_for_accept_language(self, accepted: &AcceptLanguage<'_>) -> Option<usize>
-        ensures { spec.IsChoice (weighted_elements (accept_language_ranges accepted.now)) (tag_texts (prepared_tags self.entry.tags.now)) result }
+        ensures { spec.IsChoice (weighted_elements (accept_language_ranges accepted.now))
+            (tag_texts (prepared_tags self.entry.tags.now)) result }
     {
         best_among(accepted.ranges(), &self)
     }
@@ -81,7 +82,8 @@ impl<'s, 't> Site<'s, 't> {
     pub fn match_for_header<'a>(self, header: &'a [u8]) -> Option<BestMatch<'a>>
         ensures found { spec.IsMatch (wanted_elements header.now) (tag_texts (prepared_tags self.entry.tags.now)) result }
         ensures written { spec.IsWritten (header_ranges header.now) result }
-        ensures choice { spec.IsChoice (wanted_elements header.now) (tag_texts (prepared_tags self.entry.tags.now)) (option_map (λ found. found.index) result) }
+        ensures choice { spec.IsChoice (wanted_elements header.now) (tag_texts (prepared_tags self.entry.tags.now))
+            (option_map (λ found. found.index) result) }
     {
         match_among(header, &self)
     }

@@ -39,7 +39,8 @@ pub fn suitable_for_header(
     header: &[u8],
     tags: &[LangTag<'_>],
 ) -> Result<Vec<usize>, AllocError>
-    ensures suitable { IfOk result (λ found. spec.AreSuitable (wanted_elements header.now) (tag_texts tags.now) (length tags.now) found.items) }
+    ensures suitable { IfOk result (λ found. spec.AreSuitable (wanted_elements header.now) (tag_texts tags.now) (length tags.now)
+        found.items) }
 {
     suitable_among(alloc, header, &Tags(tags))
 }
@@ -66,7 +67,8 @@ pub fn suitable_for_ranges(
     ranges: &[LanguageRange<'_>],
     tags: &[LangTag<'_>],
 ) -> Result<Vec<usize>, AllocError>
-    ensures suitable { IfOk result (λ found. spec.AreSuitable (ordered_elements ranges.now) (tag_texts tags.now) (length tags.now) found.items) }
+    ensures suitable { IfOk result (λ found. spec.AreSuitable (ordered_elements ranges.now) (tag_texts tags.now) (length tags.now)
+        found.items) }
 {
     suitable_among(alloc, ranges, &Tags(tags))
 }
@@ -91,9 +93,11 @@ pub fn suitable_among<'a, R: RangeList<'a>, T: TagList>(
     ranges: R,
     tags: &T,
 ) -> Result<Vec<usize>, AllocError>
-    ensures suitable { IfOk result (λ found. spec.AreSuitable (R.elements ranges) (T.texts tags.now) (length (T.texts tags.now)) found.items) }
+    ensures suitable { IfOk result (λ found. spec.AreSuitable (R.elements ranges) (T.texts tags.now) (length (T.texts tags.now))
+        found.items) }
     // law: no tag is left out that may serve a range and is not refused
-    ensures none_left { IfOk result (λ found. spec.LeavesNoneOut (R.elements ranges) (T.texts tags.now) (length (T.texts tags.now)) found.items) }
+    ensures none_left { IfOk result (λ found. spec.LeavesNoneOut (R.elements ranges) (T.texts tags.now)
+        (length (T.texts tags.now)) found.items) }
 {
     let mut found = vec![in alloc; 0; tags.count()]?;
     let count = write_suitable(ranges, tags, &mut found);
@@ -182,8 +186,10 @@ fn choose_next<'a, R: RangeList<'a>, T: TagList>(
     start: usize,
 ) -> (usize, bool)
     requires { start < length found.old }
-    ensures goes_on { GoesOn (R.elements ranges) (T.texts tags.now) (length found.old) (take start found.old) → GoesOn (R.elements ranges) (T.texts tags.now) (length found.old) (take result.0 found.new) }
-    ensures last { result.1 ≡ true → result.0 < length found.old → IsChoice (R.elements ranges) (without_all (T.texts tags.now) (take result.0 found.new)) None }
+    ensures goes_on { GoesOn (R.elements ranges) (T.texts tags.now) (length found.old) (take start found.old)
+        → GoesOn (R.elements ranges) (T.texts tags.now) (length found.old) (take result.0 found.new) }
+    ensures last { result.1 ≡ true → result.0 < length found.old
+        → IsChoice (R.elements ranges) (without_all (T.texts tags.now) (take result.0 found.new)) None }
     ensures more { result.1 ≡ false → start < result.0 }
     ensures ahead { start ≤ result.0 }
     ensures within { result.0 ≤ length found.old }

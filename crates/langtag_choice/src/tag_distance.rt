@@ -116,10 +116,12 @@ fn fields_distance(desired: TagFields<'_>, supported: TagFields<'_>) -> u8
 
 /// Returns the distance of the scripts and the regions of two matching forms.
 pub(crate) fn places_distance(desired: TagFields<'_>, supported: TagFields<'_>) -> u8
-    ensures distance { result ≡ spec.script_distance (field_texts desired.entry) (field_texts supported.entry) + spec.region_distance (field_texts desired.entry) (field_texts supported.entry) }
+    ensures distance { result ≡ spec.script_distance (field_texts desired.entry) (field_texts supported.entry) +
+        spec.region_distance (field_texts desired.entry) (field_texts supported.entry) }
     ensures most { result ≤ 55 }
     ensures apart { are_alike desired.entry.language.now supported.entry.language.now ≡ false → result ≤ 54 }
-    ensures equal { (result == 0) ≡ (are_alike desired.entry.script.now supported.entry.script.now && are_alike desired.entry.region.now supported.entry.region.now) }
+    ensures equal { (result == 0) ≡ (are_alike desired.entry.script.now supported.entry.script.now
+        && are_alike desired.entry.region.now supported.entry.region.now) }
 {
     script_distance(desired, supported) + region_distance(desired, supported)
 }

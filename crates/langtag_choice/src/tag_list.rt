@@ -53,7 +53,8 @@ pub trait TagList {
     /// Override this only for prepared tags.
     fn form_at(&self, _index: usize) -> Option<&PreparedForm>
         requires { _index < length (texts self.now) }
-        ensures { ForSome result (λ form. ForSome (slice_index_or (texts self.now) _index None) (λ text. IsTrue (is_prepared_for text form.now))) }
+        ensures { ForSome result (λ form. ForSome (slice_index_or (texts self.now) _index None)
+            (λ text. IsTrue (is_prepared_for text form.now))) }
     {
         None
     }

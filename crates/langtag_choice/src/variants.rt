@@ -77,7 +77,8 @@ fn after_first(text: &[u8]) -> &[u8]
 /// Returns the first variant before a singleton, and the string after the variant.
 #[tactic(auto, using(langtag_cldr::proofs::CommonTexts::next_part, langtag_range::proofs::WantedTexts::shorter))]
 fn split_variant(text: &[u8]) -> Option<(&[u8], &[u8])>
-    ensures first { spec.variant_parts text.now ≡ option_map_or (λ found. found.0.now ∷ spec.variant_parts found.1.now) result [] }
+    ensures first { spec.variant_parts text.now
+        ≡ option_map_or (λ found. found.0.now ∷ spec.variant_parts found.1.now) result [] }
     ensures shorter { IfSome result (λ found. length found.1.now < length text.now) }
 {
     let mut left = text;

@@ -1,5 +1,6 @@
 //! A range that a tag can serve.
-ghost use Rattle.std.specs.Prelude.{◌≡◌, ◌≤◌, ◌<◌, ◌==◌, ◌++◌, [], ◌∷◌, ℕ, IsTrue, List, MatchOption, None, Some, false, length, option_map};
+ghost use Rattle.std.specs.Prelude.{◌≡◌, ◌≤◌, ◌<◌, ◌==◌, ◌++◌, [], ◌∷◌, ℕ, IsTrue, List};
+ghost use Rattle.std.specs.Prelude.{MatchOption, None, Some, false, length, option_map};
 ghost use Rattle.langtag_scan.specs.Prelude.{ForSome};
 ghost use Rattle.langtag_choice.specs.FirstLetters.{first_two};
 ghost use Rattle.langtag_choice.specs.Variants.{variants_of};
@@ -86,8 +87,10 @@ impl<'a> Wish<'a> {
     /// range, or that lookup finds, can serve such a range, and both begin as the range does.
     fn is_far_without_form(&self, letters: (u8, u8)) -> bool
         requires { matching_form (basic_text self.now.range.now) ≡ None }
-        ensures far { IsTrue result → (tag : List ℕ) → first_two tag ≡ Some letters → 50 ≤ distance_of_texts (basic_text self.now.range.now) tag }
-        ensures kept { IsTrue result → (tag : List ℕ) → first_two tag ≡ Some letters → kept (basic_text self.now.range.now) tag ≡ 0 }
+        ensures far { IsTrue result → (tag : List ℕ) → first_two tag ≡ Some letters
+            → 50 ≤ distance_of_texts (basic_text self.now.range.now) tag }
+        ensures kept { IsTrue result → (tag : List ℕ) → first_two tag ≡ Some letters
+            → kept (basic_text self.now.range.now) tag ≡ 0 }
     {
         match self.language {
             Some(own) => letters != own.letters,
@@ -105,8 +108,10 @@ impl<'a> Wish<'a> {
     ) -> bool
         requires few { number < 32768 }
         requires own { own.now ≡ self.now.language }
-        ensures far { IsTrue result → (tag : List ℕ) → first_two tag ≡ Some letters → ForSome (matching_form tag) (HasNumber number) → 50 ≤ distance_of_texts (basic_text self.now.range.now) tag }
-        ensures kept { IsTrue result → (tag : List ℕ) → first_two tag ≡ Some letters → kept (basic_text self.now.range.now) tag ≡ 0 }
+        ensures far { IsTrue result → (tag : List ℕ) → first_two tag ≡ Some letters
+            → ForSome (matching_form tag) (HasNumber number) → 50 ≤ distance_of_texts (basic_text self.now.range.now) tag }
+        ensures kept { IsTrue result → (tag : List ℕ) → first_two tag ≡ Some letters
+            → kept (basic_text self.now.range.now) tag ≡ 0 }
     {
         match own {
             Some(own) => own.is_far(number) && letters != own.letters,

@@ -1,6 +1,6 @@
 use Rattle.std.proofs.Common.{sym}
 use Rattle.langtag_choice.specs.Best.{IsMatchOf}
-use Rattle.langtag_choice.proofs.FoundLaws.{match_found, range_found}
+use Rattle.langtag_choice.proofs.FoundLaws.{match_found}
 use Rattle.langtag_choice.proofs.best.match_among.Goals as goal
 
 pub returns : goal.returns
@@ -13,6 +13,3 @@ returns g c =
       written = cc (c.in_ok-range.ensures.text, c.match_of.ensures.place, c.match_of.ensures.range);
       choice = record { pair = is.pair; here = sym is.index; least = is.least };
     }
-
-pub returns-in_err-range : goal.returns-in_err-range
-returns-in_err-range g c = absurd (range_found _ _ _ c.in_ok-found.found c.in_ok-found.was c.best.ensures (c.range_at.ensures.none c.in_err-range.was))

@@ -1,6 +1,6 @@
-use Rattle.langtag_scan.proofs.Prelude.{◌≡◌, ◌+◌, ◌<◌, arith, cases_lt, inl, inr, sym, subst, ◌∙◌, get_or, rules, true, false, []}
+use Rattle.langtag_scan.proofs.Prelude.{◌≡◌, eqb_tells, ◌+◌, ◌<◌, arith, sym, subst, get_or, rules, true, false, []}
 use Rattle.langtag_choice.specs.Refusals.{IsLongestBefore, nothing_read}
-use Rattle.langtag_choice.proofs.Refusals.{all_none, cleared, entry_there, kept_set, next_read, refused_at}
+use Rattle.langtag_choice.proofs.Refusals.{all_none, entry_there, next_read, refused_at}
 use Rattle.std.proofs.lemmas.Grind.{get_or-set_at}
 use Rattle.std.proofs.lemmas.List.{get_or-set_other}
 use Rattle.langtag_choice.proofs.by_tags.clear_refused.Goals.{then-is_refused, else-is_refused}
@@ -30,22 +30,15 @@ loop-offset-preserved g c =
     elim c.if-is_refused.branch [
       | then-is_refused w ↦ rw w.free-is (record {
         long = search (rules, c.loop-offset.invariant.long);
-        before = λ k below. elim (cases_lt k offset) [
-          | inl earlier ↦ get_or-set_other free offset k false false (λ same. omega (arith, earlier, same)) ∙ c.loop-offset.invariant.before k earlier
-          | inr past ↦
-              let same : k ≡ offset = omega (arith, below, past) in
-              get_or-set_at free offset k false false same (omega (arith, within, c.loop-offset.invariant.long)) ∙ sym (rw same (cleared (get_or c.args.free.now offset false) _ _ w.if-is_refused.true told))
-        ];
-        after = λ k past. get_or-set_other free offset k false false (λ same. omega (arith, past, same)) ∙ c.loop-offset.invariant.after k (omega (arith, past));
+        before = λ k below.
+            let long = c.loop-offset.invariant.long in
+            grind (arith, get_or-set_other, get_or-set_at, c.loop-offset.invariant.before k, long, told, eqb_tells k offset);
+        after = λ k past. grind (arith, get_or-set_other, c.loop-offset.invariant.after k);
       })
       | else-is_refused w ↦ rw w.free-is (record {
         long = c.loop-offset.invariant.long;
-        before = λ k below. elim (cases_lt k offset) [
-          | inl earlier ↦ c.loop-offset.invariant.before k earlier
-          | inr past ↦
-              let same : k ≡ offset = omega (arith, below, past) in
-              rw same (c.loop-offset.invariant.after offset (omega arith) ∙ sym (kept_set (get_or c.args.free.now offset false) _ _ w.if-is_refused.false told))
-        ];
+        before = λ k below.
+            grind (arith, c.loop-offset.invariant.before k, c.loop-offset.invariant.after k, told, eqb_tells k offset);
         after = λ k past. c.loop-offset.invariant.after k (omega (arith, past));
       })
     ]

@@ -1,4 +1,4 @@
-use Rattle.langtag_scan.proofs.Prelude.{◌≡◌, ◌+◌, ◌<◌, ◌∷◌, Some, None, arith, cases_lt, inl, inr, true≢false, sym, ap, subst, ◌∙◌, get_or, get_or_past, get_or_from_slice_get, false}
+use Rattle.langtag_scan.proofs.Prelude.{◌≡◌, eqb_tells, ◌+◌, ◌<◌, ◌∷◌, Some, None, arith, cases_lt, inl, inr, sym, ap, subst, ◌∙◌, get_or, get_or_past, get_or_from_slice_get}
 use Rattle.std.proofs.lemmas.Grind.{get_or-set_at}
 use Rattle.std.proofs.lemmas.List.{get_or-set_other}
 use Rattle.langtag_range.specs.Definitions.{listed_element}
@@ -14,15 +14,11 @@ loop-offset-preserved g c =
     elim c.if-free-offset.branch [
       | then-free-offset w ↦ record {
         long = c.if-free-offset.array_long;
-        after = λ k past.
-            ap (λ all. get_or all k nothing_read) w.longest-is
-            ∙ get_or-set_other longest offset k w.with.result nothing_read (λ same. omega (arith, past, same))
-            ∙ c.loop-offset.invariant.after k (omega (arith, past));
+        after = λ k past. grind (arith, w.longest-is, get_or-set_other, c.loop-offset.invariant.after k);
         before = λ k elements others tag below set there was. elim (cases_lt k offset) [
           | inl earlier ↦
-              subst (IsLongestBefore elements others tag)
-              (sym (ap (λ all. get_or all k nothing_read) w.longest-is ∙ get_or-set_other longest offset k w.with.result nothing_read (λ same. omega (arith, earlier, same))))
-              (c.loop-offset.invariant.before k elements others tag earlier set there was)
+              let before = c.loop-offset.invariant.before k elements others tag earlier set there was in
+              grind (arith, w.longest-is, get_or-set_other, before)
           | inr past ↦
               let same : k ≡ offset = omega (arith, below, past) in
               let within : offset < 64 = c.loop-offset-test.true in
@@ -41,19 +37,13 @@ loop-offset-preserved g c =
       }
       | else-free-offset w ↦ record {
         long = c.if-free-offset.array_long;
-        after = λ k past. ap (λ all. get_or all k nothing_read) w.longest-is ∙ c.loop-offset.invariant.after k (omega (arith, past));
-        before = λ k elements others tag below set there was. elim (cases_lt k offset) [
-          | inl earlier ↦
-              subst (IsLongestBefore elements others tag) (sym (ap (λ all. get_or all k nothing_read) w.longest-is)) (c.loop-offset.invariant.before k elements others tag earlier set there was)
-          | inr past ↦
-              let same : k ≡ offset = omega (arith, below, past) in
-              absurd (true≢false (sym set ∙ ap (λ j. get_or c.args.free.now j false) same ∙ w.if-free-offset.false))
-        ];
+        after = λ k past. grind (arith, w.longest-is, c.loop-offset.invariant.after k);
+        before = λ k elements others tag below set there was.
+            let before = c.loop-offset.invariant.before k elements others tag in
+            grind (arith, w.longest-is, before, w.if-free-offset.false, eqb_tells k offset);
       }
     ]
 
 pub returns : goal.returns
-returns g c = λ elements others read k tag set there. elim (cases_lt k 64) [
-  | inl below ↦ c.loop-offset.invariant.before k elements others tag (omega (arith, below, c.loop-offset-test.false)) set there (read k tag set there)
-  | inr past ↦ absurd (true≢false (sym set ∙ get_or_past c.args.free.now k false (omega (arith, past, c.told-free))))
-]
+returns g c = λ elements others read k tag set there.
+    grind (arith, c.loop-offset.invariant.before k elements others tag, read k tag, c.told-free, get_or_past, cases_lt k 64)

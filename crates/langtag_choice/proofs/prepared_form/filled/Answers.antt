@@ -1,12 +1,12 @@
-use Rattle.std.proofs.Common.{arith}
-use Rattle.langtag_choice.proofs.PreparedForms.{name_of_two, name_of_three, name_of_four}
+use Rattle.langtag_scan.proofs.Prelude.{arith, nat_tests, common_steps, and_parts}
+use Rattle.langtag_choice.proofs.PreparedForms.{not_zero}
 use Rattle.langtag_choice.proofs.prepared_form.filled.Goals as goal
 
 pub returns-in-len2 : goal.returns-in-len2
-returns-in-len2 c = λ plain one most. name_of_two c.args.field.now (omega arith) (omega arith) plain
+returns-in-len2 c = λ plain one most. grind (arith, nat_tests, common_steps, not_zero, and_parts)
 
 pub returns-in-len3 : goal.returns-in-len3
-returns-in-len3 c = λ plain one most. name_of_three c.args.field.now (omega arith) (omega arith) plain
+returns-in-len3 c = λ plain one most. grind (arith, nat_tests, common_steps, not_zero, and_parts)
 
 pub returns-in-len4 : goal.returns-in-len4
-returns-in-len4 c = λ plain one most. name_of_four c.args.field.now (omega arith) (omega arith) plain
+returns-in-len4 c = λ plain one most. grind (arith, nat_tests, common_steps, not_zero, and_parts)

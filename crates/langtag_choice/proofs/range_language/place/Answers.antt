@@ -6,16 +6,12 @@ use Rattle.langtag_choice.proofs.range_language.place.Goals as goal
 pub returns-in-Ok-clause-before : goal.returns-in-Ok-clause-before
 returns-in-Ok-clause-before c = λ k below.
     let at = searched c.args.numbers.now c.args.least (Ok c.in-Ok.index) c.in-Ok.ensures.position (climb_searched c.args.numbers.now c.requires) in
-    let less = climbs_at 0 c.args.numbers.now k c.in-Ok.index c.requires below at.0 in
-    let same = at.1 in
-    omega (arith, less, same)
+    omega (arith, climbs_at 0 c.args.numbers.now k c.in-Ok.index c.requires below at.0, at.1)
 
 pub returns-in-Ok-clause-after : goal.returns-in-Ok-clause-after
 returns-in-Ok-clause-after c = λ k from inside.
     let at = searched c.args.numbers.now c.args.least (Ok c.in-Ok.index) c.in-Ok.ensures.position (climb_searched c.args.numbers.now c.requires) in
-    let up = climb_searched c.args.numbers.now c.requires c.in-Ok.index k from inside in
-    let same = at.1 in
-    omega (arith, up, same)
+    omega (arith, climb_searched c.args.numbers.now c.requires c.in-Ok.index k from inside, at.1)
 
 pub returns-in-Err-clause-before : goal.returns-in-Err-clause-before
 returns-in-Err-clause-before c = λ k below.

@@ -1,4 +1,4 @@
-use Rattle.std.proofs.Common.{◌≡◌, None, get_or, subst}
+use Rattle.std.proofs.Common.{◌≡◌, None, get_or}
 use Rattle.std.proofs.lemmas.List.{get_or_read}
 use Rattle.langtag_choice.specs.Candidates.{Keeps}
 use Rattle.langtag_choice.proofs.PutLaws.{each_place}
@@ -14,15 +14,13 @@ loop-place-preserved c =
     let first_is : c.index-best-first.result ≡ get_or best first None = get_or_read best first c.index-best-first.result c.loop-place.invariant.inside c.index-best-first.is None in
     elim c.if-is_before.branch [
       | then-is_before w ↦
-          let next : Keeps (get_or best first None) (get_or best place None) =
-          subst (λ o. Keeps o (get_or best place None)) first_is (subst (λ o. Keeps c.index-best-first.result o) place_is (c.is_before.ensures.before w.if-is_before.true)) in
+          let next = rw (first_is, place_is) at (c.is_before.ensures.before w.if-is_before.true) in
           rw w.first-is (record {
             inside = c.loop-place-test.true;
             first = each_place (λ k. Keeps (get_or best k None) (get_or best place None)) place (λ r at. at) (λ k below r at. next r (c.loop-place.invariant.first k below r at));
           })
       | else-is_before w ↦
-          let stays : Keeps (get_or best place None) (get_or best first None) =
-          subst (λ o. Keeps o (get_or best first None)) place_is (subst (λ o. Keeps c.index-best-place.result o) first_is (c.is_before.ensures.after w.if-is_before.false)) in
+          let stays = rw (place_is, first_is) at (c.is_before.ensures.after w.if-is_before.false) in
           rw w.first-is (record {
             inside = c.loop-place.invariant.inside;
             first = each_place (λ k. Keeps (get_or best k None) (get_or best first None)) place stays c.loop-place.invariant.first;

@@ -1,4 +1,4 @@
-use Rattle.std.proofs.Common.{◌≡◌, ◌∙◌, ◌==◌, None, ap, subst, sym}
+use Rattle.std.proofs.Common.{◌==◌, None, subst}
 use Rattle.std.proofs.lemmas.List.{get_or_read}
 use Rattle.langtag_choice.specs.Near.{wish_element}
 use Rattle.langtag_choice.specs.Found.{TriesRange}
@@ -10,7 +10,7 @@ returns-then-candidate-index-clause-tries g c = λ elements wanted.
     tries_none elements (g.T.TagList.texts c.args.tags.now) c.args.wish.now.place c.args.index c.args.worst c.args.best.now c.improve_entry.new.found c.requires.last
     (subst (λ held. TriesRange (wish_element c.args.wish.now) c.args.wish.now.place (g.T.TagList.texts c.args.tags.now) (λ there. there == c.args.index) held c.improve_entry.new.found)
     (get_or_read c.args.best.now c.args.worst c.index-best-worst.result c.requires.inside c.index-best-worst.is None) c.improve_entry.ensures elements wanted)
-    (λ d is same. let own : d ≡ c.in-Some.candidate = cc in c.if-candidate-index.true (ap (λ x. x.index) (sym own) ∙ same))
+    c.in-Some.candidate c.in-Some.is c.if-candidate-index.true
 
 pub returns-clause-tries : goal.returns-clause-tries
 returns-clause-tries g c = λ elements wanted.

@@ -1,4 +1,4 @@
-use Rattle.std.proofs.Common.{◌≡◌, None, get_or, subst}
+use Rattle.std.proofs.Common.{◌≡◌, None, get_or}
 use Rattle.std.proofs.lemmas.List.{get_or_read}
 use Rattle.langtag_choice.specs.Candidates.{Keeps}
 use Rattle.langtag_choice.proofs.PutLaws.{each_place}
@@ -14,15 +14,13 @@ loop-place-preserved c =
     let worst_is : c.index-best-worst.result ≡ get_or best worst None = get_or_read best worst c.index-best-worst.result c.loop-place.invariant.inside c.index-best-worst.is None in
     elim c.if-not-is_before.branch [
       | then-not-is_before w ↦
-          let next : Keeps (get_or best place None) (get_or best worst None) =
-          subst (λ o. Keeps o (get_or best worst None)) place_is (subst (λ o. Keeps c.index-best-place.result o) worst_is (c.is_before.ensures.after w.if-not-is_before.true)) in
+          let next = rw (place_is, worst_is) at (c.is_before.ensures.after w.if-not-is_before.true) in
           rw w.worst-is (record {
             inside = c.loop-place-test.true;
             worst = each_place (λ k. Keeps (get_or best place None) (get_or best k None)) place (λ r at. at) (λ k below r at. c.loop-place.invariant.worst k below r (next r at));
           })
       | else-not-is_before w ↦
-          let stays : Keeps (get_or best worst None) (get_or best place None) =
-          subst (λ o. Keeps o (get_or best place None)) worst_is (subst (λ o. Keeps c.index-best-worst.result o) place_is (c.is_before.ensures.before w.if-not-is_before.false)) in
+          let stays = rw (worst_is, place_is) at (c.is_before.ensures.before w.if-not-is_before.false) in
           rw w.worst-is (record {
             inside = c.loop-place.invariant.inside;
             worst = each_place (λ k. Keeps (get_or best worst None) (get_or best k None)) place stays c.loop-place.invariant.worst;
