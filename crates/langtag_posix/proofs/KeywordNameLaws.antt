@@ -1,6 +1,6 @@
 -- The tables have what the lists say, and what is appended keyword by keyword.
 use Rattle.langtag_keyword.proofs.Common.{◌≡◌, ℕ, ◌<◌, List, [], ◌∷◌, ◌++◌, length, take, get_or, flat_map, map, refl, sym, ap, ◌∙◌, append_assoc, append-nil, take_more, flat_map-append}
-use Rattle.langtag_scan.proofs.Prelude.{length-append}
+use Rattle.langtag_scan.proofs.Prelude.{arith, length-append}
 use Rattle.langtag_posix.specs.KeywordNames.{key_names, keyword_text, type_names}
 use Rattle.langtag_posix.specs.declared.keyword_names.TheConstants.{KEY_NAMES, TYPE_NAMES}
 
@@ -23,5 +23,4 @@ module _ {X : Type 0} (all : List (List ℕ)) (yielded : List X) (x : X) (item :
       (text : List ℕ) →
       (text ++ flat_map keyword_text (take (length yielded) all)) ++ keyword_text item ≡ text ++ flat_map keyword_text (take (length (yielded ++ x ∷ [])) all)
   appended_next text =
-      append_assoc text (flat_map keyword_text (take (length yielded) all)) (keyword_text item)
-      ∙ ap (λ t. text ++ t) (ap (λ k. flat_map keyword_text (take (length yielded) all) ++ k) (sym (append-nil (keyword_text item))) ∙ sym (flat_map-append keyword_text (take (length yielded) all) (item ∷ [])) ∙ ap (flat_map keyword_text) (sym take_next))
+      grind (arith, append_assoc, append-nil, take_next, flat_map-append keyword_text (take (length yielded) all) (item ∷ []))

@@ -3,9 +3,8 @@ use Rattle.langtag_scan.proofs.Prelude.{◌≡◌, ℕ, ◌+◌, ◌-◌, ◌≤
 use Rattle.langtag_scan.specs.Grammar.{are_alike, is_extension_subtag, is_mark, is_singleton, is_letter, is_digit, is_variant, is_script, ends_of, to_region, Extension, Record, IsWellFormed, extension_flat, private_part_flat, spell, EachRecord, Spells, join, IsNormal, IsTag}
 use Rattle.langtag_scan.proofs.Laws.{ends_in_order, length-spell, hyphenated, hyphenated-append, join-hyphenated, length-join, script_four, IsAscii-spelled, of_script, variant_four}
 use Rattle.langtag_text.proofs.Alike.{alike_length}
-use Rattle.langtag_range.specs.Definitions.{front_of}
 use Rattle.langtag_cldr.specs.Definitions.{or_else}
-use Rattle.langtag_posix.proofs.Definitions.{IsAroundPosix, is_posix_alone, posix_extension, posix_replaced, modifier_of, said_script, script_behind, with_said, with_said_script, with_said_variant, is_script_code, modifier_script, modifier_variant}
+use Rattle.langtag_posix.proofs.Definitions.{IsAroundPosix, is_posix_alone, posix_extension, posix_replaced, modifier_of, said_script, with_said, with_said_script, with_said_variant, is_script_code, modifier_script, modifier_variant}
 use Rattle.langtag.specs.Definitions.{with_script, script_text, IsVariants, IsForm}
 use Rattle.langtag.proofs.EditLaws.{script-replaces}
 use Rattle.langtag_place.specs.declared.script.Script.{Script}
@@ -15,9 +14,7 @@ use Rattle.langtag_text.specs.Writes.{Writes}
 
 -- the text of the variants tells whether POSIX is the only one, since two variants have nine bytes or more
 pub alone : (vs : List (List ℕ)) → AllByRecursion (λ s. IsTrue (is_variant s)) vs → are_alike (join vs) (codes "POSIX") ≡ is_posix_alone vs
-alone [] all = refl
-alone (v ∷ []) all = refl
-alone (a ∷ b ∷ vs) all = grind (arith, common_steps, false_from_ne_true, alike_length, length-append, length-join, variant_four)
+alone vs all = grind (arith, common_steps, false_from_ne_true, alike_length, length-append, length-join, variant_four)
 
 posix_six : (vs : List (List ℕ)) → is_posix_alone vs ≡ true → length (hyphenated vs) ≡ 6
 posix_six vs is = grind (arith, common_steps, length-append, alike_length)
@@ -69,7 +66,7 @@ module _ (r : Record) (same : (ends_of r).variants ≡ (ends_of r).extensions) (
   none = none_by_size r.extensions (omega (arith, same, extensions_end r))
 
   text : spell r ≡ start ++ (hyphenated r.variants ++ tail)
-  text = whole_text r ∙ ap (λ es. start ++ (hyphenated r.variants ++ hyphenated (flat_map extension_flat es ++ private_part_flat r.private_use))) none
+  text = grind (arith, whole_text r, none)
 
   end : (ends_of r).variants ≡ length start + 6
   end = variants_end r ∙ ap (λ n. length start + n) (posix_six r.variants posix)
@@ -132,14 +129,11 @@ variant_by a b c d = grind (arith, common_steps)
 pub modifier_variant-fits : (modifier : List ℕ) → IfSome (modifier_variant modifier) (λ v. IsTrue (is_variant v))
 modifier_variant-fits modifier = variant_by _ _ _ _
 
-behind-fits : (front : List ℕ) → IfSome (script_behind front) (λ s. IsTrue (is_script s))
-behind-fits front = grind arith
-
 or_else-fits : (a b : Option (List ℕ)) → IfSome a (λ s. IsTrue (is_script s)) → IfSome b (λ s. IsTrue (is_script s)) → IfSome (or_else a b) (λ s. IsTrue (is_script s))
 or_else-fits a b first second = grind arith
 
 pub said_script-fits : (name : List ℕ) → IfSome (said_script name) (λ s. IsTrue (is_script s))
-said_script-fits name = or_else-fits _ _ (modifier_script-fits (modifier_of name)) (behind-fits (front_of name))
+said_script-fits name = or_else-fits _ _ (modifier_script-fits (modifier_of name)) (grind arith)
 
 pub said_well_formed : (name : List ℕ) (r : Record) → IsWellFormed r → IsWellFormed (with_said name r)
 said_well_formed name r fits =

@@ -1,11 +1,10 @@
 -- The text of a name, and that it is read as it stands: neither Android nor .NET writes a tag so.
-use Rattle.langtag_scan.proofs.Prelude.{◌≡◌, ℕ, ◌≤◌, not, true, false, Bool, cond, suc, List, [], ◌∷◌, ◌++◌, length, IfSome, refl, sym, ap, ◌∙◌, arith, flat_map, append_assoc, append-nil, unwrap_or, ◌<◌, ◌==◌, inl, inr, None, subst, ◌⊎◌, codes, length-append, AllByRecursion, after_first, before_first, list_any, and_parts, or_parts, false_from_ne_true, nat_tests, map-append, list_any-append, take_while-cons, option_map, ◌&&◌, Option, Bor, is_some, common_steps}
-use Rattle.std.specs.Bool.{nat_le}
+use Rattle.langtag_scan.proofs.Prelude.{◌≡◌, ℕ, ◌≤◌, not, true, false, Bool, cond, suc, List, [], ◌∷◌, ◌++◌, length, IfSome, refl, sym, ap, ◌∙◌, arith, flat_map, append_assoc, append-nil, unwrap_or, ◌<◌, ◌==◌, inl, inr, None, ◌⊎◌, codes, length-append, AllByRecursion, after_first, before_first, list_any, and_parts, or_parts, false_from_ne_true, nat_tests, map-append, list_any-append, take_while-cons, option_map, ◌&&◌, Option, Bor, is_some, common_steps}
 use Rattle.langtag_scan.specs.Grammar.{Alike, fold_byte, are_alike, are_alphanumeric, is_alphanumeric, is_digit, is_letter, is_region, is_script, is_variant, Record, extension_flat, one_flat, private_part_flat, spell, join, is_hyphen, are_alike-decides}
 use Rattle.langtag_scan.proofs.Laws.{drop-join, hyphenated, hyphenated-append, join-hyphenated, alike_region, region_short, script_four, of_region, of_variant}
 use Rattle.langtag_range.specs.Wanted.{hyphened, hyphened_byte}
 use Rattle.langtag_posix.specs.PlatformNames.{android_region, has_marked_region, is_short_language}
-use Rattle.langtag_posix.proofs.Definitions.{behind_gap, filled, is_of_language, nynorsk, platform_text, is_empty, is_script_code, after_variants, marked, is_plus, without_gap, marked_region, platform_behind, platform_read, read_place, region_now}
+use Rattle.langtag_posix.proofs.Definitions.{is_of_language, is_empty, is_script_code, after_variants, marked, is_plus, without_gap, marked_region, platform_behind, platform_read, read_place, region_now}
 use Rattle.langtag_text.proofs.Alike.{alike_is, alike_length}
 
 -- ---- marks
@@ -115,21 +114,18 @@ marked_by text language behind region short found language_is behind_is region_i
 
 -- ---- the text behind a language
 
--- it is none of .NET's and Android's forms
+-- it has none of .NET's, Android's and Java's forms
 record IsOrdinary (behind : List ℕ) : Type 0 where
   simplified : are_alike (codes "CHS") behind ≡ false
   traditional : are_alike (codes "CHT") behind ≡ false
+  norwegian : are_alike (codes "NO-NY") behind ≡ false
   unmarked : marked_region behind ≡ None
+  first_unmarked : marked_region (before_first is_hyphen behind) ≡ None
   in_order : is_script_code (after_first is_hyphen behind) ≡ false
+  gapless : without_gap behind ≡ None
 
 ordinary : (language behind : List ℕ) → IsOrdinary behind → platform_behind language behind ≡ None
-ordinary language behind is = grind (arith, nat_tests)
-
--- ---- the four texts behind the language of a name
-
-no_codes : (is_script_code (codes "POSIX") ≡ false) × (is_script_code [] ≡ false)
-unfolding is_script
-no_codes = (refl, refl)
+ordinary language behind is = rw (is.simplified, is.traditional, is.unmarked, is.in_order) (grind (arith, common_steps))
 
 -- .NET's names for Chinese are no regions, so neither is a region alike one of them
 no_regions : (is_region (codes "CHS") ≡ false) × (is_region (codes "CHT") ≡ false) × (is_region (codes "NO-NY") ≡ false)
@@ -139,50 +135,42 @@ no_regions = (refl, refl, refl)
 other_than : (text region : List ℕ) → is_region text ≡ false → is_region region ≡ true → are_alike text region ≡ false
 other_than text region other is = grind (arith, alike_is, are_alike-decides, alike_region)
 
-region_unmarked : (region : List ℕ) → is_region region ≡ true → marked_region region ≡ None
-unfolding is_region is_letter is_digit
-region_unmarked region is = grind (arith, nat_tests)
-
 -- a mark that comes before the digits is neither a letter nor a digit
 pub no_mark : (mark : ℕ) → mark < 48 → (b : ℕ) → is_alphanumeric b ≡ true → (b == mark) ≡ false
 unfolding is_letter is_digit
 no_mark mark small b is = grind (arith, nat_tests)
 
--- no field before or behind a region is empty
-region_gap : (region rest : List ℕ) → is_region region ≡ true → behind_gap (region ++ rest) ≡ None
-region_gap [] rest is = absurd (let some = (of_region [] is).some in omega (arith, some))
-region_gap (b ∷ region) rest is = grind (arith, no_mark 45 (omega arith) b, and_parts, of_region (b ∷ region) is)
+-- a text of letters and digits is what stands before the first hyphen, if one follows or nothing
+cut_hyphen :
+    (text rest : List ℕ) → are_alphanumeric text ≡ true → before_first is_hyphen rest ≡ [] →
+    (before_first is_hyphen (text ++ rest) ≡ text) × (after_first is_hyphen (text ++ rest) ≡ after_first is_hyphen rest)
+cut_hyphen text rest all none =
+    let free = free_of is_hyphen (no_mark 45 (omega arith)) text all in
+    grind (arith, before_rest is_hyphen text rest free, after_rest is_hyphen text rest free, append-nil text)
 
-region_no_script : (region : List ℕ) → is_region region ≡ true → is_script region ≡ false
-region_no_script region is = false_from_ne_true (is_script region) (λ script. omega (arith, (script_four region script).0, region_short region is))
+module _ (region c : List ℕ) (is : is_region region ≡ true) (variant : (c ≡ []) ⊎ (c ≡ codes "POSIX")) where
+  abbrev both : List ℕ
+  both = region ++ (marked 45 c ++ [])
 
-region_gapless : (region rest : List ℕ) → is_region region ≡ true → before_first is_hyphen rest ≡ [] → without_gap (region ++ rest) ≡ None
-region_gapless region rest is ends =
-    let free = free_of is_hyphen (no_mark 45 (omega arith)) region (of_region region is).alphanumeric in
-    let first : before_first is_hyphen (region ++ rest) ≡ region = before_rest is_hyphen region rest free ∙ ap (λ t. region ++ t) ends ∙ append-nil region in
-    rw (region_gap region rest is, first, region_no_script region is) refl
+  cut_both : (before_first is_hyphen both ≡ region) × (after_first is_hyphen both ≡ after_first is_hyphen (marked 45 c ++ []))
+  cut_both = cut_hyphen region (marked 45 c ++ []) (of_region region is).alphanumeric (grind arith)
 
-region_behind : (region : List ℕ) → is_region region ≡ true → IsOrdinary region
-region_behind region is =
-    let free = free_of is_hyphen (no_mark 45 (omega arith)) region (of_region region is).alphanumeric in
-    let nothing = after_rest is_hyphen region [] free in
-    grind (arith, append-nil region, nothing, other_than (codes "CHS") region, other_than (codes "CHT") region, no_regions, region_unmarked region, no_codes)
+  unlike : (t : List ℕ) → is_region t ≡ false → length t ≤ 5 → are_alike t both ≡ false
+  unlike t never few =
+      let alone = other_than t region never is in
+      grind (arith, common_steps, false_from_ne_true, alike_length t both, alone, length-append, append-nil region)
 
--- a text of six bytes or more is neither .NET's name for Chinese nor a region behind a mark
-long_unmarked : (text : List ℕ) → 5 ≤ length text → marked_region text ≡ None
-unfolding is_region
-long_unmarked text long = grind (arith, nat_tests)
-
-long_other : (text other : List ℕ) → length text ≡ 3 → 5 ≤ length other → are_alike text other ≡ false
-long_other text other three long = false_from_ne_true (are_alike text other) (λ same. omega (arith, alike_length text other same))
-
-both_behind : (region : List ℕ) → is_region region ≡ true → IsOrdinary (region ++ 45 ∷ codes "POSIX")
-both_behind region is =
-    let text = region ++ 45 ∷ codes "POSIX" in
-    let long : 5 ≤ length text = omega (arith, length-append region (45 ∷ codes "POSIX")) in
-    let free = free_of is_hyphen (no_mark 45 (omega arith)) region (of_region region is).alphanumeric in
-    let posix = after_rest is_hyphen region (45 ∷ codes "POSIX") free in
-    grind (arith, posix, long_other (codes "CHS") text, long_other (codes "CHT") text, long_unmarked text, no_codes)
+  region_behind : IsOrdinary both
+  unfolding is_region is_script is_letter is_digit
+  region_behind = record {
+    simplified = unlike (codes "CHS") no_regions.0 (omega arith);
+    traditional = unlike (codes "CHT") no_regions.1 (omega arith);
+    norwegian = unlike (codes "NO-NY") no_regions.2 (omega arith);
+    unmarked = grind (arith, common_steps, append-nil region, length-append region);
+    first_unmarked = rw cut_both.0 (grind (arith, nat_tests));
+    in_order = grind (arith, nat_tests, cut_both);
+    gapless = grind (arith, nat_tests, cut_both);
+  }
 
 -- ---- a name
 
@@ -195,88 +183,35 @@ behind_is : (b c : List ℕ) → (b ≡ []) ⊎ (is_region b ≡ true) → (c �
 unfolding is_script fold_byte
 behind_is b c (inl none) (inl plain) = grind (arith, nat_tests)
 behind_is b c (inl none) (inr posix) = grind arith
-behind_is b c (inr is) (inl plain) = rw (plain, marked_some b (of_region b is).some) (subst IsOrdinary (sym (append-nil b)) (region_behind b is))
-behind_is b c (inr is) (inr posix) = rw (posix, marked_some b (of_region b is).some) (both_behind b is)
-
-gapless_behind : (b c : List ℕ) → (b ≡ []) ⊎ (is_region b ≡ true) → (c ≡ []) ⊎ (c ≡ codes "POSIX") → without_gap (after_first is_hyphen (marked 45 b ++ (marked 45 c ++ []))) ≡ None
-unfolding is_script fold_byte
-gapless_behind b c (inl none) (inl plain) = rw (none, plain) refl
-gapless_behind b c (inl none) (inr posix) = rw (none, posix) refl
-gapless_behind b c (inr is) (inl plain) = rw (plain, marked_some b (of_region b is).some) (region_gapless b [] is refl)
-gapless_behind b c (inr is) (inr posix) = rw (posix, marked_some b (of_region b is).some) (region_gapless b (45 ∷ codes "POSIX") is refl)
-
-ends_first : (b c : List ℕ) → before_first is_hyphen (marked 45 b ++ (marked 45 c ++ [])) ≡ []
-ends_first b c = grind arith
-
--- the text behind the language is not that of no_NO_NY
-not_nynorsk :
-    (b c : List ℕ) → (b ≡ []) ⊎ (is_region b ≡ true) → (c ≡ []) ⊎ (c ≡ codes "POSIX") →
-    are_alike (codes "NO-NY") (after_first is_hyphen (marked 45 b ++ (marked 45 c ++ []))) ≡ false
-unfolding fold_byte
-not_nynorsk b c (inl none) (inl plain) = rw (none, plain) refl
-not_nynorsk b c (inl none) (inr posix) = rw (none, posix) refl
-not_nynorsk b c (inr is) (inl plain) =
-    rw (plain, marked_some b (of_region b is).some) (subst (λ t. are_alike (codes "NO-NY") t ≡ false) (sym (append-nil b)) (other_than (codes "NO-NY") b no_regions.2 is))
-not_nynorsk b c (inr is) (inr posix) =
-    let text = b ++ 45 ∷ codes "POSIX" in
-    rw (posix, marked_some b (of_region b is).some)
-    (false_from_ne_true (are_alike (codes "NO-NY") text) (λ same. omega (arith, alike_length (codes "NO-NY") text same, length-append b (45 ∷ codes "POSIX"))))
-
-of_three : (few short sgn : Bool) (o : Option (List ℕ)) → few ≡ true → o ≡ None → (few && not (short && is_some (cond sgn None o))) ≡ true
-of_three few short sgn o is_few none = grind (arith, common_steps)
-
--- the subtag behind the language has not Android's mark
-second_unmarked :
-    (b c : List ℕ) → (b ≡ []) ⊎ (is_region b ≡ true) → (c ≡ []) ⊎ (c ≡ codes "POSIX") →
-    marked_region (before_first is_hyphen (after_first is_hyphen (marked 45 b ++ (marked 45 c ++ [])))) ≡ None
-second_unmarked b c (inl none) (inl plain) = rw (none, plain) refl
-second_unmarked b c (inl none) (inr posix) = rw (none, posix) refl
-second_unmarked b c (inr is) variant =
-    let free = free_of is_hyphen (no_mark 45 (omega arith)) b (of_region b is).alphanumeric in
-    let first : before_first is_hyphen (b ++ (marked 45 c ++ [])) ≡ b = before_rest is_hyphen b (marked 45 c ++ []) free ∙ ap (λ t. b ++ t) (ends_first [] c) ∙ append-nil b in
-    rw (marked_some b (of_region b is).some) (ap marked_region first ∙ region_unmarked b is)
+behind_is b c (inr is) variant = rw (marked_some b (of_region b is).some) (region_behind b c is variant)
 
 module _ (a b c : List ℕ) (first : are_alphanumeric a ≡ true) (second : are_alphanumeric b ≡ true) (third : are_alphanumeric c ≡ true) (long : 2 ≤ length a) (is : IsTerritory b c) where
   abbrev text : List ℕ
   text = tag_text a [] b c []
 
-  abbrev rest : List ℕ
-  rest = marked 45 b ++ (marked 45 c ++ [])
-
   abbrev behind : List ℕ
-  behind = after_first is_hyphen rest
+  behind = after_first is_hyphen (marked 45 b ++ (marked 45 c ++ []))
 
-  free : list_any is_hyphen a ≡ false
-  free = free_of is_hyphen (no_mark 45 (omega arith)) a first
+  cut_text : (before_first is_hyphen text ≡ a) × (after_first is_hyphen text ≡ behind)
+  cut_text = cut_hyphen a (marked 45 b ++ (marked 45 c ++ [])) first (grind arith)
 
-  before : before_first is_hyphen text ≡ a
-  before = before_rest is_hyphen a rest free ∙ ap (λ t. a ++ t) (ends_first b c) ∙ append-nil a
-
-  no_nynorsk : nynorsk a behind ≡ None
-  no_nynorsk = grind (arith, nat_tests, not_nynorsk b c is.territory is.variant)
-
-  no_platform : platform_text a behind ≡ None
-  no_platform = grind (arith, nat_tests, ordinary a behind (behind_is b c is.territory is.variant))
-
-  no_field : filled a behind ≡ None
-  no_field = grind (arith, nat_tests, gapless_behind b c is.territory is.variant)
+  is_ordinary : IsOrdinary behind
+  is_ordinary = behind_is b c is.territory is.variant
 
   kept : platform_read text ≡ text
-  kept = rw (before, after_rest is_hyphen a rest free, no_nynorsk, no_platform, no_field) refl
+  kept =
+      rw (cut_text.0, cut_text.1, is_ordinary.gapless, ordinary a behind is_ordinary) (grind (arith, common_steps, is_ordinary))
 
   -- the language has at most three letters, and the region has no mark
   place_of_language : length a ≤ 3 → is_of_language text ≡ true
-  place_of_language few =
-      rw (before, after_rest is_hyphen a rest free)
-      (of_three (nat_le (length a) 3) (is_short_language a) (are_alike (codes "sgn") a) (marked_region (before_first is_hyphen behind)) (grind (arith, nat_tests))
-      (second_unmarked b c is.territory is.variant))
+  place_of_language few = grind (arith, nat_tests, cut_text, is_ordinary)
 
   unplussed : are_alike (codes "b") (before_first is_plus (place_text a b c)) ≡ false
   unplussed =
       let place = place_text a b c in
-      let whole : before_first is_plus place ≡ place =
-      ap (before_first is_plus) (sym (append-nil place)) ∙ before_rest is_plus place [] (place_free a b c first second third is_plus (no_mark 43 (omega arith)) refl) ∙ append-nil place in
-      rw whole (false_from_ne_true (are_alike (codes "b") place) (λ same. omega (arith, alike_length (codes "b") place same, length-append a (marked 95 b ++ marked 95 c))))
+      let free = place_free a b c first second third is_plus (no_mark 43 (omega arith)) refl in
+      let whole = before_rest is_plus place [] free in
+      grind (arith, nat_tests, false_from_ne_true, whole, append-nil place, alike_length (codes "b") place, length-append a)
 
   -- the place is read as it stands
   pub place_kept : read_place (place_text a b c) ≡ hyphened (place_text a b c)

@@ -32,13 +32,10 @@ module _ (name place extensions modifier : List ℕ) (cut : IsCutName name place
 
 -- ---- what was counted
 
-pub few_counted : (n len : ℕ) → len ≡ min n (2 ^ 64 - 1) → len ≤ 260 → len ≡ n
-few_counted n len counted few = grind arith
-
-pub counted_few : (n len : ℕ) → len ≡ min n (2 ^ 64 - 1) → n ≤ 260 → len ≤ 260
-counted_few n len counted few = grind arith
+pub few_counted : (n len : ℕ) → len ≡ min n (2 ^ 64 - 1) → (len ≤ 260 → len ≡ n) × (n ≤ 260 → len ≤ 260)
+few_counted n len counted = grind arith
 
 pub counted_cut : (text before after : List ℕ) (len : ℕ) → IsCounted text before after len → len ≤ 260 → 260 ≤ length before → take len after ≡ text
 counted_cut text before after len counted few room =
-    let size = few_counted (length text) len counted.counted few in
+    let size = (few_counted (length text) len counted.counted).0 few in
     ap (take len) (counted.written (omega (arith, size, few, room))) ∙ take_at text (drop (length text) before) len (sym size)

@@ -72,7 +72,8 @@ pub(crate) fn modifier_script(modifier: &[u8]) -> Option<Script<'_>>
 }
 
 fn says_latin(modifier: &[u8]) -> bool
-    ensures { result ≡ (are_alike (codes "latin") modifier.now || (are_alike (codes "iqtelif") modifier.now || are_alike (codes "ijekavianlatin") modifier.now)) }
+    ensures { result ≡ (are_alike (codes "latin") modifier.now
+        || (are_alike (codes "iqtelif") modifier.now || are_alike (codes "ijekavianlatin") modifier.now)) }
 {
     case_insensitive_eq(b"latin", modifier)
         || case_insensitive_eq(b"iqtelif", modifier)

@@ -5,7 +5,10 @@
 ghost use Rattle.std.specs.Prelude.{◌≡◌, ◌+◌, ◌≤◌, ◌∷◌, ◌++◌, IfSome, is_some, length, option_map};
 ghost use Rattle.langtag_scan.specs.Prelude.{before_first};
 ghost use Rattle.langtag_scan.specs.Grammar.{is_hyphen, is_variant};
-ghost use Rattle.langtag_posix.specs.PlatformNames.{hyphened_at, android_region, behind_gap, chinese_script, filled, has_marked_region, is_of_language, is_short_language, language_or_und, marked, nynorsk, platform_behind, platform_read, platform_text, read_place, region_now, without_gap};
+ghost use Rattle.langtag_posix.specs.PlatformNames.{hyphened_at, android_region, behind_gap, chinese_script, filled};
+ghost use Rattle.langtag_posix.specs.PlatformNames.{has_marked_region, is_of_language, is_short_language};
+ghost use Rattle.langtag_posix.specs.PlatformNames.{language_or_und, marked, nynorsk, platform_behind, platform_read};
+ghost use Rattle.langtag_posix.specs.PlatformNames.{platform_text, read_place, region_now, without_gap};
 
 use crate::modifiers::is_script_code;
 use langtag_range::split_at_byte;
@@ -105,7 +108,8 @@ fn is_short_language(language: &[u8]) -> bool
 
 /// Returns what [`platform_behind`] does, after a language of two or three letters.
 fn platform_text<'a>(language: &[u8], behind: &'a [u8]) -> Option<(&'a [u8], &'a [u8])>
-    ensures read { option_map (λ pair. language.now ++ (45 ∷ pair.0.now ++ marked 45 pair.1.now)) result ≡ platform_text language.now behind.now }
+    ensures read { option_map (λ pair. language.now ++ (45 ∷ pair.0.now ++ marked 45 pair.1.now)) result
+        ≡ platform_text language.now behind.now }
     ensures few { IfSome result (λ pair. length language.now + (length pair.0.now + length pair.1.now) ≤ 10) }
 {
     if is_short_language(language) {
@@ -192,7 +196,8 @@ fn nynorsk(language: &[u8], behind: &[u8]) -> Option<&'static [u8]>
 /// Returns the string behind a language in a name with an empty field, in one or two parts: `POSIX` for `-POSIX`, and `Hant`
 /// and `PINYIN` for `Hant--PINYIN`. If the language is empty, any string behind it is returned.
 fn filled_behind<'a>(language: &[u8], behind: &'a [u8]) -> Option<(&'a [u8], &'a [u8])>
-    ensures read { option_map (λ pair. language_or_und language.now ++ (45 ∷ pair.0.now ++ marked 45 pair.1.now)) result ≡ filled language.now behind.now }
+    ensures read { option_map (λ pair. language_or_und language.now ++ (45 ∷ pair.0.now ++ marked 45 pair.1.now)) result
+        ≡ filled language.now behind.now }
     ensures few { IfSome result (λ pair. length pair.0.now + length pair.1.now ≤ length behind.now) }
 {
     if let Some(found) = without_gap(behind) {

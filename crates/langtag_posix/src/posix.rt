@@ -1,9 +1,11 @@
 //! The tag for a POSIX locale name. A field of a name that is no variant is refused, while ICU puts it into private use
 //! or drops it. Extensions and keywords are never lost in silence: if they cannot become extensions of the tag, the
 //! name is refused, or `unknown_modifier` returns the whole modifier, because callers get a single slice of the name.
-ghost use Rattle.std.specs.Prelude.{◌≡◌, ◌+◌, ◌≤◌, ℕ, IsTrue, List, None, Some, IfOk, IfErr, IfSome, MatchOption, length, option_map};
+ghost use Rattle.std.specs.Prelude.{◌≡◌, ◌+◌, ◌≤◌, ℕ, IsTrue, List, None, Some, IfOk};
+ghost use Rattle.std.specs.Prelude.{IfErr, IfSome, MatchOption, length, option_map};
 ghost use Rattle.langtag_scan.specs.Grammar.{is_variant};
-ghost use Rattle.langtag.specs.Definitions.{SetsPart, SetsVariants, IsVariants, script_text, lang_tag_text, lang_tag_buf_text, Writes, IsForm};
+ghost use Rattle.langtag.specs.Definitions.{SetsPart, SetsVariants, IsVariants, script_text};
+ghost use Rattle.langtag.specs.Definitions.{lang_tag_text, lang_tag_buf_text, Writes, IsForm};
 ghost use Rattle.langtag_posix.specs.Posix.{IsRefusal, IsTagOfName, NamesTag, script_behind, with_said_script, with_said_variant};
 
 use crate::modifiers::{modifier_script, modifier_variant, script_of};
@@ -156,7 +158,8 @@ fn tag_with_script<'a>(
 #[tactic(auto, using(langtag::proofs::FormLaws::kept_written, crate::proofs::PosixLaws::is_variants))]
 fn write_with_variant(tag: LangTag<'_>, variant: Option<&'static str>, buffer: &mut [u8]) -> usize
     requires { IfSome variant (λ variant. IsTrue (is_variant variant.now)) }
-    ensures { Writes (IsForm (with_said_variant (option_map (λ variant. variant.now) variant.entry)) (lang_tag_text tag.entry)) buffer.old buffer.new result }
+    ensures { Writes (IsForm (with_said_variant (option_map (λ variant. variant.now) variant.entry)) (lang_tag_text tag.entry))
+        buffer.old buffer.new result }
 {
     let Some(variant) = variant else {
         return write_text(tag.as_bytes(), buffer);

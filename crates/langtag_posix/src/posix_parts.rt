@@ -16,7 +16,8 @@ use langtag_scan::case_insensitive_eq;
 
 /// Returns the string of a language that can stand in a name: it has two or three letters, and is not `und`.
 pub(crate) fn named_language<'a>(language: Language<'a>) -> Option<&'a [u8]>
-    ensures language { option_map (λ text. text.now) result ≡ if is_named (language_text language.entry) then Some (language_text language.entry) else None }
+    ensures language { option_map (λ text. text.now) result
+        ≡ if is_named (language_text language.entry) then Some (language_text language.entry) else None }
     ensures few { IfSome result (λ text. length text.now ≤ 3) }
 {
     let text = language.as_bytes();
@@ -41,7 +42,8 @@ pub(crate) fn region_text<'a>(region: Option<Region<'a>>) -> &'a [u8]
 /// Returns the variant of the name: `POSIX` for the keyword `va-posix`, and the empty string for a tag without
 /// extensions and private use. Any other tag has no name.
 pub(crate) fn variant_of_tag(tag: NormalLangTag<'_>) -> Option<&'static [u8]>
-    ensures variant { EachRecord (normal_lang_tag_text tag.entry) (λ r. option_map (λ text. text.now) result ≡ name_variant (after_variants r)) }
+    ensures variant { EachRecord (normal_lang_tag_text tag.entry)
+        (λ r. option_map (λ text. text.now) result ≡ name_variant (after_variants r)) }
     ensures few { IfSome result (λ text. length text.now ≤ 5) }
 {
     name_variant(after_variants(tag))

@@ -7,7 +7,8 @@ ghost use Rattle.langtag_text.specs.Output.{Appends, IsCounted};
 ghost use Rattle.langtag_range.specs.Definitions.{front_of};
 ghost use Rattle.langtag_posix.specs.KeywordNames.{are_keywords, keywords_text};
 ghost use Rattle.langtag_posix.specs.PlatformNames.{marked};
-ghost use Rattle.langtag_posix.specs.Posix.{NamesTag, begins_extension, extensions_behind, has_extension, is_java_place, is_single, may_follow, modifier_of, place_of, text_of_name, without_java_field};
+ghost use Rattle.langtag_posix.specs.Posix.{NamesTag, begins_extension, extensions_behind, has_extension, is_java_place};
+ghost use Rattle.langtag_posix.specs.Posix.{is_single, may_follow, modifier_of, place_of, text_of_name, without_java_field};
 
 use crate::keyword_names::{are_keywords, push_keywords};
 use crate::platform_names::{MOST, MOST_READ, is_of_language, read_place};
@@ -68,12 +69,12 @@ fn push_text(out: &mut Output<'_>, place: &[u8], extensions: &[u8], modifier: &[
     ensures { Appends ((place.now ++ marked 45 extensions.now) ++ keywords_text modifier.now) out.old out.new }
 {
     out.push(place);
-    push_extensions(out, extensions);
+    push_posix_extensions(out, extensions);
     push_keywords(out, modifier);
 }
 
 /// Appends extensions after a hyphen, if there are some.
-fn push_extensions(out: &mut Output<'_>, extensions: &[u8])
+fn push_posix_extensions(out: &mut Output<'_>, extensions: &[u8])
     ensures { Appends (marked 45 extensions.now) out.old out.new }
 {
     if !extensions.is_empty() {

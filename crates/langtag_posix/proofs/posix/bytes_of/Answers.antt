@@ -13,5 +13,6 @@ returns-clause-tag c =
     let before = c.deref_mut.result.now in
     let room : length before ≡ c.in-Some.len = omega (arith, ap length c.deref_mut.ensures.value, c.in_ok-bytes.ensures.len, c.in_ok-bytes.bytes.ok) in
     let whole = written_whole (with_said name) (text_of_name name) _ _ before c.write_from_posix-2.new.buffer _ _ c.in-Some.ensures.written.1 w room in
-    let size : length c.write_from_posix-2.new.buffer ≡ c.in_ok-bytes.bytes.len = omega (arith, whole.0, room, ap length c.deref_mut.ensures.value, c.in_ok-bytes.bytes.ok) in
+    let size : length c.write_from_posix-2.new.buffer ≡ c.in_ok-bytes.bytes.len =
+    omega (arith, whole.0, room, c.in_ok-bytes.ensures.len) in
     (named, subst (IsTagOfName name) (sym (take_at c.write_from_posix-2.new.buffer _ c.in_ok-bytes.bytes.len size)) whole.1)

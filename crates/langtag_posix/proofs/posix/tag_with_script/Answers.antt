@@ -11,9 +11,8 @@ returns-in_default-as_normal c = kept_form _ _ _ (λ normal. let no = c.in_defau
 pub shared_ref_as_front-from_bytes : goal.shared_ref_as_front-from_bytes
 shared_ref_as_front-from_bytes c =
     let w = c.write_part-len.ensures.set in
-    let set = subst (λ t. SetsScript (Some (script_text c.in-Some.script)) t w.text) c.in-Some-as_normal.ensures.same_text w.is_so.0 in
-    let (is_tag, few, form) = set_script (lang_tag_text c.args.tag) w.text (script_text c.in-Some.script) c.in-Some.script.in_class (c.in-Some-as_normal.ensures.kind.0 refl) set in
-    omega (arith, w.whole, few, c.requires)
+    let set = set_script (lang_tag_text c.args.tag) w.text (script_text c.in-Some.script) c.in-Some.script.in_class in
+    grind (arith, set, w, c.in-Some-as_normal.ensures)
 
 pub unreachable-requires : goal.unreachable-requires
 unreachable-requires c =

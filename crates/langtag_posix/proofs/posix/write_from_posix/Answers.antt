@@ -1,13 +1,12 @@
-use Rattle.std.proofs.Common.{◌≡◌, ap, subst, ◌∙◌, option_map}
+use Rattle.std.proofs.Common.{◌≡◌, arith, ap, subst, ◌∙◌, option_map}
 use Rattle.langtag.specs.Definitions.{lang_tag_text, script_text, IsForm}
-use Rattle.langtag_cldr.specs.Definitions.{or_else}
-use Rattle.langtag_posix.proofs.Definitions.{modifier_script, modifier_variant, modifier_of, posix_replaced, said_script, script_behind, with_said_script, with_said_variant, text_of_name}
+use Rattle.langtag_posix.proofs.Definitions.{modifier_variant, modifier_of, posix_replaced, said_script, with_said_script, with_said_variant, text_of_name}
 use Rattle.langtag.proofs.FormLaws.{rewritten}
-use Rattle.langtag_posix.proofs.PosixLaws.{form_composed, modifier_variant-fits, said_script-fits, script_or, script_well_formed, variant_of, posix_well_formed}
+use Rattle.langtag_posix.proofs.PosixLaws.{form_composed, modifier_variant-fits, said_script-fits, script_or, script_well_formed, posix_well_formed}
 use Rattle.langtag_posix.proofs.posix.write_from_posix.Goals as goal
 
 pub write_with_variant-requires : goal.write_with_variant-requires
-write_with_variant-requires c = variant_of _ _ c.modifier_variant.ensures (modifier_variant-fits _)
+write_with_variant-requires c = grind (arith, modifier_variant-fits)
 
 pub returns-clause-written : goal.returns-clause-written
 returns-clause-written c =
@@ -16,9 +15,7 @@ returns-clause-written c =
     let mid = lang_tag_text c.tag_with_script-tag.result in
     let tag_is = c.in_ok-tag.ensures.tag.1 in
     let script_is : option_map script_text c.or.result ≡ said_script name =
-    ap (option_map script_text) c.or.ensures ∙ script_or c.modifier_script.result c.script_behind-script.result
-    ∙ ap (λ s. or_else s (option_map script_text c.script_behind-script.result)) (c.modifier_script.ensures ∙ ap modifier_script c.front_and_modifier.ensures.modifier)
-    ∙ ap (or_else (modifier_script (modifier_of name))) (c.script_behind-script.ensures ∙ ap script_behind c.front_and_modifier.ensures.front) in
+    grind (arith, script_or, c.or.ensures, c.front_and_modifier.ensures) in
     let variant_is : option_map (λ v. v.now) c.modifier_variant.result ≡ modifier_variant (modifier_of name) =
     c.modifier_variant.ensures ∙ ap modifier_variant c.front_and_modifier.ensures.modifier in
     let first : IsForm posix_replaced (text_of_name name) with_keyword =

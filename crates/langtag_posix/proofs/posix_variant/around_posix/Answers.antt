@@ -1,7 +1,6 @@
-use Rattle.langtag_scan.proofs.Prelude.{◌≡◌, ◌≤◌, ◌∙◌, ◌-◌, sym, ap, subst, arith, codes, drop, length, take, true, take-length, length-drop, length-take-le, nat_tests}
-use Rattle.langtag_scan.specs.Grammar.{are_alike, ends_of, Spells, IsNormal}
-use Rattle.langtag.specs.Text.{normal_lang_tag_text}
-use Rattle.langtag_posix.specs.Posix.{IsAroundPosix, is_posix_alone}
+use Rattle.langtag_scan.proofs.Prelude.{◌≡◌, ◌∙◌, sym, arith, drop, true, take-length, length-drop, length-take-le, nat_tests}
+use Rattle.langtag_scan.specs.Grammar.{ends_of, IsNormal}
+use Rattle.langtag_posix.specs.Posix.{is_posix_alone}
 use Rattle.langtag_posix.proofs.PosixLaws.{alone, extensions_stay, others_stay, posix_after, posix_around, variants_inside}
 use Rattle.langtag_posix.proofs.posix_variant.around_posix.Goals as goal
 
@@ -14,34 +13,18 @@ returns-then-not-eq_str c = grind (arith, nat_tests, others_stay, alone, c.varia
 pub slice_bounds-result-count : goal.slice_bounds-result-count
 unfolding IsNormal
 slice_bounds-result-count c =
-    let (r, written) = c.as_str.ensures.in_class in
-    let spells : Spells r (normal_lang_tag_text c.args.tag) = (written.0, written.1 ∙ c.as_str.ensures.same_text) in
-    let ends = c.ends-ends.ensures r spells in
-    let same : (ends_of r).variants ≡ (ends_of r).extensions = sym (ap (λ e. e.variants) ends) ∙ c.if-ends.false ∙ ap (λ e. e.extensions) ends in
-    let posix : is_posix_alone r.variants ≡ true =
-    sym (alone r.variants written.0.variants) ∙ ap (λ t. are_alike t (codes "POSIX")) (sym (c.variants.ensures.part r spells)) ∙ sym c.eq_str.ensures.test ∙ c.if-not-eq_str.false in
-    omega (arith, posix_after r same posix, ap (λ e. e.variants) ends)
+    grind (arith, posix_after, alone, c.as_str.ensures, c.ends-ends.ensures, c.variants.ensures.part, c.eq_str.ensures.test)
 
 pub returns : goal.returns
 returns c = λ r spells.
     let ends = c.ends-ends.ensures r spells in
-    let same : (ends_of r).variants ≡ (ends_of r).extensions = sym (ap (λ e. e.variants) ends) ∙ c.if-ends.false ∙ ap (λ e. e.extensions) ends in
-    let posix : is_posix_alone r.variants ≡ true =
-    sym (alone r.variants spells.0.variants) ∙ ap (λ t. are_alike t (codes "POSIX")) (sym (c.variants.ensures.part r spells)) ∙ sym c.eq_str.ensures.test ∙ c.if-not-eq_str.false in
+    let same : (ends_of r).variants ≡ (ends_of r).extensions = grind (arith, ends, c.if-ends.false) in
+    let variants = c.variants.ensures.part r spells in
+    let posix : is_posix_alone r.variants ≡ true = grind (arith, alone, spells, variants, c.eq_str.ensures.test) in
     let text = c.as_bytes-text.ensures.value ∙ c.as_str.ensures.same_text ∙ sym spells.1 in
-    let around = posix_around r same posix in
     let rest = drop c.ends-ends.result.variants c.as_bytes-text.result.now in
-    let whole = ap (λ n. take n rest) (sym (length-drop c.ends-ends.result.variants c.as_bytes-text.result.now)) ∙ take-length rest in
-    subst (IsAroundPosix r (take (c.ends-ends.result.variants - 6) c.as_bytes-text.result.now)) (sym whole)
-    (subst (λ n. IsAroundPosix r (take (n - 6) c.as_bytes-text.result.now) (drop n c.as_bytes-text.result.now)) (sym (ap (λ e. e.variants) ends))
-    (subst (λ t. IsAroundPosix r (take ((ends_of r).variants - 6) t) (drop (ends_of r).variants t)) (sym text) around))
+    grind (arith, ends, text, posix_around r same posix, take-length rest, length-drop)
 
 pub slice_bounds-result-length : goal.slice_bounds-result-length
 unfolding IsNormal
-slice_bounds-result-length c =
-    let (r, written) = c.as_str.ensures.in_class in
-    let spells : Spells r (normal_lang_tag_text c.args.tag) = (written.0, written.1 ∙ c.as_str.ensures.same_text) in
-    let ends = c.ends-ends.ensures r spells in
-    let text = c.as_bytes-text.ensures.value ∙ sym written.1 in
-    let within : c.ends-ends.result.variants - 6 ≤ length c.as_bytes-text.result.now = omega (arith, variants_inside r, ap (λ e. e.variants) ends, ap length text) in
-    sym (length-take-le (c.ends-ends.result.variants - 6) c.as_bytes-text.result.now within)
+slice_bounds-result-length c = grind (arith, nat_tests, length-take-le, variants_inside, c.as_str.ensures, c.ends-ends.ensures)

@@ -1,8 +1,8 @@
-use Rattle.std.proofs.Common.{◌≤◌, ◌∙◌, drop, length, refl, sym, ap, subst, arith, take, take_at}
+use Rattle.std.proofs.Common.{◌≤◌, ◌∙◌, length, refl, sym, ap, arith}
 use Rattle.langtag.proofs.FormLaws.{kept_form, record_form}
-use Rattle.langtag_scan.specs.Tag.{IsNormal, IsTag}
+use Rattle.langtag_scan.specs.Tag.{IsNormal}
 use Rattle.langtag_posix.specs.Posix.{posix_replaced}
-use Rattle.langtag_posix.proofs.PosixLaws.{posix_tag, written_posix}
+use Rattle.langtag_posix.proofs.PosixLaws.{posix_tag, written_cut, written_posix}
 use Rattle.langtag_posix.proofs.posix_variant.tag_with_keyword.Goals as goal
 
 pub returns-in_default-clause-form : goal.returns-in_default-clause-form
@@ -25,8 +25,7 @@ unreachable-requires c =
     let (text, size) = written_posix r c.in-Some-around_posix.before.now c.in-Some-around_posix.after.now _ around refl in
     let w = c.write_pieces-len.ensures.written (omega (arith, size, ap length spells.1, c.requires)) in
     let room : c.write_pieces-len.result ≤ length c.args.room.now = omega (arith, w.whole, ap length w.is_so, size, ap length spells.1, c.requires, c.fits-room) in
-    let is = ap (take c.write_pieces-len.result) (w.written room) ∙ take_at w.text (drop c.write_pieces-len.result c.args.room.now) c.write_pieces-len.result (sym w.whole) in
-    let never = c.in-Err.ensures.accepts.1 (subst IsTag (sym is) (posix_tag r w.text spells.0 (w.is_so ∙ text))) in
+    let never = c.in-Err.ensures.accepts.1 (posix_tag r _ spells.0 (written_cut _ _ _ _ w room ∙ text)) in
     absurd cc
 
 pub returns-clause-form : goal.returns-clause-form
@@ -37,5 +36,4 @@ returns-clause-form c =
     let (text, size) = written_posix r c.in-Some-around_posix.before.now c.in-Some-around_posix.after.now _ around refl in
     let w = c.write_pieces-len.ensures.written (omega (arith, size, ap length spells.1, c.requires)) in
     let room : c.write_pieces-len.result ≤ length c.args.room.now = omega (arith, w.whole, ap length w.is_so, size, ap length spells.1, c.requires, c.fits-room) in
-    let is = ap (take c.write_pieces-len.result) (w.written room) ∙ take_at w.text (drop c.write_pieces-len.result c.args.room.now) c.write_pieces-len.result (sym w.whole) in
-    record_form posix_replaced _ _ r spells (c.in-Ok.ensures.same_text ∙ is ∙ w.is_so ∙ text)
+    record_form posix_replaced _ _ r spells (c.in-Ok.ensures.same_text ∙ written_cut _ _ _ _ w room ∙ text)
