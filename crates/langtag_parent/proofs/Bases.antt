@@ -23,10 +23,7 @@ extended_four e h = let k = extended_three e h in omega arith
 
 spelled : (p : List ℕ) (es : List (List ℕ)) (text : List ℕ) → SpellsLanguage p es text → IsOfLanguage text
 spelled p [] text spells = grind (arith, common_steps, of_primary, primary_length, from_primary, spells.joined, spells.first)
-spelled p (a ∷ []) text spells = grind (arith, common_steps, length-append, primary_length, of_primary, extended_four, spells)
-spelled p (a ∷ b ∷ []) text spells = grind (arith, common_steps, length-append, primary_length, of_primary, extended_four, spells)
-spelled p (a ∷ b ∷ c ∷ []) text spells = grind (arith, common_steps, length-append, primary_length, of_primary, extended_four, spells)
-spelled p (a ∷ b ∷ c ∷ d ∷ es) text spells = absurd (omega (arith, spells.few))
+spelled p (a ∷ es) text spells = grind (arith, common_steps, length-append, primary_length, of_primary, extended_four, spells)
 
 pub of_language : (text : List ℕ) → IsLanguage text → IsOfLanguage text
 of_language text (p, es, spells) = spelled p es text spells

@@ -1,5 +1,5 @@
 -- The languages of CLDR's parents are written in Latin letters in each region, and a parent in a row in the script of its tag: by computation.
-use Rattle.langtag_scan.proofs.Prelude.{◌≡◌, ℕ, ◌<◌, true, false, Bool, cond, List, [], ◌∷◌, length, map, codes, Option, None, Some, IfSome, MatchOption, refl, sym, ap, ◌∙◌, arith, ◌&&◌, ◌||◌, not, option_map, option_map_or, list_all, list_any, bytes_eq, and_parts}
+use Rattle.langtag_scan.proofs.Prelude.{◌≡◌, ℕ, ◌<◌, true, false, Bool, cond, List, [], ◌∷◌, length, codes, Option, None, Some, IfSome, MatchOption, refl, sym, ap, ◌∙◌, arith, ◌&&◌, ◌||◌, not, option_map, option_map_or, list_all, list_any, and_parts}
 use Rattle.langtag_scan.specs.Grammar.{Alike, are_alike, fold_byte}
 use Rattle.langtag_scan.proofs.Laws.{length-fold}
 use Rattle.langtag_text.specs.Fields.{Fields}
@@ -38,8 +38,7 @@ region_none : (p region : List ℕ) → is_one p ≡ true → 0 < length region 
 region_none p region one there =
     some_value (likely_for other_rows (in_region p region)) (λ none. none) (λ to is.
     let it = found_row other_rows is_elsewhere (in_region p region) to all_elsewhere is in
-    let language : is_one it.row.from.language ≡ true = ap (λ t. list_any (λ one. bytes_eq (map fold_byte one) t) latin_languages) it.from_is.language ∙ one in
-    absurd (grind (arith, it.from_is, it.holds_of_it, length-fold)))
+    absurd (grind (arith, it, one, length-fold)))
 
 -- ---- each of them is written in Latin letters
 
@@ -86,9 +85,7 @@ latin_in (b ∷ script) language region h = (b ∷ script, refl, alike_is (b ∷
 
 both_latin : (f g : Fields) → is_latin f ≡ true → is_latin g ≡ true → IsWrittenAs f g
 both_latin f g first second =
-    let (s, is, alike) = latin_in f.script f.language f.region first in
-    let (t, also, same) = latin_in g.script g.language g.region second in
-    rw (is, also) (alike ∙ sym same)
+    grind (arith, latin_in f.script f.language f.region first, latin_in g.script g.language g.region second)
 
 -- ---- the rows
 

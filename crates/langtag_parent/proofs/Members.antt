@@ -1,5 +1,5 @@
 -- Each member of the chain of a normal tag is a normal tag in the script of the tag, and adds nothing to it but what CLDR lists.
-use Rattle.langtag_scan.proofs.Prelude.{◌≡◌, ℕ, zero, suc, eqb, nil_from_length, ◌⊎◌, inl, inr, true, false, Bool, cond, IsTrue, List, [], ◌∷◌, ◌++◌, length, map, flat_map, Option, None, Some, IfSome, MatchOption, refl, sym, ap, ◌∙◌, subst, arith, ◌&&◌, not, option_map, option_map_or, unwrap_or, nat_lt, AllByRecursion, append_assoc, append-nil, length-append, and_parts, nat_tests}
+use Rattle.langtag_scan.proofs.Prelude.{◌≡◌, ℕ, zero, suc, eqb, nil_from_length, ◌⊎◌, inl, inr, true, false, Bool, cond, IsTrue, List, [], ◌∷◌, ◌++◌, length, map, flat_map, Option, None, Some, IfSome, MatchOption, refl, sym, ap, ◌∙◌, subst, arith, ◌&&◌, not, option_map, option_map_or, nat_lt, AllByRecursion, append_assoc, append-nil, length-append, and_parts, nat_tests}
 use Rattle.langtag_scan.specs.Grammar.{Alike, EachRecord, Extension, IsNormal, IsWellFormed, IsWellFormedExtension, IsWellFormedPrivateUse, PrivateUse, Record, Spells, are_alike, are_alike-decides, extension_flat, is_script, is_variant, join, language_part, one_flat, private_part_flat}
 use Rattle.langtag_scan.proofs.Laws.{each-append, hyphenated-append, join-hyphenated, no_hyphen_each, of_variant, spelled_once}
 use Rattle.langtag_text.proofs.Alike.{AlikeFields, alike_is, same_fields}
@@ -14,7 +14,7 @@ use Rattle.langtag_cldr.proofs.AlikeFields.{alike_fields, looked_up-alike}
 use Rattle.langtag_cldr.proofs.TableRows.{are_good, is_settled, is_there, rows_listed}
 use Rattle.langtag_parent.specs.Chain.{IsChain, above, chain_of, endings, forms, given_form, hyphenated, line, rest_of, shorter, text_of, with_each}
 use Rattle.langtag_parent.specs.Parent.{fields_of, has_likely_script, is_empty, likely_script, named, other_script, parent_in_script, parent_of, parent_of_region, short, stated, stated_or, unless_alike, usual_parent, with_script}
-use Rattle.langtag_parent.specs.ParentLaws.{AddsNothing, EachMember, IsInOneScript, IsKept, IsKeptOrListed, IsListed, IsWrittenAs, script_of}
+use Rattle.langtag_parent.specs.ParentLaws.{AddsNothing, ComesFrom, EachMember, IsInOneScript, IsKept, IsWrittenAs, of_fields, of_parent, script_of}
 use Rattle.langtag_parent.specs.ParentLocales.{parent_locales}
 use Rattle.langtag_parent.proofs.Latin.{all_written, is_written, row_written}
 use Rattle.langtag_parent.proofs.Rows.{parents_listed}
@@ -86,30 +86,36 @@ own_base r well = record {
 
 -- ---- a step from fields to others
 
-abbrev pub IsKeptOf : Fields → Fields → Type 0
-IsKeptOf f g = IsKept f g ⊎ ((k : Fields) × IsListed k × IsKept k g)
+kept_twice : (f g h : Fields) → IsKept f g → IsKept g h → IsKept f h
+kept_twice f g h first second = grind (arith, first, second)
+
+from_twice : (f g h : Fields) → ComesFrom f g → ComesFrom g h → ComesFrom f h
+from_twice f g h (of_fields _ first) (of_fields _ second) = of_fields h (kept_twice f g h first second)
+from_twice f g h (of_parent key parent _ below is first) (of_fields _ second) = of_parent key parent h below is (kept_twice parent g h first second)
+from_twice f g h first (of_parent key parent _ below is second) = of_parent key parent h (from_twice f g key first below) is second
+
+own : (f g : Fields) → IsKept f g → ComesFrom f g
+own f g kept = of_fields g kept
 
 pub record Step (f g : Fields) : Type 0 where
   base : IsBase g
   written : IsWrittenAs f g
-  kept : IsKeptOf f g
+  from : ComesFrom f g
 
 no_step : (f : Fields) → IsBase f → Step f f
-no_step f base = record { base = base; written = written_same (script_of f); kept = inl (refl, inr refl) }
+no_step f base = record { base = base; written = written_same (script_of f); from = of_fields _ (refl, inr refl) }
 
 two_steps : (f g h : Fields) → Step f g → Step g h → Step f h
 two_steps f g h first second = record {
   base = second.base;
   written = written_twice (script_of f) (script_of g) (script_of h) first.written second.written;
-  kept = grind (arith, first.kept, second.kept);
+  from = from_twice f g h first.from second.from;
 }
 
 short_step : (f : Fields) → IsBase f → Step f (short f)
-short_step f base = either_way (has_likely_script f) (λ likely. rw likely (record {
-  base = record { language = base.language; script = refl; region = base.region };
-  written = (likely_written f.script (likely_script f.language f.region) (likely_script f.language f.region) likely).0;
-  kept = inl (refl, inr refl);
-})) (λ other. rw other (no_step f base))
+short_step f base =
+    let likely = likely_written f.script (likely_script f.language f.region) (likely_script f.language f.region) in
+    grind (arith, base, no_step, likely, own f (without_script f))
 
 -- ---- the parent in a row
 
@@ -118,20 +124,16 @@ script_alike script other o same = grind arith
 
 fields_alike : (f g : Fields) → AlikeFields f g → IsWrittenAs g f
 fields_alike f g same =
-    let likely : likely_script f.language f.region ≡ likely_script g.language g.region =
-    ap (option_map (λ f. f.script)) (looked_up-alike (without_script f) (without_script g) (record { language = same.language; script = refl; region = same.region })) in
-    subst (λ o. WrittenAs (script_of g) (cond (is_empty f.script) o (Some f.script))) (sym likely) (script_alike f.script g.script (likely_script g.language g.region) same.script)
+    let fields : AlikeFields (without_script f) (without_script g) = grind (arith, same) in
+    grind (arith, looked_up-alike (without_script f) (without_script g) fields, same)
 
 stated_is : (to g : Fields) → stated to ≡ Some g → (is_there to.language ≡ true) × (to ≡ g)
 stated_is to g is = grind arith
 
 row_base : (to : Fields) → is_there to.language ≡ true → (is_language_field to.language && (is_script_field to.script && is_region_field to.region)) ≡ true → IsBase to
 row_base to some good =
-    let first = and_parts (is_language_field to.language) _ good in
-    let second = and_parts (is_script_field to.script) _ first.1 in
-    let alone : SpellsLanguage to.language [] to.language =
-    record { first = grind (arith, first.0, some); others = tt; few = omega arith; short = inr refl; joined = refl } in
-    record { language = (to.language, [], alone); script = second.0; region = second.1 }
+    let alone : SpellsLanguage to.language [] to.language = grind (arith, and_parts) in
+    record { language = (to.language, [], alone); script = grind (arith, and_parts); region = grind (arith, and_parts) }
 
 row_step : (f to g : Fields) → likely_for parent_locales f ≡ Some to → stated to ≡ Some g → Step f g
 row_step f to g there is =
@@ -140,67 +142,50 @@ row_step f to g there is =
     let row = found_row parent_locales is_written f to all_written there in
     let written : IsWrittenAs f to =
     written_twice (script_of f) (script_of row.row.from) (script_of to) (fields_alike row.row.from f row.from_is) (subst (IsWrittenAs row.row.from) row.to_is (row_written row.row (ap (λ f. is_there f.language) row.to_is ∙ some) row.holds_of_it)) in
-    subst (Step f) same (record { base = row_base to some (rw good.to_is at good.holds_of_it); written = written; kept = inr (to, (f, there), (refl, inr refl)) })
+    subst (Step f) same (record { base = row_base to some (rw good.to_is at good.holds_of_it); written = written; from = of_parent f to to (of_fields f (refl, inr refl)) there (refl, inr refl) })
 
 stated_step : (f g : Fields) (other : Option Fields) → (other ≡ Some g → Step f g) → stated_or f other ≡ Some g → Step f g
 stated_step f g other later is = grind (arith, row_step f)
 
 -- ---- the script that a tag names
 
+named_written :
+    (tag f : Fields) → (are_alike_fields f (language_alone tag) && has_likely_script (without_region tag)) ≡ true →
+    IsWrittenAs f (with_script f tag.script)
+named_written tag f both =
+    let parts = and_parts (are_alike_fields f (language_alone tag)) (has_likely_script (without_region tag)) both in
+    let written = likely_written tag.script (likely_script tag.language []) (likely_script f.language f.region) parts.1 in
+    grind (arith, alike_fields f (language_alone tag) parts.0, fields_alike (language_alone tag) f, written)
+
 named_step : (tag f : Fields) → IsBase tag → IsBase f → Step f (named tag f)
 named_step tag f of_tag base =
-    either_way (are_alike_fields f (language_alone tag) && has_likely_script (without_region tag)) (λ both. rw both (
-    let parts = and_parts (are_alike_fields f (language_alone tag)) (has_likely_script (without_region tag)) both in
-    let same = alike_fields f (language_alone tag) parts.0 in
-    let alone : IsWrittenAs f (language_alone tag) = fields_alike (language_alone tag) f (record { language = sym same.language; script = sym same.script; region = sym same.region }) in
-    let likely = (likely_written tag.script (likely_script tag.language []) (likely_script f.language f.region) parts.1).1 in
-    record {
-      base = record { language = base.language; script = of_tag.script; region = base.region };
-      written = written_twice (script_of f) (likely_script tag.language []) (script_of (with_script f tag.script)) alone likely;
-      kept = inl (refl, inr refl);
-    })) (λ other. rw other (no_step f base))
+    either_way (are_alike_fields f (language_alone tag) && has_likely_script (without_region tag))
+    (λ both. rw both (grind (arith, of_tag, base, named_written tag f both, own f (with_script f tag.script)))) (λ other. rw other (no_step f base))
 
 -- ---- the usual parent
 
 alone_step : (f : Fields) → IsBase f → likely_script f.language [] ≡ None → Step f (language_alone f)
-alone_step f base unknown = record {
-  base = record { language = base.language; script = refl; region = refl };
-  written = subst (WrittenAs (script_of f)) (sym unknown) tt;
-  kept = inl (refl, inl refl);
-}
+alone_step f base unknown = grind (arith, base, own f (language_alone f))
 
 place_step : (f : Fields) → IsBase f → other_script f ≡ None → Step f (without_region f)
-place_step f base none = record {
-  base = record { language = base.language; script = base.script; region = refl };
-  written = without_place f.script (likely_script f.language f.region) (likely_script f.language []) (none_alone f.language f.region) none;
-  kept = inl (refl, inl refl);
-}
+place_step f base none = grind (arith, base, without_place, none_alone, own f (without_region f))
 
 -- with the script that is another one
 scripted_step : (f : Fields) (s : List ℕ) → IsBase f → other_script f ≡ Some s → Step f (with_script f s)
-scripted_step f s base other =
-    let (empty, here) = other_is f.script s (likely_script f.language f.region) (likely_script f.language []) other in
-    let good = likely_good f.language f.region s here in
-    record {
-      base = record { language = base.language; script = from_script s good; region = base.region };
-      written = rw (empty, here, script_there s good) refl;
-      kept = inl (refl, inr refl);
-    }
+scripted_step f s base other = grind (arith, base, other_is, likely_good, from_script, script_there, own f (with_script f s))
 
-some_script : (f : Fields) → is_empty f.script ≡ false → other_script f ≡ None
-some_script f some = ap (λ b. cond b (unless_alike (likely_script f.language f.region) (likely_script f.language [])) None) some
+-- without the region, and with the script that is another one
+scripted_place :
+    (f g : Fields) (s : List ℕ) → IsBase f → other_script f ≡ Some s → parent_in_script (with_script f s) ≡ Some g → Step f g
+scripted_place f g s base other is =
+    let first = scripted_step f s base other in
+    let h = with_script f s in
+    grind (arith, first, place_step h, stated_step h g, two_steps f h g, script_there, likely_good, other_is)
 
 region_step : (f g : Fields) → IsBase f → parent_of_region f ≡ Some g → Step f g
-region_step f g base is = by_script (other_script f) refl is
-  where
-    by_script : (o : Option (List ℕ)) → other_script f ≡ o → option_map_or (λ s. parent_in_script (with_script f s)) o (Some (without_region f)) ≡ Some g → Step f g
-    by_script None other is = let same : without_region f ≡ g = cc in subst (Step f) same (place_step f base other)
-    by_script (Some s) other is =
-        let first = scripted_step f s base other in
-        let (empty, here) = other_is f.script s (likely_script f.language f.region) (likely_script f.language []) other in
-        let none = some_script (with_script f s) (script_there s (likely_good f.language f.region s here)) in
-        two_steps f (with_script f s) g first (stated_step (with_script f s) g (Some (without_region (with_script f s)))
-        (λ cut. let same : without_region (with_script f s) ≡ g = cc in subst (Step (with_script f s)) same (place_step (with_script f s) first.base none)) is)
+region_step f g base is =
+    some_value (other_script f) (λ none. grind (arith, place_step f base none))
+    (λ s other. scripted_place f g s base other (grind arith))
 
 usual_step : (f g : Fields) → IsBase f → usual_parent f ≡ Some g → Step f g
 usual_step f g base is = grind (arith, alone_step f base, region_step f g base)
@@ -245,16 +230,13 @@ each_shorter P (v ∷ vs) free all =
 no_longer_rest : (vs others : List (List ℕ)) → nat_lt (length (hyphenated vs)) (length (hyphenated (vs ++ others))) ≡ false → hyphenated (vs ++ others) ≡ hyphenated vs
 no_longer_rest vs others short =
     let both = hyphenated-append vs others in
-    let none : hyphenated others ≡ [] = nil_from_length (hyphenated others) (grind (arith, nat_tests, both, length-append (hyphenated vs) (hyphenated others), short)) in
-    both ∙ ap (λ t. hyphenated vs ++ t) none ∙ append-nil (hyphenated vs)
+    grind (arith, nat_tests, both, length-append, nil_from_length (hyphenated others), append-nil (hyphenated vs))
 
 each_ending :
     (P : List ℕ → Type 0) (vs others : List (List ℕ)) → AllByRecursion IsFree vs → P (hyphenated (vs ++ others)) → AtEach P vs →
     AllByRecursion P (endings (hyphenated vs) (hyphenated (vs ++ others)))
 each_ending P vs others free whole all =
-    let shorter = each_shorter P vs free all in
-    let longer = nat_lt (length (hyphenated vs)) (length (hyphenated (vs ++ others))) in
-    (whole, either_way longer (λ is. rw is (all vs [] (append-nil vs), shorter)) (λ is. rw (is, no_longer_rest vs others is) shorter))
+    grind (arith, whole, each_shorter P vs free all, all vs [] (append-nil vs), no_longer_rest vs others)
 
 each_form :
     (P : List ℕ → Type 0) (f : Fields) (es : List (List ℕ)) → AllByRecursion (λ e. P (text_of f e)) es → AllByRecursion (λ e. P (text_of (short f) e)) es →
@@ -273,16 +255,13 @@ each_fields P Q texts (f ∷ fs) each all = each-append P (texts f) (flat_map te
 in_parts : (p : List ℕ) (es ss rs rest : List (List ℕ)) → join (join (p ∷ es) ∷ (ss ++ rs)) ++ hyphenated rest ≡ join (p ∷ (es ++ (ss ++ (rs ++ rest))))
 in_parts p es ss rs rest = simp (join-hyphenated, hyphenated-append, append_assoc)
 
-field_again : (text : List ℕ) → unwrap_or (subtag_of text) [] ≡ text
-field_again text = grind arith
-
 -- ---- a member of a chain
 
 pub record Member (r : Record) (text : List ℕ) : Type 0 where
   pub q : Record
   pub spells : Spells q text
   pub written : IsInOneScript r q
-  pub kept : IsKeptOrListed r q
+  pub added : AddsNothing r q
 
 variants_before : (ws last : List (List ℕ)) → AllByRecursion (λ s. IsTrue (is_variant s)) (ws ++ last) → AllByRecursion (λ s. IsTrue (is_variant s)) ws
 variants_before [] last all = tt
@@ -307,27 +286,19 @@ member r g ws last es private_part well step is end =
     let script = subtag_of g.script in
     let region = subtag_of g.region in
     let q : Record = record { primary = p; extended = extended; script = script; region = region; variants = ws; extensions = es; private_use = private_part } in
-    let same : fields_of q ≡ g = same_fields (fields_of q) g language.joined (field_again g.script) (field_again g.region) in
-    let fits : IsWellFormed q = record {
-      primary = language.first;
-      extended = language.others;
-      few = language.few;
-      short = language.short;
-      script = grind (arith, step.base.script);
-      region = grind (arith, step.base.region);
-      variants = variants_before ws last (subst (AllByRecursion (λ s. IsTrue (is_variant s))) (sym is) well.variants);
-      extensions = end.extensions_well;
-      private_use = end.use_well;
-    } in
-    let adds : (f : Fields) → IsKept f g → AddsNothing f r q = λ f kept. record { kept = subst (IsKept f) (sym same) kept; variants = (last, is); extensions = end.extensions; private_use = end.private_use } in
+    let same : fields_of q ≡ g = same_fields (fields_of q) g language.joined (grind arith) (grind arith) in
+    let before = variants_before ws last (subst (AllByRecursion (λ s. IsTrue (is_variant s))) (sym is) well.variants) in
+    let fits : IsWellFormed q = grind (arith, language, step.base, before, end) in
     record {
       q = q;
       spells = (fits, sym (in_parts p extended (one_flat script) (one_flat region) _) ∙ ap (λ l. join (l ∷ (one_flat script ++ one_flat region)) ++ rest_of q) language.joined);
       written = subst (IsWrittenAs (fields_of r)) (sym same) step.written;
-      kept = elim step.kept [
-        | inl kept ↦ inl (adds (fields_of r) kept)
-        | inr (k, listed, kept) ↦ inr (k, listed, adds k kept)
-      ];
+      added = record {
+        fields = subst (ComesFrom (fields_of r)) (sym same) step.from;
+        variants = (last, is);
+        extensions = end.extensions;
+        private_use = end.private_use;
+      };
     }
 
 -- with all that stands after the region of the tag
@@ -356,13 +327,12 @@ members_plain r g well step =
 members_above :
     (r : Record) (f : Fields) → IsWellFormed r → IsBase (fields_of r) → Step (fields_of r) f → AllByRecursion (Member r) (above (fields_of r) (hyphenated r.variants) (parent_of f))
 members_above r f well own step = some_value (parent_of f) (λ none. rw none tt) (λ g is. rw is (
-    each_fields (Member r) (Step (fields_of r)) (λ h. with_each (hyphenated r.variants ∷ shorter (hyphenated r.variants)) (named (fields_of r) h)) (line 8 g)
+    each_fields (Member r) (Step (fields_of r)) (λ h. with_each (hyphenated r.variants ∷ shorter (hyphenated r.variants)) (named (fields_of r) h)) (line 6 g)
     (λ h to_h. members_plain r (named (fields_of r) h) well (two_steps (fields_of r) h (named (fields_of r) h) to_h (named_step (fields_of r) h own to_h.base)))
-    (line_steps 8 (fields_of r) g (two_steps (fields_of r) f g step (parent_step f g step.base is)))))
+    (line_steps 6 (fields_of r) g (two_steps (fields_of r) f g step (parent_step f g step.base is)))))
 
 given_member : (r : Record) → IsWellFormed r → Step (fields_of r) (fields_of r) → (b : Bool) → AllByRecursion (Member r) (cond b (text_of (fields_of r) (rest_of r) ∷ []) [])
-given_member r well step true = (whole_member r (fields_of r) well step, tt)
-given_member r well step false = tt
+given_member r well step b = grind (arith, whole_member r (fields_of r) well step)
 
 members : (r : Record) → IsWellFormed r → AllByRecursion (Member r) (chain_of r)
 members r well =
@@ -398,5 +368,5 @@ each_member P of_member = λ tag chain is r spells.
 pub in_one_script : EachMember IsInOneScript
 in_one_script = each_member IsInOneScript (λ r x m. m.written)
 
-pub kept_or_listed : EachMember IsKeptOrListed
-kept_or_listed = each_member IsKeptOrListed (λ r x m. m.kept)
+pub adds_nothing : EachMember AddsNothing
+adds_nothing = each_member AddsNothing (λ r x m. m.added)

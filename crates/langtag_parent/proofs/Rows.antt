@@ -1,5 +1,5 @@
 -- The table has CLDR's rows, by computation, and a row is found by the number of its left side.
-use Rattle.langtag_scan.proofs.Prelude.{◌≡◌, ℕ, ◌+◌, ◌*◌, ◌<◌, ◌≤◌, ◌==◌, true, Bool, ltb, List, [], ◌∷◌, length, get_or, map, Option, None, refl, sym, ap, ◌∙◌, arith, ◌&&◌, option_map, list_all, and_parts, get_or-map, ltb-true, nat_tests}
+use Rattle.langtag_scan.proofs.Prelude.{◌≡◌, ℕ, ◌+◌, ◌*◌, ◌<◌, ◌≤◌, ◌==◌, true, Bool, ltb, List, [], ◌∷◌, length, get_or, map, Option, None, refl, arith, ◌&&◌, option_map, list_all, and_parts, get_or-map, ltb-true, nat_tests}
 use Rattle.langtag_scan.specs.Grammar.{are_alphanumeric, fold_byte, folded_number, is_digit, is_letter, is_primary, is_region, is_script}
 use Rattle.langtag_scan.proofs.FoldedNumbers.{fold_digits, folded_number-tells}
 use Rattle.langtag_text.proofs.Elements.{list_all_get}
@@ -17,26 +17,17 @@ use Rattle.langtag_parent.specs.declared.tables.TheConstants.{PARENT_INDICES, PA
 
 -- ---- the number of fields
 
-region_three : (text : List ℕ) → is_region_field text ≡ true → length text ≤ 3
-region_three [] good = omega arith
-region_three (b ∷ text) good = region_short (b ∷ text) good
-
-fits_three : (text : List ℕ) → are_alphanumeric text ≡ true → length text ≤ 3 → folded_number text < 16777216
+-- the number of a text of at most four bytes, and of one of at most three
+folded_fits :
+    (text : List ℕ) → are_alphanumeric text ≡ true → length text ≤ 4 →
+    (folded_number text < 4294967296) × (length text ≤ 3 → folded_number text < 16777216)
 unfolding folded_number
-fits_three [] h short = omega arith
-fits_three (a ∷ []) h short = let d = fold_digits (a ∷ []) h in omega (arith, d.0.most)
-fits_three (a ∷ b ∷ []) h short = let d = fold_digits (a ∷ b ∷ []) h in omega (arith, d.0.most, d.1.0.most)
-fits_three (a ∷ b ∷ c ∷ []) h short = let d = fold_digits (a ∷ b ∷ c ∷ []) h in omega (arith, d.0.most, d.1.0.most, d.1.1.0.most)
-fits_three (a ∷ b ∷ c ∷ e ∷ text) h short = absurd (omega (arith, short))
-
-fits_four : (text : List ℕ) → are_alphanumeric text ≡ true → length text ≤ 4 → folded_number text < 4294967296
-unfolding folded_number
-fits_four (a ∷ b ∷ c ∷ e ∷ []) h short = let d = fold_digits (a ∷ b ∷ c ∷ e ∷ []) h in omega (arith, d.0.most, d.1.0.most, d.1.1.0.most, d.1.1.1.0.most)
-fits_four (a ∷ b ∷ c ∷ e ∷ f ∷ text) h short = absurd (omega (arith, short))
-fits_four [] h short = omega arith
-fits_four (a ∷ []) h short = let less = fits_three (a ∷ []) h (omega arith) in omega (arith, less)
-fits_four (a ∷ b ∷ []) h short = let less = fits_three (a ∷ b ∷ []) h (omega arith) in omega (arith, less)
-fits_four (a ∷ b ∷ c ∷ []) h short = let less = fits_three (a ∷ b ∷ c ∷ []) h (omega arith) in omega (arith, less)
+folded_fits [] h short = grind arith
+folded_fits (a ∷ []) h short = grind (arith, fold_digits (a ∷ []) h)
+folded_fits (a ∷ b ∷ []) h short = grind (arith, fold_digits (a ∷ b ∷ []) h)
+folded_fits (a ∷ b ∷ c ∷ []) h short = grind (arith, fold_digits (a ∷ b ∷ c ∷ []) h)
+folded_fits (a ∷ b ∷ c ∷ d ∷ []) h short = grind (arith, fold_digits (a ∷ b ∷ c ∷ d ∷ []) h)
+folded_fits (a ∷ b ∷ c ∷ d ∷ e ∷ text) h short = absurd (omega (arith, short))
 
 -- fields of letters and digits, whose script and region are short
 abbrev pub are_numbered : Fields → Bool
@@ -50,7 +41,8 @@ three-tell l s r l2 s2 r2 a b c d = grind arith
 key_number-tells :
     (key : Fields) (row : Likely) → are_numbered key ≡ true → are_numbered row.from ≡ true → (key_number key == key_number row.from) ≡ are_alike_fields row.from key
 unfolding key_number
-key_number-tells key row k n = grind (arith, nat_tests, and_parts, ltb-true, three-tell, fits_three, fits_four, letter_number-tells, folded_number-tells)
+key_number-tells key row k n =
+    grind (arith, nat_tests, and_parts, ltb-true, three-tell, folded_fits, letter_number-tells, folded_number-tells)
 
 -- ---- the rows
 
@@ -72,8 +64,9 @@ pub parent_found :
     (key : Fields) (keys : List ℕ) (number : ℕ) (o : Option ℕ) → are_numbered key ≡ true → keys ≡ map (λ row. key_number row.from) parent_locales → number ≡ key_number key →
     o ≡ first_index keys number → option_map (λ i. (get_or parent_locales i no_row).to) o ≡ likely_for parent_locales key
 parent_found key keys number o numbered keys_are number_is is =
-    ap (option_map (λ i. (get_or parent_locales i no_row).to)) (is ∙ ap (λ list. first_index list number) keys_are ∙ ap (first_index (map (λ row. key_number row.from) parent_locales)) number_is)
-    ∙ found_by_number key_number (λ row. are_numbered row.from) key (λ row good. key_number-tells key row numbered good) parent_locales parents_listed.numbered
+    let tells = λ (row : Likely). key_number-tells key row numbered in
+    let found = found_by_number key_number (λ row. are_numbered row.from) key tells parent_locales parents_listed.numbered in
+    rw (is, keys_are, number_is) found
 
 -- a language that is longer than those of CLDR
 pub stated_none : (key : Fields) → 3 < length key.language → likely_for parent_locales key ≡ None
@@ -82,7 +75,7 @@ stated_none key long = long_nowhere parent_locales key long parents_listed.short
 -- ---- the fields of the code
 
 pub fields_numbered : (f : Fields) → is_language_field f.language ≡ true → is_script_field f.script ≡ true → is_region_field f.region ≡ true → are_numbered f ≡ true
-fields_numbered f l s r = grind (arith, nat_tests, fields_plain f l s r, script_length f.script s, region_three f.region r)
+fields_numbered f l s r = grind (arith, nat_tests, fields_plain f l s r, script_length f.script s, region_short f.region)
 
 -- ---- the parent in a row
 
@@ -109,15 +102,9 @@ pub column_at :
     (i j : ℕ) (list : List (List ℕ)) (found : List ℕ) → i < length parent_locales → j ≡ get_or PARENT_INDICES i 0 → list ≡ texts names → found ≡ get_or list j [] →
     found ≡ column (get_or parent_locales i no_row)
 column_at names column same i j list found inside is list_is found_is =
-    found_is ∙ ap (λ list. get_or list j []) list_is ∙ ap (λ n. get_or (texts names) n []) is
-    ∙ sym (get_or-map (λ n. get_or (texts names) n []) PARENT_INDICES i 0 [] (omega (arith, inside, parents_listed.count)))
-    ∙ ap (λ list. get_or list i []) same ∙ get_or-map column parent_locales i no_row [] inside
-
-abbrev fields : List ℕ → List ℕ → List ℕ → Fields
-fields l s r = record { language = l; script = s; region = r }
-
-pub fields_equal : (l s r l2 s2 r2 : List ℕ) → l ≡ l2 → s ≡ s2 → r ≡ r2 → fields l s r ≡ fields l2 s2 r2
-fields_equal l s r l2 s2 r2 a b c = rw (a, b, c) refl
+    let left = get_or-map (λ n. get_or (texts names) n []) PARENT_INDICES i 0 [] (omega (arith, inside, parents_listed.count)) in
+    let row = get_or-map column parent_locales i no_row [] inside in
+    cc (left, row)
 
 -- a parent in a row is of the classes of its fields
 pub row_good : (i : ℕ) → i < length parent_locales → are_good (get_or parent_locales i no_row) ≡ true

@@ -1,5 +1,5 @@
 -- Texts that are cut at their hyphens, and texts in pieces.
-use Rattle.langtag_scan.proofs.Prelude.{◌≡◌, ℕ, ◌≤◌, true, false, List, [], ◌∷◌, ◌++◌, length, map, drop, flat_map, Option, None, Some, IfSome, nat_lt, Bor, MatchOption, refl, ap, ◌∙◌, arith, append_assoc, append-nil, length-append, option_map_or, All-head, All-tail, common_steps, nat_tests}
+use Rattle.langtag_scan.proofs.Prelude.{◌≡◌, ℕ, ◌≤◌, true, false, List, [], ◌∷◌, ◌++◌, length, map, drop, flat_map, Option, IfSome, nat_lt, Bor, MatchOption, refl, ap, arith, append_assoc, append-nil, length-append, option_map_or, All-head, All-tail, common_steps, nat_tests}
 use Rattle.langtag_scan.specs.Grammar.{IsHyphenFree, IsWellFormed, ends_of, Record, extension_flat, one_flat, spell, is_hyphen}
 use Rattle.langtag_scan.proofs.Laws.{join-append, drop-join, ends_in_order}
 use Rattle.langtag_text.specs.Fields.{Fields, subtag_of}
@@ -19,13 +19,11 @@ shorter_at (b ∷ prefix) last free = rw (shorter_at prefix last free) refl
 pub shorter_last :
     (text last : List ℕ) (prefix : Option (Bor (List ℕ))) → IsHyphenFree last → MatchOption prefix (text ≡ last) (λ f. text ≡ f.now ++ 45 ∷ last) →
     shorter text ≡ option_map_or (λ f. f.now ∷ shorter f.now) prefix []
-shorter_last text last None free is = ap shorter is ∙ shorter_free last free
-shorter_last text last (Some f) free is = ap shorter is ∙ shorter_at f.now last free
+shorter_last text last prefix free is = grind (arith, shorter_free last free, shorter_at)
 
 pub no_longer :
     (text last : List ℕ) (prefix : Option (Bor (List ℕ))) → MatchOption prefix (text ≡ last) (λ f. text ≡ f.now ++ 45 ∷ last) → IfSome prefix (λ f. length f.now ≤ length text)
-no_longer text last None is = tt
-no_longer text last (Some f) is = omega (arith, ap length is ∙ length-append f.now (45 ∷ last))
+no_longer text last prefix is = grind (arith, length-append)
 
 -- ---- one ending after another
 

@@ -27,7 +27,7 @@ shorter (b ∷ text) = map (λ t. b ∷ t) (shorter text) ++ (if b == 45 then []
 -- ---- a language with its script and its region, and those above it
 
 -- the fields, their parent, the parent of this parent, and so on, each parent being that of the short form. They are
--- never more than seven
+-- never more than five
 abbrev pub line : ℕ → Fields → List Fields
 line zero f = []
 line (suc most) f = f ∷ option_map_or (line most) (parent_of (short f)) []
@@ -42,7 +42,7 @@ with_each endings f = flat_map (forms f) endings
 
 -- the fields and those above them, each with the script that a tag names and with the variants, which go one by one
 abbrev pub above : Fields → List ℕ → Option Fields → List (List ℕ)
-above tag variants parent = flat_map (λ f. with_each (variants ∷ shorter variants) (named tag f)) (option_map_or (line 8) parent [])
+above tag variants parent = flat_map (λ f. with_each (variants ∷ shorter variants) (named tag f)) (option_map_or (line 6) parent [])
 
 -- ---- the chain
 

@@ -36,22 +36,20 @@ IsInOneScript r q = IsWrittenAs (fields_of r) (fields_of q)
 
 -- ---- nothing is added
 
--- CLDR states that these are the parent of other fields
-abbrev pub IsListed : Fields → Type 0
-IsListed f = (key : Fields) × (likely_for parent_locales key ≡ Some f)
-
 -- the language is the same, and there is the same region or none
 abbrev pub IsKept : Fields → Fields → Type 0
 IsKept f g = (g.language ≡ f.language) × ((g.region ≡ []) ⊎ (g.region ≡ f.region))
 
--- the second record has the language of the fields, and their region or none; the last variants of the first record may
--- be absent, and so may its extensions with its private use
-pub record AddsNothing (f : Fields) (r q : Record) : Type 0 where
-  pub kept : IsKept f (fields_of q)
+-- the second fields have the language of the first, and their region or none, or else those of a parent that CLDR states for
+-- fields that come from the first
+pub data ComesFrom (f : Fields) : Fields → Type 0 where
+  of_fields : (g : Fields) → IsKept f g → ComesFrom f g
+  of_parent : (key parent g : Fields) → ComesFrom f key → likely_for parent_locales key ≡ Some parent → IsKept parent g → ComesFrom f g
+
+-- the second record adds nothing to the first but a script, or what a parent has that CLDR states; the last variants of the
+-- first may be absent, and so may its extensions with its private use
+pub record AddsNothing (r q : Record) : Type 0 where
+  pub fields : ComesFrom (fields_of r) (fields_of q)
   pub variants : (last : List (List ℕ)) × (q.variants ++ last ≡ r.variants)
   pub extensions : (q.extensions ≡ []) ⊎ (q.extensions ≡ r.extensions)
   pub private_use : (q.private_use ≡ None) ⊎ (q.private_use ≡ r.private_use)
-
--- a member adds nothing to the tag but a script, or else nothing to a parent that CLDR lists, with the variants of the tag
-abbrev pub IsKeptOrListed : Record → Record → Type 0
-IsKeptOrListed r q = AddsNothing (fields_of r) r q ⊎ ((f : Fields) × IsListed f × AddsNothing f r q)

@@ -1,13 +1,12 @@
 //! The language, the script and the region of a tag.
-ghost use Rattle.std.specs.Prelude.{◌≡◌, ◌≤◌, IsTrue, [], nat_lt, None, Some, length, if◌then◌else◌, option_map, unwrap_or};
+ghost use Rattle.std.specs.Prelude.{◌≡◌, ◌≤◌, IsTrue, [], nat_lt, None, Some, length, if◌then◌else◌, option_map};
 ghost use Rattle.langtag_scan.specs.Grammar.{EachRecord};
-ghost use Rattle.langtag.specs.Definitions.{normal_lang_tag_text, region_text, script_text};
+ghost use Rattle.langtag.specs.Definitions.{normal_lang_tag_text};
 ghost use Rattle.langtag_text.specs.FieldClasses.{is_language_field, is_script_field, is_region_field};
 ghost use Rattle.langtag_cldr.specs.Definitions.{field_texts};
 
-use langtag::NormalLangTag;
+use langtag::{NormalLangTag, region_field, script_field};
 use langtag_cldr::TagFields;
-use langtag_place::{Region, Script};
 
 /// A language with its extended subtags, a script and a region. The script and the region are empty if they are absent.
 #[derive(Clone, Copy, Debug)]
@@ -56,7 +55,8 @@ impl<'a> Base<'a> {
     /// Returns the fields as CLDR reads them, or `None` if CLDR has no such language, because it has more than three
     /// bytes.
     pub(crate) fn fields(self) -> Option<TagFields<'a>>
-        ensures { option_map field_texts result ≡ if nat_lt 3 (length self.entry.language.now) then None else Some (base_fields self.entry) }
+        ensures { option_map field_texts result
+            ≡ if nat_lt 3 (length self.entry.language.now) then None else Some (base_fields self.entry) }
     {
         if self.language.len() > 3 {
             return None;
@@ -111,27 +111,5 @@ impl<'a> Base<'a> {
             script,
             region: self.region,
         }
-    }
-}
-
-/// Returns the string of a script, or the empty string if there is none.
-fn script_field<'a>(script: Option<Script<'a>>) -> &'a [u8]
-    ensures field { result.now ≡ unwrap_or (option_map script_text script.entry) [] }
-    ensures in_class { IsTrue (is_script_field result.now) }
-{
-    match script {
-        Some(script) => script.as_bytes(),
-        None => b"",
-    }
-}
-
-/// Returns the string of a region, or the empty string if there is none.
-fn region_field<'a>(region: Option<Region<'a>>) -> &'a [u8]
-    ensures field { result.now ≡ unwrap_or (option_map region_text region.entry) [] }
-    ensures in_class { IsTrue (is_region_field result.now) }
-{
-    match region {
-        Some(region) => region.as_bytes(),
-        None => b"",
     }
 }

@@ -4,12 +4,12 @@ ghost use Rattle.std.specs.Prelude.{◌≡◌, ℕ, List};
 ghost use Rattle.langtag_scan.specs.Grammar.{AllByRecursion, IsNormal};
 ghost use Rattle.langtag_text.specs.Fields.{Fields};
 ghost use Rattle.langtag_parent.specs.Chain.{IsChain};
-ghost use Rattle.langtag_parent.specs.ParentLaws.{EachMember, EndsWithin, IsInOneScript, IsKeptOrListed};
+ghost use Rattle.langtag_parent.specs.ParentLaws.{AddsNothing, EachMember, EndsWithin, IsInOneScript};
 
-/// A language with its script and its region has at most six parents, one above the other.
+/// A language with its script and its region has at most four parents, one above the other.
 fn chain_ends()
-    // law: a language with its script and its region has at most six parents, one above the other, so a chain is whole
-    ensures ends { (f : Fields) → EndsWithin 7 f }
+    // law: a language with its script and its region has at most four parents, one above the other, so a chain is whole
+    ensures ends { (f : Fields) → EndsWithin 5 f }
 {}
 
 /// Each member of the chain of a normal tag is a normal tag.
@@ -26,9 +26,10 @@ fn one_script()
     ensures one_script { EachMember IsInOneScript }
 {}
 
-/// Unless CLDR lists it, a member has no language, region, variant, extension or private use that the tag does not have.
-#[tactic(auto, using(crate::proofs::Members::kept_or_listed))]
+/// A member has no variant, extension or private use but the tag's, and no language or region but the tag's or those of
+/// CLDR's parents.
+#[tactic(auto, using(crate::proofs::Members::adds_nothing))]
 fn nothing_added()
-    // law: unless CLDR lists it, a member has no language, region, variant, extension or private use that the tag does not have
-    ensures nothing_added { EachMember IsKeptOrListed }
+    // law: a member has no variant, extension or private use but the tag's, and no language or region but the tag's or those of CLDR's parents
+    ensures nothing_added { EachMember AddsNothing }
 {}

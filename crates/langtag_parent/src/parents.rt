@@ -6,7 +6,8 @@ ghost use Rattle.langtag_scan.specs.Grammar.{EachRecord, IsHyphenFree, YieldsFir
 ghost use Rattle.langtag.specs.Definitions.{lang_tag_text, normal_lang_tag_text};
 ghost use Rattle.langtag_text.specs.Fields.{Fields};
 ghost use Rattle.langtag_parent.specs.Base.{base_fields};
-ghost use Rattle.langtag_parent.specs.Chain.{IsChain, above, bases_left, chain_of, endings, forms, given_form, parent_text, parents_left, shorter, text_of, with_each};
+ghost use Rattle.langtag_parent.specs.Chain.{IsChain, above, bases_left, chain_of, endings, forms, given_form};
+ghost use Rattle.langtag_parent.specs.Chain.{parent_text, parents_left, shorter, text_of, with_each};
 ghost use Rattle.langtag_parent.specs.Parent.{has_likely_script, named, parent_of, short};
 
 use crate::base::Base;
@@ -42,7 +43,8 @@ impl<'a> Parents<'a> {
     #[tactic(auto, unfolding(langtag_scan::specs::Class::is_primary, langtag_scan::specs::Class::is_letter), using(crate::proofs::Chains::some_tag, crate::proofs::Chains::other_chain, crate::proofs::Chains::normal_chain))]
     pub fn new(tag: LangTag<'a>) -> Self
         ensures chain { IsChain (lang_tag_text tag.entry) (parents_left result) }
-        ensures cloned { (walk copy : Parents) → ⟦<Parents<'a> as Clone>⟧.is_clone walk copy → parents_left copy ≡ parents_left walk }
+        ensures cloned { (walk copy : Parents) → ⟦<Parents<'a> as Clone>⟧.is_clone walk copy
+            → parents_left copy ≡ parents_left walk }
         ensures clone_succeeds { (walk : Parents) → ⟦<Parents<'a> as Clone>⟧.is_infallible walk }
     {
         match tag.as_normal() {

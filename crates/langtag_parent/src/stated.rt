@@ -17,7 +17,8 @@ use langtag_scan::folded_number;
 /// states that there is none. Returns `None` if CLDR states nothing.
 #[tactic(auto, using(crate::proofs::Rows::stated_none))]
 pub(crate) fn stated_parent(base: Base<'_>) -> Option<Option<Base<'static>>>
-    ensures { option_map (option_map base_fields) result ≡ option_map stated (likely_for parent_locales (base_fields base.entry)) }
+    ensures { option_map (option_map base_fields) result
+        ≡ option_map stated (likely_for parent_locales (base_fields base.entry)) }
 {
     let parent = row_for(base.fields()?)?;
     if parent.language.is_empty() {

@@ -22,7 +22,8 @@ use langtag::LangTag;
 /// parent(LangTag::new("zh-Hant")?).is_none(); // true
 /// ```
 pub fn parent(tag: LangTag<'_>) -> Option<ParentTag<'_>>
-    ensures { (chain : List (List ℕ)) → IsChain (lang_tag_text tag.entry) chain → option_map parent_text result ≡ slice_get chain 1 }
+    ensures { (chain : List (List ℕ)) → IsChain (lang_tag_text tag.entry) chain
+        → option_map parent_text result ≡ slice_get chain 1 }
 {
     nth_parent(tag, 1)
 }
@@ -39,7 +40,8 @@ pub fn parent(tag: LangTag<'_>) -> Option<ParentTag<'_>>
 /// buffer.get(..5); // Some(&b"pt-PT"[..])
 /// ```
 pub fn nth_parent(tag: LangTag<'_>, index: usize) -> Option<ParentTag<'_>>
-    ensures { (chain : List (List ℕ)) → IsChain (lang_tag_text tag.entry) chain → option_map parent_text result ≡ slice_get chain index }
+    ensures { (chain : List (List ℕ)) → IsChain (lang_tag_text tag.entry) chain
+        → option_map parent_text result ≡ slice_get chain index }
 {
     Parents::new(tag).nth(index)
 }

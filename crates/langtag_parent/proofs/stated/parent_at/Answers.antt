@@ -1,10 +1,11 @@
+use Rattle.langtag_text.proofs.Alike.{same_fields}
 use Rattle.std.proofs.Common.{◌≡◌, ◌<◌, true, get_or, sym, subst, arith}
 use Rattle.langtag_scan.proofs.Prelude.{and_parts}
 use Rattle.langtag_cldr.specs.Definitions.{no_row}
 use Rattle.langtag_text.specs.FieldClasses.{is_language_field, is_script_field, is_region_field}
 use Rattle.langtag_parent.specs.ParentLocales.{parent_locales}
 use Rattle.langtag_parent.specs.declared.tables.TheConstants.{PARENT_LANGUAGES, PARENT_REGIONS, PARENT_SCRIPTS}
-use Rattle.langtag_parent.proofs.Rows.{column_at, columns_listed, fields_equal, index_good, row_good}
+use Rattle.langtag_parent.proofs.Rows.{column_at, columns_listed, index_good, row_good}
 use Rattle.langtag_parent.proofs.stated.parent_at.Goals as goal
 
 pub named-requires : goal.named-requires
@@ -30,7 +31,7 @@ invariant_of-result c =
 
 pub returns : goal.returns
 returns c =
-    fields_equal _ _ _ _ _ _
+    same_fields _ _
     (column_at PARENT_LANGUAGES (λ row. row.to.language) columns_listed.languages c.args.index c.from-parent.result _ _ c.requires c.from-parent.ensures c.parent_languages.ensures.names c.named.ensures)
     (column_at PARENT_SCRIPTS (λ row. row.to.script) columns_listed.scripts c.args.index c.from-parent.result _ _ c.requires c.from-parent.ensures c.parent_scripts.ensures.names c.named-2.ensures)
     (column_at PARENT_REGIONS (λ row. row.to.region) columns_listed.regions c.args.index c.from-parent.result _ _ c.requires c.from-parent.ensures c.parent_regions.ensures.names c.named-3.ensures)
