@@ -2,7 +2,7 @@
 use Rattle.langtag_scan.proofs.Prelude.{◌≡◌, ◌%◌, true, false, Bool, cond, not, ◌≤◌, List, [], ◌∷◌, ℕ, Option, None, Some, is_some, refl, sym, ap, subst, ◌∙◌, arith, ◌&&◌, ◌||◌, codes, option_map, ◌⊎◌, rules, and_parts, nat_tests, list_all, is_none, option_map_or}
 use Rattle.langtag_scan.specs.Grammar.{are_alike, Alike, fold_text, are_letters}
 use Rattle.langtag_text.specs.Numbers.{letter_number}
-use Rattle.langtag_cldr.specs.Definitions.{Likely, likely_for, looked_up, or_else, are_alike_fields, or_other, filled, known, known_fields, add_likely, language_alone, language_rows, other_rows, likely_subtags, region_aliases, region_alone}
+use Rattle.langtag_cldr.specs.Definitions.{Likely, likely_for, looked_up, are_alike_fields, or_other, filled, known, known_fields, add_likely, language_alone, other_rows, likely_subtags, region_aliases, region_alone}
 use Rattle.langtag_text.specs.Fields.{Fields}
 use Rattle.langtag_cldr.specs.Rows.{of_language}
 use Rattle.langtag_cldr.proofs.AlikeFields.{alike_fields, likely_for-alike, looked_up-alike, alone_alike}
@@ -13,16 +13,12 @@ use Rattle.langtag_cldr.proofs.RowLaws.{all_other, either, language_found}
 
 -- ---- a language whose bit is set has a row
 
-some_first : (a b : Option Fields) → is_some a ≡ true → is_some (or_else a b) ≡ true
-some_first a b h = grind arith
-
 pub row_by_bit : (language : List ℕ) → has_bit language ≡ true → is_some (likely_for likely_subtags (of_language language)) ≡ true
 unfolding has_bit
 row_by_bit language h =
     let n = letter_number language in
     let (letters, from, to, set) : (are_letters language ≡ true) × (27 ≤ n) × (n ≤ 18278) × (from_bit n % 2 ≡ 1) = grind (arith, nat_tests, and_parts) in
-    ap is_some (either (of_language language))
-    ∙ some_first (likely_for language_rows (of_language language)) _ (ap is_some (sym (language_found language n _ letters refl (sym (row_at n from to set)))))
+    grind (arith, either (of_language language), language_found language n _ letters refl (sym (row_at n from to set)))
 
 -- ---- a lookup without a language
 
@@ -30,9 +26,6 @@ pub looked_up_other : (f : Fields) → f.language ≡ [] → looked_up other_row
 looked_up_other f none = grind (arith, all_other)
 
 -- ---- texts that are there
-
-clash : {P : Type 0} (b : Bool) → b ≡ true → b ≡ false → P
-clash b t f = grind arith
 
 -- what holds either way
 pub either_way : {P : Type 0} (b : Bool) → (b ≡ true → P) → (b ≡ false → P) → P
@@ -120,11 +113,6 @@ other_of :
     cond (is_there row.to.language) (is_some (likely_for likely_subtags (language_alone row.to))) (stays_unknown row) ≡ true
 other_of row h = grind (arith, row_by_bit)
 
-record IsOfLanguage (row : Likely) : Type 0 where
-  language : is_there row.from.language ≡ true
-  script : row.from.script ≡ []
-  region : row.from.region ≡ []
-
 record StaysUnknown (row : Likely) : Type 0 where
   from_language : is_there row.from.language ≡ false
   script_there : is_there row.from.script ≡ true
@@ -168,8 +156,8 @@ module _ (f : Fields) (row : Likely) (key : Fields) (is_key : IsKey f key) (from
   most = filled f row.to
 
   -- the row of the language alone is found for each language that is alike
-  alone_by : (language : List ℕ) → Alike row.from.language language → IsOfLanguage row → likely_for likely_subtags (record { language = language; script = []; region = [] }) ≡ Some row.to
-  alone_by language same is = grind (arith, likely_for-alike)
+  alone_by : (language : List ℕ) → Alike row.from.language language → is_language_row row ≡ true → likely_for likely_subtags (record { language = language; script = []; region = [] }) ≡ Some row.to
+  alone_by language same is = grind (arith, nat_tests, absent, likely_for-alike)
 
   alone_other : is_other_row row ≡ true → is_there row.to.language ≡ true → Alike row.to.language most.language → is_some (likely_for likely_subtags (language_alone most)) ≡ true
   alone_other other there same =
@@ -177,7 +165,7 @@ module _ (f : Fields) (row : Likely) (key : Fields) (is_key : IsKey f key) (from
       ∙ sym (ap (λ b. cond b (is_some (likely_for likely_subtags (language_alone row.to))) (stays_unknown row)) there) ∙ other_of row other
 
   kept_language : is_there row.from.language ≡ true → Alike row.from.language row.to.language
-  kept_language there = alike_is _ _ (sym (ap (λ b. not b || are_alike row.from.language row.to.language) there) ∙ whole.kept)
+  kept_language there = grind (arith, nat_tests, and_parts, alike_is)
 
   alone_found : is_there most.language ≡ true → is_some (likely_for likely_subtags (language_alone most)) ≡ true
   alone_found there = grind (arith, nat_tests, kept_language, alone_by most.language, alone_other, or_other_there, or_other_absent, there_alike, kind)
@@ -216,7 +204,7 @@ module _ (f : Fields) (row : Likely) (key : Fields) (is_key : IsKey f key) (from
       unwritten one =
           let script_from : is_there f.script ≡ true → is_there row.from.script ≡ true = λ there. unknown.script_there in
           let region_from : is_there f.region ≡ true → is_there row.from.region ≡ true =
-          λ there. clash _ (script_written none) (and_false-turned (is_there f.script) (is_there f.region) one there) in
+          λ there. absurd (cc (script_written none, and_false-turned (is_there f.script) (is_there f.region) one there)) in
           let settles =
           ap (λ o. option_map_or (λ v. not (is_there v.language)) o false) (sym (looked_up_other row.to (absent row.to.language to_none))) ∙ unknown.settles in
           let same : AlikeFields most row.to = record {

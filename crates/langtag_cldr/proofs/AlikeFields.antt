@@ -1,6 +1,6 @@
 -- Fields that are equal but for case have likely subtags that are. A language that is there stays in the matching form.
-use Rattle.langtag_scan.proofs.Prelude.{◌≡◌, ℕ, ◌<◌, List, length, option_map, arith, true, false, Bool, cond, [], ◌∷◌, Option, None, Some, refl, subst, common_steps, nat_tests}
-use Rattle.langtag_scan.specs.Grammar.{Alike, are_alike, option_map_or}
+use Rattle.langtag_scan.proofs.Prelude.{◌≡◌, ℕ, ◌<◌, List, length, option_map, arith, true, Bool, cond, [], ◌∷◌, Option, None, Some, refl, subst, common_steps, nat_tests}
+use Rattle.langtag_scan.specs.Grammar.{Alike}
 use Rattle.langtag_fields.specs.Fields.{extlang_prefix, is_prefix_of}
 use Rattle.langtag_text.specs.Fields.{Fields}
 use Rattle.langtag_cldr.specs.Definitions.{completed, letters_replaced, matching_form, most_likely, region_replaced, replaced_form, language_replaced, Likely, are_alike_fields, likely_for, looked_up, filled, or_other, known, known_fields, add_likely, language_alone, without_script, without_region, likely_subtags, add_likely_subtags, canonical_fields, least, remove_likely_subtags, suffices}
@@ -28,11 +28,7 @@ fields-right a b c h = grind (arith, nat_tests, are_alike-right a.language, are_
 
 pub is_prefix_of-alike : (l m e f : List ℕ) → Alike l m → Alike e f → is_prefix_of l e ≡ is_prefix_of m f
 unfolding extlang_prefix
-is_prefix_of-alike l m e f h k = rw (value_for-alike _ e f k) (same _)
-  where
-    same : (o : Option (List ℕ)) → option_map_or (λ prefix. are_alike prefix l) o false ≡ option_map_or (λ prefix. are_alike prefix m) o false
-    same None = refl
-    same (Some prefix) = are_alike-right prefix l m h
+is_prefix_of-alike l m e f h k = grind (arith, common_steps, value_for-alike, are_alike-right)
 
 -- ---- likely subtags added
 

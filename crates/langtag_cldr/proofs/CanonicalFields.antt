@@ -1,6 +1,6 @@
 -- Likely subtags that are added again change nothing, also where deprecated subtags are replaced before the lookup. A
 -- language that has a row is not deprecated.
-use Rattle.langtag_scan.proofs.Prelude.{◌≡◌, ℕ, ◌==◌, ◌%◌, ◌&&◌, ◌||◌, true, false, Bool, leb, ltb, not, List, [], length, Option, None, Some, is_some, option_map, refl, sym, ap, subst, ◌∙◌, arith, codes, and_parts, eqb-true, nat_tests, nil_from_length, list_all, is_none, option_map_or}
+use Rattle.langtag_scan.proofs.Prelude.{◌≡◌, ℕ, ◌&&◌, true, false, Bool, ltb, not, List, [], length, Option, None, Some, is_some, option_map, sym, ap, subst, ◌∙◌, arith, codes, and_parts, nat_tests, nil_from_length, list_all, is_none, option_map_or}
 use Rattle.langtag_scan.specs.Grammar.{Alike, are_alike, fold_byte, are_alike-decides, are_letters, is_letter}
 use Rattle.langtag_scan.proofs.CaseLaw.{all-fold, is_letter-fold}
 use Rattle.langtag_text.specs.Fields.{Fields}
@@ -9,7 +9,7 @@ use Rattle.langtag_text.proofs.Letters.{letter_number-tells}
 use Rattle.langtag_cldr.specs.Definitions.{language_aliases, region_aliases, Likely, add_likely, filled, known_fields, language_alone, likely_for, likely_subtags, language_replaced, region_alone, region_replaced, with_language_from, with_region_from, add_likely_subtags, canonical_fields}
 use Rattle.langtag_cldr.proofs.AddedTwice.{AreKnown, some_value, IsAdded, absent, added, either_way, found_of, found_row, known_stays, not_first, or_other_absent, or_other_there, other_test, there_alike, there_other}
 use Rattle.langtag_cldr.proofs.RowLaws.{aliases_listed}
-use Rattle.langtag_cldr.proofs.TableRows.{has_bit, from_bit, is_there, rows_listed}
+use Rattle.langtag_cldr.proofs.TableRows.{has_bit, is_there, rows_listed}
 
 -- ---- the bit of a language does not change with the case of letters
 
@@ -17,52 +17,36 @@ letters-alike : (a b : List ℕ) → Alike a b → are_letters a ≡ are_letters
 letters-alike a b same = sym (all-fold is_letter is_letter-fold a) ∙ ap (list_all is_letter) same ∙ all-fold is_letter is_letter-fold b
 
 number-alike : (a b : List ℕ) → Alike a b → are_letters a ≡ true → letter_number a ≡ letter_number b
-number-alike a b same letters =
-    sym (eqb-true (letter_number b) (letter_number a) (letter_number-tells a b letters (sym (letters-alike a b same) ∙ letters) ∙ (are_alike-decides a b).1 same))
-
-bit_by : Bool → ℕ → Bool
-bit_by letters number = letters && (leb 27 number && (leb number 18278 && (from_bit number % 2 == 1)))
+number-alike a b same letters = grind (arith, nat_tests, letter_number-tells a b, letters-alike a b same, are_alike-decides a b)
 
 bit-alike : (a b : List ℕ) → Alike a b → has_bit a ≡ true → has_bit b ≡ true
-unfolding has_bit bit_by
-bit-alike a b same bit = grind (arith, and_parts, bit_by, letters-alike, number-alike)
+unfolding has_bit
+bit-alike a b same bit = rw (← letters-alike a b same, ← number-alike a b same (and_parts (are_letters a) _ bit).0) bit
 
 -- ---- a language that has a row is not deprecated
 
-abbrev is_listed : Likely → Bool
-is_listed row = not (is_there row.from.language) || has_bit row.from.language
-
 listed_bit : (key to : Fields) → likely_for likely_subtags key ≡ Some to → is_there key.language ≡ true → has_bit key.language ≡ true
 listed_bit key to is there =
-    let left = found_row likely_subtags is_listed key to rows_listed.listed is in
-    let from : is_there left.row.from.language ≡ true = there_alike _ _ left.from_is.language ∙ there in
-    bit-alike left.row.from.language key.language left.from_is.language (sym (ap (λ b. not b || has_bit left.row.from.language) from) ∙ left.holds_of_it)
-
-no_value : {A : Type 0} (o : Option A) → ((v : A) → o ≡ Some v → ⊥) → o ≡ None
-no_value o never = grind (arith, nat_tests)
+    let left = found_row likely_subtags _ key to rows_listed.listed is in
+    let bit = bit-alike left.row.from.language key.language left.from_is.language in
+    grind (arith, nat_tests, there_alike _ _ left.from_is.language, bit, left.holds_of_it)
 
 listed_current : (f to : Fields) → likely_for likely_subtags f ≡ Some to → is_there f.language ≡ true → likely_for language_aliases (language_alone f) ≡ None
-listed_current f to is there = no_value (likely_for language_aliases (language_alone f)) (λ v found.
+listed_current f to is there = some_value (likely_for language_aliases (language_alone f)) (λ none. none) (λ v found.
     let left = found_row language_aliases (λ row. not (has_bit row.from.language)) (language_alone f) v aliases_listed.unlisted found in
     let bit = bit-alike f.language left.row.from.language (sym left.from_is.language) (listed_bit f to is there) in
-    let no : not true ≡ true = sym (ap not bit) ∙ left.holds_of_it in
-    absurd cc)
+    absurd (let no : not true ≡ true = sym (ap not bit) ∙ left.holds_of_it in cc))
 
 -- ---- the empty field is not deprecated
 
-none_language : likely_for language_aliases (record { language = []; script = []; region = [] }) ≡ None
-unfolding language_aliases fold_byte
-none_language = refl
-
-none_region : likely_for region_aliases (record { language = []; script = []; region = [] }) ≡ None
-unfolding region_aliases fold_byte
-none_region = refl
-
 no_language : (f : Fields) → f.language ≡ [] → likely_for language_aliases (language_alone f) ≡ None
-no_language f none = ap (λ l. likely_for language_aliases (record { language = l; script = []; region = [] })) none ∙ none_language
+unfolding language_aliases fold_byte
+no_language f none = ap (λ l. likely_for language_aliases (record { language = l; script = []; region = [] })) none
 
 pub no_region : (f : Fields) → length f.region ≡ 0 → likely_for region_aliases (region_alone f) ≡ None
-no_region f none = ap (λ r. likely_for region_aliases (record { language = []; script = []; region = r })) (nil_from_length f.region none) ∙ none_region
+unfolding region_aliases fold_byte
+no_region f none =
+    ap (λ r. likely_for region_aliases (record { language = []; script = []; region = r })) (nil_from_length f.region none)
 
 -- ---- fields without deprecated subtags
 
@@ -114,12 +98,9 @@ canonical_language : (f : Fields) → (canonical_fields f).language ≡ language
 unfolding language_replaced language_of
 canonical_language f = grind (arith, nat_tests, region_keeps)
 
-there_by_length : (l : List ℕ) → ltb 0 (length l) ≡ true → is_there l ≡ true
-there_by_length l some = grind (arith, nat_tests)
-
 alias_there : (f to : Fields) → likely_for language_aliases (language_alone f) ≡ Some to → is_there to.language ≡ true
 unfolding leads
-alias_there f to found = there_by_length to.language (right_side language_aliases leads (language_alone f) to aliases_listed.lead found)
+alias_there f to found = grind (arith, nat_tests, right_side language_aliases leads _ to aliases_listed.lead found)
 
 canonical_there : (f : Fields) → is_there f.language ≡ true → is_there (canonical_fields f).language ≡ true
 unfolding language_of
@@ -130,16 +111,11 @@ canonical_none f none = ap region_replaced (language_stays f (no_language f none
 
 -- ---- no field becomes unknown
 
-language-known : (f : Fields) → AreKnown f → AreKnown (language_replaced f)
-unfolding language_replaced is_alias_target
-language-known f are = grind (arith, right_side language_aliases is_alias_target (language_alone f), aliases_listed.known, other_test, and_parts)
-
-region-known : (f : Fields) → AreKnown f → AreKnown (region_replaced f)
-unfolding region_replaced
-region-known f are = grind (arith, nat_tests)
-
 canonical-known : (f : Fields) → AreKnown f → AreKnown (canonical_fields f)
-canonical-known f are = region-known (language_replaced f) (language-known f are)
+unfolding language_replaced region_replaced is_alias_target
+canonical-known f are =
+    let known = right_side language_aliases is_alias_target (language_alone f) in
+    grind (arith, nat_tests, known, aliases_listed.known, other_test, and_parts)
 
 -- ---- what is added
 
@@ -164,18 +140,8 @@ module _ (f w : Fields) (are : AreKnown f) (is : add_likely likely_subtags (cano
   region_there : is_there m.region ≡ true
   region_there = there_other f.region w.region (ap (λ x. is_there x.region) (sym plain.filled_is) ∙ there_other c.region v.region plain.facts.region)
 
-  script_known : are_alike (codes "Zzzz") m.script ≡ false
-  script_known =
-      let of_w = ap (λ x. are_alike (codes "Zzzz") x.script) (sym plain.filled_is) ∙ other_test (codes "Zzzz") c.script v.script (canonical-known f are).script plain.facts.script_known in
-      other_test (codes "Zzzz") f.script w.script are.script of_w
-
-  region_known : are_alike (codes "ZZ") m.region ≡ false
-  region_known =
-      let of_w = ap (λ x. are_alike (codes "ZZ") x.region) (sym plain.filled_is) ∙ other_test (codes "ZZ") c.region v.region (canonical-known f are).region plain.facts.region_known in
-      other_test (codes "ZZ") f.region w.region are.region of_w
-
   known_same : known_fields m ≡ m
-  known_same = rw (known_stays (codes "Zzzz") m.script script_known, known_stays (codes "ZZ") m.region region_known) refl
+  known_same = grind (arith, nat_tests, known_stays, other_test, canonical-known f are, plain.filled_is, plain.facts)
 
   -- ---- a language is known
 
@@ -221,9 +187,6 @@ module _ (f w : Fields) (are : AreKnown f) (is : add_likely likely_subtags (cano
   made_again : add_likely_subtags f ≡ Some m → add_likely_subtags (known_fields m) ≡ Some m
   made_again made = ap add_likely_subtags known_same ∙ either_way (is_there m.language) known_again (λ none. unknown_again none made)
 
-  language_not_und : are_alike (codes "und") v.language ≡ false
-  language_not_und = plain.language
-
   -- what is added, with the language of the row
   filled_is : filled f (record { language = v.language; script = w.script; region = w.region }) ≡ m
   filled_is = grind (arith, nat_tests, either_way, or_other_there, canonical_none, absent, region_keeps, or_other_absent)
@@ -243,7 +206,7 @@ likely_added f m are made = some_value (add_likely likely_subtags (canonical_fie
     let it : IsAddedTo f (filled f w) = record {
       to = record { language = (plain f w are is).to.language; script = w.script; region = w.region };
       filled_is = filled_is f w are is;
-      language = language_not_und f w are is;
+      language = (plain f w are is).language;
       again = made_again f w are is (made ∙ ap Some (sym same));
     } in
     subst (IsAddedTo f) same it)

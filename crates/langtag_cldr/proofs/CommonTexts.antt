@@ -1,5 +1,5 @@
 -- The subtags of a text in which "_" is read as "-", and a range and a text without what both begin with.
-use Rattle.langtag_scan.proofs.Prelude.{◌≡◌, ℕ, true, false, cond, codes, Some, None, List, [], ◌∷◌, inl, inr, refl, sym, ap, ◌∙◌, arith, ◌+◌, ◌-◌, ◌<◌, ◌≤◌, ◌==◌, length, length-drop, get_or, take, drop, ◌&&◌, before_first, after_first, slice_split, nat_tests, length-map, not, take_all, take_while-cons, common_steps}
+use Rattle.langtag_scan.proofs.Prelude.{◌≡◌, ℕ, true, false, cond, codes, Some, None, List, [], ◌∷◌, refl, sym, ap, ◌∙◌, arith, ◌+◌, ◌-◌, ◌<◌, ◌≤◌, ◌==◌, length, length-drop, get_or, take, drop, ◌&&◌, before_first, after_first, slice_split, nat_tests, length-map, not, take_all, take_while-cons, common_steps}
 use Rattle.langtag_scan.specs.Grammar.{is_primary, is_region, subtags, are_alike, fold_byte}
 use Rattle.langtag_fields.specs.Fields.{extlang_prefix, is_prefix_of}
 use Rattle.langtag_fields.specs.Subtags as list
@@ -21,18 +21,15 @@ rest_of n text = take_all (length text - n) (drop n text) (omega (arith, length-
 -- no extended language is registered for no language
 pub none_extends : (language extlang : List ℕ) → length extlang ≡ 0 → is_prefix_of language extlang ≡ false
 unfolding extlang_prefix list.extlang_prefixes
-none_extends language [] none = refl
-none_extends language (b ∷ extlang) none = absurd (omega (arith, none))
+none_extends language extlang none = grind (arith, common_steps)
 
 pub mark_off :
     (subtag : List ℕ) → 1 ≤ length subtag →
     after_mark subtag ≡ cond ((fold_byte (get_or subtag 0 0) == 114) && is_region (take (length subtag - 1) (drop 1 subtag))) (take (length subtag - 1) (drop 1 subtag)) []
-mark_off [] some = absurd (omega (arith, some))
-mark_off (mark ∷ region) some = rw (rest_of 1 (mark ∷ region)) refl
+mark_off subtag some = grind (arith, common_steps, rest_of)
 
 pub none_marked : (text : List ℕ) → length text < 1 → first_marked (counted_parts text) ≡ []
-none_marked [] none = refl
-none_marked (b ∷ text) none = absurd (omega (arith, none))
+none_marked text none = grind (arith, common_steps)
 
 pub unmarked : (b : ℕ) (text : List ℕ) → is_separator b ≡ false → before_first is_separator (b ∷ text) ≡ b ∷ before_first is_separator text
 unmarked b text is = take_while-cons (λ b. not (is_separator b)) b text ∙ ap (λ s. cond (not s) (b ∷ before_first is_separator text) []) is
@@ -49,11 +46,7 @@ others_part : (text : List ℕ) → fields_of_subtags (subtags (hyphened text)) 
   region = known (codes "ZZ") (region_after (before_first is_separator text) (counted_parts (after_first is_separator text)));
 })) None
 unfolding is_primary
-others_part [] = refl
-others_part (b ∷ text) = elim (cut_or_whole is_separator (b ∷ text)) [
-  | inl more ↦ ap fields_of_subtags (segments-read (b ∷ text) ∙ more)
-  | inr whole ↦ ap fields_of_subtags (segments-read (b ∷ text) ∙ whole.0) ∙ rw whole.1 refl
-]
+others_part text = grind (arith, nat_tests, cut_or_whole is_separator text, segments-read text)
 
 -- the fields of the first subtag and of the parts after it
 pub parts_read :
@@ -90,7 +83,7 @@ some_length b text = grind (arith, nat_tests)
 
 pub nothing_read : (range : List ℕ) → BeginsPlain range → (length (basic_text range) == 0) ≡ (length range == 0)
 nothing_read [] plain = ap (λ t. length t == 0) read_nothing
-nothing_read (a ∷ range) plain = ap (λ t. length t == 0) (read_byte a range plain) ∙ some_length (hyphened_byte a) (basic_text range) ∙ sym (some_length a range)
+nothing_read (a ∷ range) plain = grind (arith, nat_tests, read_byte a range plain)
 
 pub star_off : (range : List ℕ) → begins_with_wildcard (hyphened range) ≡ true → basic_text (take (length range - 2) (drop 2 range)) ≡ basic_text range
 unfolding basic_text

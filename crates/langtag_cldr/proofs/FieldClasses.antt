@@ -1,5 +1,5 @@
 -- What the class of a field says of its letters and its length, and which scripts are written from right to left.
-use Rattle.langtag_scan.proofs.Prelude.{◌≡◌, ℕ, ◌<◌, ◌≤◌, true, Bool, List, [], ◌∷◌, length, refl, arith, map, is_some, list_all, list_any}
+use Rattle.langtag_scan.proofs.Prelude.{◌≡◌, ℕ, ◌<◌, ◌≤◌, true, Bool, List, [], ◌∷◌, length, refl, arith, map, is_some, list_all, list_any, common_steps}
 use Rattle.langtag_scan.specs.Grammar.{are_letters, are_alphanumeric, is_primary, is_extended, is_digit, is_letter, are_alike, fold_byte, folded_number}
 use Rattle.langtag_text.specs.Numbers.{letter_number}
 use Rattle.langtag_text.proofs.Letters.{primary_letters, extended_primary}
@@ -20,26 +20,22 @@ pub language_letters : (text : List ℕ) → is_language_field text ≡ true →
 language_letters text good = grind (arith, primary_letters)
 
 pub language_alphanumeric : (text : List ℕ) → is_language_field text ≡ true → are_alphanumeric text ≡ true
-language_alphanumeric [] good = refl
-language_alphanumeric (b ∷ text) good = (of_primary (b ∷ text) good).alphanumeric
+language_alphanumeric text good = grind (arith, common_steps, of_primary text)
 
 pub from_extended : (text : List ℕ) → is_extended text ≡ true → is_language_field text ≡ true
 from_extended text is = from_primary text (extended_primary text is)
 
 pub none_or_extended : (text : List ℕ) → (0 < length text → is_extended text ≡ true) → is_language_field text ≡ true
-none_or_extended [] is = refl
-none_or_extended (b ∷ text) is = from_extended (b ∷ text) (is (omega arith))
+none_or_extended text is = grind (arith, from_extended)
 
 pub script_alphanumeric : (text : List ℕ) → is_script_field text ≡ true → are_alphanumeric text ≡ true
-script_alphanumeric [] good = refl
-script_alphanumeric (b ∷ text) good = (of_script (b ∷ text) good).alphanumeric
+script_alphanumeric text good = grind (arith, common_steps, of_script text)
 
 pub script_length : (text : List ℕ) → is_script_field text ≡ true → length text ≤ 4
 script_length text good = grind (arith, script_four)
 
 pub region_alphanumeric : (text : List ℕ) → is_region_field text ≡ true → are_alphanumeric text ≡ true
-region_alphanumeric [] good = refl
-region_alphanumeric (b ∷ text) good = (of_region (b ∷ text) good).alphanumeric
+region_alphanumeric text good = grind (arith, common_steps, of_region text)
 
 pub region_length : (text : List ℕ) → is_region_field text ≡ true → length text ≤ 4
 region_length text good = grind (arith, region_two_three)
@@ -53,8 +49,7 @@ language_length text good = grind (arith, of_primary)
 
 pub number_of_none : (text : List ℕ) → length text ≡ 0 → letter_number text ≡ 0
 unfolding letter_number
-number_of_none [] none = refl
-number_of_none (b ∷ text) none = absurd (omega (arith, none))
+number_of_none text none = grind (arith, common_steps)
 
 -- ---- what is known is of the class
 
@@ -71,8 +66,7 @@ pub known_region : (unknown text : List ℕ) → is_region_field text ≡ true �
 known_region unknown text good = known_good is_region_field unknown text refl good
 
 pub known_other : (unknown text other : List ℕ) → is_region_field text ≡ true → is_region_field other ≡ true → is_region_field (known unknown (or_other text other)) ≡ true
-known_other unknown [] other good also = known_region unknown other also
-known_other unknown (b ∷ text) other good also = known_region unknown (b ∷ text) good
+known_other unknown text other good also = grind (arith, known_region)
 
 -- ---- the table has the keys of the list: by computation
 

@@ -78,12 +78,8 @@ count-words :
 count-words before [] q i all inside below = absurd (omega (arith, inside))
 count-words before (word ∷ list) zero i all inside below = grind (arith, common_steps, ltb-true, and_parts, count-split, length-bits, count, take-append-le)
 count-words before (word ∷ list) (suc q) i all inside below =
-    let parts = and_parts (is_word word) (list_all is_word list) all in
-    let at : suc q * 64 + i ≡ length (bits 64 word) + (q * 64 + i) = omega (arith, length-bits 64 word) in
-    let kept = ap count (ap (λ n. take n (words (word ∷ list))) at ∙ take-append-add (bits 64 word) (words list) (q * 64 + i)) in
-    let both = count-append (bits 64 word) (take (q * 64 + i) (words list)) in
-    let later = count-words (before + count (bits 64 word)) list q i parts.1 (omega (arith, inside)) below in
-    omega (arith, kept, both, later)
+    let later = count-words (before + count (bits 64 word)) list q i in
+    grind (arith, nat_tests, length-bits 64 word, take-append-add (bits 64 word) (words list) (q * 64 + i), count-append, later)
 
 -- ---- where the place of a bit stands among the places of those that are set
 
@@ -120,14 +116,10 @@ module _ (table last numbers : List ℕ) (all : list_all is_word table ≡ true)
   unfolding before
   index_is = grind (arith, index_of_place 27 place (words table), bit_of_words table (place / 64) (place % 64) inside)
 
-  unset : rest % 2 ≡ 0 → first_index numbers (27 + place) ≡ None
-  unset none = index_is ∙ ap (λ b. cond b (Some before) None) (ne_eqb (rest % 2) 1 (λ one. absurd (omega (arith, none, one))))
-
-  enough : count_ones rest ≤ get_or last (place / 64) 0
-  enough = omega (arith, count_is)
-
-  found : rest % 2 ≡ 1 → first_index numbers (27 + place) ≡ Some (get_or last (place / 64) 0 - count_ones rest)
-  found one = grind (arith, count_is, index_is)
+  told : (rest % 2 ≡ 0 → first_index numbers (27 + place) ≡ None)
+      × (count_ones rest ≤ get_or last (place / 64) 0)
+      × (rest % 2 ≡ 1 → first_index numbers (27 + place) ≡ Some (get_or last (place / 64) 0 - count_ones rest))
+  told = grind (arith, nat_tests, count_is, index_is)
 
 -- ---- the tables of languages: by computation
 
@@ -151,10 +143,10 @@ module _ (number : ℕ) (from : 27 ≤ number) (to : number ≤ 18278) where
   at = omega (arith, from)
 
   pub no_row : from_bit number % 2 ≡ 0 → row_index number ≡ None
-  no_row none = ap row_index at ∙ unset LANGUAGE_BITS LANGUAGE_ENDS _ all_words same_ends rows_listed.languages.bits (number - 27) inside none
+  no_row none = ap row_index at ∙ (told LANGUAGE_BITS _ _ all_words same_ends rows_listed.languages.bits _ inside).0 none
 
   pub enough_ends : count_ones (from_bit number) ≤ get_or LANGUAGE_ENDS ((number - 27) / 64) 0
-  enough_ends = enough LANGUAGE_BITS LANGUAGE_ENDS _ all_words same_ends rows_listed.languages.bits (number - 27) inside
+  enough_ends = (told LANGUAGE_BITS _ _ all_words same_ends rows_listed.languages.bits _ inside).1
 
   pub row_at : from_bit number % 2 ≡ 1 → row_index number ≡ Some (get_or LANGUAGE_ENDS ((number - 27) / 64) 0 - count_ones (from_bit number))
-  row_at one = ap row_index at ∙ found LANGUAGE_BITS LANGUAGE_ENDS _ all_words same_ends rows_listed.languages.bits (number - 27) inside one
+  row_at one = ap row_index at ∙ (told LANGUAGE_BITS _ _ all_words same_ends rows_listed.languages.bits _ inside).2 one

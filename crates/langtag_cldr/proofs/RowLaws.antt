@@ -1,5 +1,5 @@
 -- The rows of the tables are those of the lists, and what is deprecated is found by its number: by computation.
-use Rattle.langtag_scan.proofs.Prelude.{◌≡◌, ℕ, ◌+◌, ◌<◌, true, ◌==◌, Bool, List, [], length, get_or, map, Option, None, option_map, sym, ap, ◌∙◌, arith, ◌&&◌, ltb, not, refl, IsUtf8, codes, get_or-map, nil_from_length, IsUtf8-from_ascii, list_all, common_steps, nat_tests}
+use Rattle.langtag_scan.proofs.Prelude.{◌≡◌, ℕ, ◌+◌, ◌<◌, true, ◌==◌, Bool, List, [], length, get_or, map, Option, None, option_map, sym, ap, ◌∙◌, arith, ◌&&◌, ltb, not, refl, IsUtf8, codes, get_or-map, nil_from_length, IsUtf8-from_ascii, list_all, nat_tests}
 use Rattle.langtag_scan.specs.Grammar.{are_letters, are_alphanumeric, is_letter, is_digit, is_primary, is_script, is_region, is_alphanumeric, are_alike, folded_number, fold_byte}
 use Rattle.langtag_text.specs.Numbers.{letter_number}
 use Rattle.langtag_text.proofs.Letters.{letter_number-tells}
@@ -16,12 +16,9 @@ use Rattle.langtag_cldr.specs.declared.alias_tables.TheConstants.{ALIAS_LANGUAGE
 abbrev pub is_language : Likely → Bool
 is_language row = are_letters row.from.language && is_alone row
 
-abbrev pub language_number : Fields → ℕ
-language_number f = letter_number f.language
-
 pub language-tells :
     (l : List ℕ) → are_letters l ≡ true → (row : Likely) → is_language row ≡ true →
-    (language_number (of_language l) == language_number row.from) ≡ are_alike_fields row.from (of_language l)
+    (letter_number l == letter_number row.from.language) ≡ are_alike_fields row.from (of_language l)
 language-tells l letters row good = grind (arith, nil_from_length, letter_number-tells)
 
 -- ---- what is found by a number
@@ -30,15 +27,15 @@ pub language_found :
     (l : List ℕ) (number : ℕ) (o : Option ℕ) → are_letters l ≡ true → number ≡ letter_number l → o ≡ first_index (map (λ row. letter_number row.from.language) language_rows) number →
     option_map (λ i. (get_or language_rows i no_row).to) o ≡ likely_for language_rows (of_language l)
 language_found l number o letters number_is is =
-    ap (option_map (λ i. (get_or language_rows i no_row).to)) (is ∙ ap (first_index (map (λ row. letter_number row.from.language) language_rows)) number_is)
-    ∙ found_by_number language_number is_language (of_language l) (language-tells l letters) language_rows rows_listed.languages.alone
+    rw (is, number_is)
+    (found_by_number (λ f. letter_number f.language) is_language _ (language-tells l letters) _ rows_listed.languages.alone)
 
 pub other_found :
     (key : Fields) (keys : List ℕ) (number : ℕ) (o : Option ℕ) → are_plain key ≡ true → keys ≡ map (λ row. key_number row.from) other_rows → number ≡ key_number key → o ≡ first_index keys number →
     option_map (λ i. (get_or other_rows i no_row).to) o ≡ likely_for other_rows key
 other_found key keys number o plain keys_are number_is is =
-    ap (option_map (λ i. (get_or other_rows i no_row).to)) (is ∙ ap (λ list. first_index list number) keys_are ∙ ap (first_index (map (λ row. key_number row.from) other_rows)) number_is)
-    ∙ found_by_number key_number is_numbered key (λ row good. key_number-tells key row plain good) other_rows rows_listed.others.numbered
+    rw (is, keys_are, number_is)
+    (found_by_number key_number is_numbered key (λ row. key_number-tells key row plain) other_rows rows_listed.others.numbered)
 
 -- a language at an index
 pub language_at :
@@ -47,13 +44,13 @@ pub language_at :
     record { language = []; script = script; region = region } ≡ places_of (get_or language_rows i no_row).to
 language_at i script region inside script_is region_is = grind (arith, get_or-map)
 
--- any other row at an index
-pub other_at :
-    (i : ℕ) (language script region : List ℕ) → i < length other_rows →
-    language ≡ get_or (map (λ row. row.to.language) other_rows) i [] → script ≡ get_or (map (λ row. row.to.script) other_rows) i [] →
-    region ≡ get_or (map (λ row. row.to.region) other_rows) i [] →
-    record { language = language; script = script; region = region } ≡ (get_or other_rows i no_row).to
-other_at i language script region inside language_is script_is region_is = grind (arith, get_or-map)
+-- the right side of a row at an index
+pub right_side_at :
+    (rows : List Likely) (i : ℕ) (language script region : List ℕ) → i < length rows →
+    language ≡ get_or (map (λ row. row.to.language) rows) i [] → script ≡ get_or (map (λ row. row.to.script) rows) i [] →
+    region ≡ get_or (map (λ row. row.to.region) rows) i [] →
+    record { language = language; script = script; region = region } ≡ (get_or rows i no_row).to
+right_side_at rows i language script region inside language_is script_is region_is = grind (arith, get_or-map)
 
 -- ---- all rows
 
@@ -72,19 +69,16 @@ all_alone key some no_script no_region = grind (arith, either, alone_nowhere, ro
 
 -- any other left side
 pub all_other : (key : Fields) → (0 < length key.language → length key.script + length key.region ≡ 0 → ⊥) → likely_for other_rows key ≡ likely_for likely_subtags key
-all_other key other = sym (either key ∙ ap (λ o. or_else o (likely_for other_rows key)) (other_nowhere language_rows key other rows_listed.languages.only))
+all_other key other = sym (either key ∙ ap (λ o. or_else o (likely_for other_rows key)) (other_nowhere language_rows key other rows_listed.languages.alone))
 
 -- ---- the number of a region tells it apart but for case
 
 abbrev pub is_region_alone : Likely → Bool
 is_region_alone row = are_alphanumeric row.from.region && ltb (length row.from.language + length row.from.script) 1
 
-abbrev pub region_number : Fields → ℕ
-region_number f = folded_number f.region
-
 pub region-tells :
     (f : Fields) → are_alphanumeric f.region ≡ true → (row : Likely) → is_region_alone row ≡ true →
-    (region_number (region_alone f) == region_number row.from) ≡ are_alike_fields row.from (region_alone f)
+    (folded_number f.region == folded_number row.from.region) ≡ are_alike_fields row.from (region_alone f)
 region-tells f plain row good = grind (arith, nil_from_length, folded_number-tells)
 
 -- ---- the tables
@@ -154,62 +148,35 @@ pub at_index :
     get_or texts i [] ≡ column (get_or rows i no_row)
 at_index rows texts column i same inside = ap (λ list. get_or list i []) same ∙ get_or-map column rows i no_row [] inside
 
-none_at : (rows : List Likely) (column : Likely → List ℕ) (i : ℕ) → map column rows ≡ map (λ row. []) rows → i < length rows → [] ≡ column (get_or rows i no_row)
-none_at rows column i none inside = grind (arith, common_steps, get_or-map column rows i no_row [] inside)
+pub none_at :
+    (rows : List Likely) (column : Likely → List ℕ) (i : ℕ) → map column rows ≡ map (λ row. []) rows → i < length rows → [] ≡ get_or (map column rows) i []
+none_at rows column i none inside = sym (ap (λ list. get_or list i []) none ∙ get_or-map (λ row. []) rows i no_row [] inside)
 
 -- ---- languages
 
-abbrev pub alias_key : Likely → ℕ
-alias_key row = letter_number row.from.language
-
 pub alias_found :
-    (f : Fields) (keys : List ℕ) (number : ℕ) (o : Option ℕ) → are_letters f.language ≡ true → keys ≡ map alias_key language_aliases → number ≡ letter_number f.language → o ≡ first_index keys number →
+    (f : Fields) (keys : List ℕ) (number : ℕ) (o : Option ℕ) → are_letters f.language ≡ true → keys ≡ map (λ row. letter_number row.from.language) language_aliases → number ≡ letter_number f.language → o ≡ first_index keys number →
     option_map (λ i. (get_or language_aliases i no_row).to) o ≡ likely_for language_aliases (language_alone f)
 alias_found f keys number o letters keys_are number_is is =
-    ap (option_map (λ i. (get_or language_aliases i no_row).to)) (is ∙ ap (λ list. first_index list number) keys_are ∙ ap (first_index (map alias_key language_aliases)) number_is)
-    ∙ found_by_number language_number is_language (language_alone f) (language-tells f.language letters) language_aliases aliases_listed.alone
-
-pub alias_at :
-    (i : ℕ) (language script region : List ℕ) → i < length language_aliases →
-    language ≡ name_at ALIAS_LANGUAGES i → script ≡ get_or (map (name_at ALIAS_SCRIPT_NAMES) ALIAS_SCRIPTS) i [] → region ≡ get_or (map (name_at ALIAS_REGION_NAMES) ALIAS_REGIONS) i [] →
-    record { language = language; script = script; region = region } ≡ (get_or language_aliases i no_row).to
-alias_at i language script region inside language_is script_is region_is =
-    let row = get_or language_aliases i no_row in
-    ap (λ l. record { language = l; script = script; region = region }) (language_is ∙ at_index language_aliases _ (λ row. row.to.language) i aliases_listed.languages inside)
-    ∙ ap (λ s. record { language = row.to.language; script = s; region = region }) (script_is ∙ at_index language_aliases _ (λ row. row.to.script) i aliases_listed.scripts inside)
-    ∙ ap (λ r. record { language = row.to.language; script = row.to.script; region = r }) (region_is ∙ at_index language_aliases _ (λ row. row.to.region) i aliases_listed.regions inside)
+    rw (is, keys_are, number_is)
+    (found_by_number (λ f. letter_number f.language) is_language _ (language-tells _ letters) _ aliases_listed.alone)
 
 -- ---- regions
 
-abbrev pub region_key : Likely → ℕ
-region_key row = folded_number row.from.region
-
 pub region_found :
     (rows : List Likely) → list_all is_region_alone rows ≡ true →
-    (f : Fields) (keys : List ℕ) (number : ℕ) (o : Option ℕ) → are_alphanumeric f.region ≡ true → keys ≡ map region_key rows → number ≡ folded_number f.region → o ≡ first_index keys number →
+    (f : Fields) (keys : List ℕ) (number : ℕ) (o : Option ℕ) → are_alphanumeric f.region ≡ true → keys ≡ map (λ row. folded_number row.from.region) rows → number ≡ folded_number f.region → o ≡ first_index keys number →
     option_map (λ i. (get_or rows i no_row).to) o ≡ likely_for rows (region_alone f)
 region_found rows alone f keys number o plain keys_are number_is is =
-    grind (arith, nat_tests, found_by_number region_number is_region_alone (region_alone f) (region-tells f plain) rows alone, region-tells f plain)
-
-pub region_at :
-    (i : ℕ) (region : List ℕ) → i < length region_aliases → region ≡ name_at REGION_ALIAS_NAMES i →
-    record { language = []; script = []; region = region } ≡ (get_or region_aliases i no_row).to
-region_at i region inside region_is =
-    let row = get_or region_aliases i no_row in
-    ap (λ r. record { language = []; script = []; region = r }) (region_is ∙ at_index region_aliases _ (λ row. row.to.region) i region_aliases_listed.regions inside)
-    ∙ ap (λ l. record { language = l; script = []; region = row.to.region }) (none_at region_aliases (λ row. row.to.language) i region_aliases_listed.languages inside)
-    ∙ ap (λ s. record { language = row.to.language; script = s; region = row.to.region }) (none_at region_aliases (λ row. row.to.script) i region_aliases_listed.scripts inside)
+    rw (is, keys_are, number_is) (found_by_number (λ f. folded_number f.region) _ _ (region-tells f plain) rows alone)
 
 pub utf8_name : (name : List ℕ) → are_alphanumeric name ≡ true → IsUtf8 name
 utf8_name name plain = IsUtf8-from_ascii name (IsAscii-each is_alphanumeric alphanumeric_below name plain)
 
 -- ---- regions
 
-region_in : (o : Option ℕ) → option_map (λ i. (get_or region_replacements i no_row).to.region) o ≡ option_map (λ to. to.region) (option_map (λ i. (get_or region_replacements i no_row).to) o)
-region_in o = grind arith
-
 pub replaced_region :
-    (f : Fields) (keys : List ℕ) (o : Option ℕ) → are_alphanumeric f.region ≡ true → keys ≡ map region_key region_replacements → o ≡ first_index keys (folded_number f.region) →
+    (f : Fields) (keys : List ℕ) (o : Option ℕ) → are_alphanumeric f.region ≡ true → keys ≡ map (λ row. folded_number row.from.region) region_replacements → o ≡ first_index keys (folded_number f.region) →
     option_map (λ i. (get_or region_replacements i no_row).to.region) o ≡ option_map (λ to. to.region) (likely_for region_replacements (region_alone f))
 replaced_region f keys o plain keys_are found =
-    region_in o ∙ ap (option_map (λ to. to.region)) (region_found region_replacements replacements_listed.alone f keys (folded_number f.region) o plain keys_are refl found)
+    grind (arith, nat_tests, region_found region_replacements replacements_listed.alone f keys _ o plain keys_are refl found)

@@ -1,6 +1,6 @@
 -- The numbers of fields tell them apart but for case, so a row is found by the number of its left side. The tables have the rows
 -- of the lists: by computation.
-use Rattle.langtag_scan.proofs.Prelude.{◌≡◌, ◌≢◌, ℕ, zero, suc, ◌<◌, true, ltb, List, [], ◌∷◌, length, get_or, None, Some, refl, sym, ap, ◌∙◌, arith, Bool, rules, Result, nat_cmp, map, ◌+◌, ◌*◌, ◌≤◌, ◌==◌, leb, ◌&&◌, false, cond, ◌++◌, Option, option_map, ◌-◌, ◌/◌, ◌%◌, ◌^◌, not, flat_map, ◌||◌, codes, nat_tests, ltb-true, eq-eqb, ne_eqb, and_parts, searched, get_or-map, length-map, list_all, option_map_or, is_none, result_ok, common_steps}
+use Rattle.langtag_scan.proofs.Prelude.{◌≡◌, ◌≢◌, ℕ, zero, suc, ◌<◌, true, ltb, List, [], ◌∷◌, length, get_or, None, Some, refl, sym, ap, ◌∙◌, arith, Bool, rules, Result, nat_cmp, map, ◌+◌, ◌*◌, ◌≤◌, ◌==◌, leb, ◌&&◌, false, cond, ◌++◌, option_map, ◌-◌, ◌/◌, ◌%◌, ◌^◌, not, flat_map, ◌||◌, codes, nat_tests, ltb-true, eq-eqb, ne_eqb, and_parts, searched, get_or-map, length-map, list_all, option_map_or, is_none, result_ok}
 use Rattle.langtag_scan.specs.Grammar.{are_alike, fold_byte, folded_number, are_letters, are_alphanumeric, is_letter, is_digit, is_primary, is_script, is_region}
 use Rattle.langtag_text.proofs.Elements.{list_all_get}
 use Rattle.std.specs.List.Sorted.{IsBinarySearchResult}
@@ -130,13 +130,9 @@ module _ (is_good : Likely → Bool) (key : Fields) (apart : (row : Likely) → 
   found_nowhere [] all = refl
   found_nowhere (row ∷ rows) all = grind (arith, found_nowhere rows)
 
-append-test :
-    (b : Bool) (to : Fields) (xs ys all : Option Fields) → all ≡ or_else xs ys → cond b (Some to) all ≡ or_else (cond b (Some to) xs) ys
-append-test b to xs ys all same = grind arith
-
 pub likely_for-append : (xs ys : List Likely) (key : Fields) → likely_for (xs ++ ys) key ≡ or_else (likely_for xs key) (likely_for ys key)
 likely_for-append [] ys key = refl
-likely_for-append (row ∷ xs) ys key = grind (arith, common_steps, append-test, likely_for-append xs ys key)
+likely_for-append (row ∷ xs) ys key = grind (arith, nat_tests, likely_for-append xs ys key)
 
 -- ---- by the lengths of fields
 
@@ -164,9 +160,10 @@ pub alone_nowhere :
 alone_nowhere rows key some no_script no_region = grind (arith, found_nowhere is_other key, alike_lengths)
 
 pub other_nowhere :
-    (rows : List Likely) (key : Fields) → (0 < length key.language → length key.script + length key.region ≡ 0 → ⊥) → list_all is_alone rows ≡ true →
-    likely_for rows key ≡ None
-other_nowhere rows key other = grind (arith, found_nowhere is_alone key, alike_lengths)
+    (rows : List Likely) (key : Fields) → (0 < length key.language → length key.script + length key.region ≡ 0 → ⊥) →
+    list_all (λ row. are_letters row.from.language && is_alone row) rows ≡ true → likely_for rows key ≡ None
+other_nowhere rows key other =
+    grind (arith, nat_tests, found_nowhere (λ row. are_letters row.from.language && is_alone row) key, alike_lengths)
 
 -- ---- the bits of the table of languages
 
@@ -243,7 +240,6 @@ pub record AreLanguages : Type 0 where
   pub bits : places 27 (words table.LANGUAGE_BITS) ≡ map (λ row. letter_number row.from.language) language_rows
   -- a language and no more, of two or three letters
   pub alone : list_all (λ row. are_letters row.from.language && is_alone row) language_rows ≡ true
-  pub only : list_all is_alone language_rows ≡ true
   pub short : list_all is_short language_rows ≡ true
 
 -- ---- the other rows
@@ -271,7 +267,7 @@ pub record AreRows : Type 0 where
 pub rows_listed : AreRows
 unfolding likely_subtags language_rows other_rows region_aliases has_bit bits places key_number letter_number folded_number fold_byte is_primary is_script is_region is_letter is_digit
 rows_listed = record {
-  languages = record { scripts = refl; regions = refl; bits = refl; alone = refl; only = refl; short = refl };
+  languages = record { scripts = refl; regions = refl; bits = refl; alone = refl; short = refl };
   others = record { numbers = refl; languages = refl; scripts = refl; regions = refl; numbered = refl; other = refl; short = refl };
   settled = refl;
   listed = refl;
@@ -279,18 +275,10 @@ rows_listed = record {
 }
 
 pub language_count : length language_rows ≡ length table.LANGUAGE_SCRIPTS
-language_count =
-    sym (length-map language_rows (λ row. row.to.script)) ∙ sym (ap length rows_listed.languages.scripts) ∙ length-map table.LANGUAGE_SCRIPTS (name_at table.SCRIPT_NAMES)
-
-pub other_numbers : table.OTHER_KEYS ≡ map (λ row. key_number row.from) other_rows
-other_numbers = rows_listed.others.numbers
-
-pub other_key_count : length table.OTHER_KEYS ≡ length other_rows
-other_key_count = ap length other_numbers ∙ length-map other_rows (λ row. key_number row.from)
+language_count = simp length-map at (sym (ap length rows_listed.languages.scripts))
 
 pub other_count : length other_rows ≡ length table.OTHER_SCRIPTS
-other_count =
-    sym (length-map other_rows (λ row. row.to.script)) ∙ sym (ap length rows_listed.others.scripts) ∙ length-map table.OTHER_SCRIPTS (name_at table.SCRIPT_NAMES)
+other_count = simp length-map at (sym (ap length rows_listed.others.scripts))
 
 -- ---- the classes of names
 

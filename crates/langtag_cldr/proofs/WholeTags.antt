@@ -1,5 +1,5 @@
 -- Texts that are no tag that the registry replaces as a whole, as their first bytes show.
-use Rattle.langtag_scan.proofs.Prelude.{◌≡◌, ℕ, true, false, Bool, not, codes, Some, None, List, [], ◌∷◌, inl, inr, refl, sym, ap, ◌∙◌, arith, cond, map, take_while-cons, slice_split, find, Bor, subst, ◌-◌, ◌<◌, ◌≤◌, ◌==◌, ◌&&◌, ◌||◌, ◌⊎◌, length, get_or, take, drop, list_all, bytes_eq, before_first, after_first, nat_tests, common_steps, and_parts, both_ways, false_from_ne_true, option_map, length-take}
+use Rattle.langtag_scan.proofs.Prelude.{◌≡◌, ℕ, true, false, Bool, not, codes, Some, None, List, [], ◌∷◌, refl, sym, ap, ◌∙◌, arith, cond, map, take_while-cons, slice_split, find, Bor, subst, ◌-◌, ◌<◌, ◌≤◌, ◌==◌, ◌&&◌, ◌||◌, ◌⊎◌, length, get_or, take, drop, list_all, bytes_eq, before_first, after_first, nat_tests, common_steps, and_parts, both_ways, false_from_ne_true, option_map, length-take}
 use Rattle.std.specs.Bool.{nat_le}
 use Rattle.langtag_scan.specs.Grammar.{is_digit, is_extended, is_private_subtag, is_letter, are_alike, are_alike-decides, fold_byte, fold_text}
 use Rattle.langtag_scan.proofs.CaseLaw.{fold_byte-twice, is_letter-fold, length-fold}
@@ -8,21 +8,17 @@ use Rattle.langtag_fields.specs.Entry.{Entry, value_for}
 use Rattle.langtag_fields.specs.Fields.{preferred_tag}
 use Rattle.langtag_fields.specs.Subtags.{tag_preferred}
 use Rattle.langtag_fields.proofs.Values.{value_good}
-use Rattle.langtag_range.specs.Definitions.{basic_text, hyphened, hyphened_byte, is_language_range, is_separator}
+use Rattle.langtag_range.specs.Definitions.{basic_text, hyphened, is_language_range, is_separator}
 use Rattle.langtag_range.proofs.AlikeTexts.{mark-fold}
 use Rattle.langtag_range.proofs.BasicForms.{hyphened_range}
-use Rattle.langtag_cldr.specs.Definitions.{KeepsLanguage, begins_british, begins_counted, begins_replaced, current_text, fields_of_subtags, follows_none, text_fields, BeginsPlain}
+use Rattle.langtag_cldr.specs.Definitions.{KeepsLanguage, begins_british, begins_counted, begins_replaced, current_text, fields_of_subtags, follows_none, text_fields}
 use Rattle.langtag_cldr.proofs.CommonTexts.{parts_read, read_byte, read_nothing, length_read, rest_of, unmarked}
 
 -- ---- a Preferred-Value has no "_"
 
-values_plain : list_all is_language_range (map (λ e. e.value) tag_preferred) ≡ true
-unfolding tag_preferred is_letter is_digit is_private_subtag
-values_plain = refl
-
 pub read_plain : (text new : List ℕ) → preferred_tag text ≡ Some new → hyphened new ≡ new
-unfolding preferred_tag
-read_plain text new is = hyphened_range new (value_good is_language_range tag_preferred text new values_plain is)
+unfolding preferred_tag tag_preferred is_letter is_digit is_private_subtag
+read_plain text new is = hyphened_range new (value_good is_language_range tag_preferred text new refl is)
 
 -- so a text with a Preferred-Value has its fields, and any other text its own
 pub current_some :
@@ -63,10 +59,6 @@ is_free k text = not (get_or text k 0 == 45)
 abbrev is_little : List ℕ → Bool
 is_little text = nat_le (length text) 2
 
--- the first two bytes begin no replaced tag
-abbrev begins_other : List ℕ → Bool
-begins_other text = is_free 0 text && (is_free 1 text && not (begins_replaced (get_or text 0 0) (get_or text 1 0)))
-
 -- the subtag of two bytes is all, or what follows it follows none in a replaced tag
 abbrev goes_on_other : List ℕ → Bool
 goes_on_other text = is_free 0 text && (is_free 1 text && (((get_or text 2 0 == 45) && follows_none (drop 3 text)) || nat_le (length text) 2))
@@ -84,38 +76,18 @@ listed_little : list_all (λ e. not (is_little (fold_text e.subtag))) tag_prefer
 unfolding tag_preferred fold_byte
 listed_little = refl
 
-listed_begin : list_all (λ e. not (begins_other (fold_text e.subtag))) tag_preferred ≡ true
-unfolding tag_preferred fold_byte
-listed_begin = refl
-
 listed_go_on : list_all (λ e. not (goes_on_other (fold_text e.subtag))) tag_preferred ≡ true
 unfolding tag_preferred fold_byte is_letter
 listed_go_on = refl
 
-listed_three : list_all (λ e. not (begins_with_other (fold_text e.subtag))) tag_preferred ≡ true
-unfolding tag_preferred fold_byte
-listed_three = refl
-
-listed_long : list_all (λ e. not (begins_long (fold_text e.subtag))) tag_preferred ≡ true
-unfolding tag_preferred fold_byte
-listed_long = refl
-
 -- ---- a text is read byte by byte up to its first separator
 
-plain_hyphened : (x : ℕ) → is_separator x ≡ false → hyphened_byte x ≡ x
-plain_hyphened x is = grind (arith, nat_tests)
-
-begins_plain : (x : ℕ) (text : List ℕ) → is_separator x ≡ false → BeginsPlain (x ∷ text)
-begins_plain x [] is = refl
-begins_plain x (y ∷ text) is = grind (arith, nat_tests)
-
 plain_read : (x : ℕ) (text : List ℕ) → is_separator x ≡ false → basic_text (x ∷ text) ≡ x ∷ basic_text text
-plain_read x text is = read_byte x text (begins_plain x text is) ∙ ap (λ y. y ∷ basic_text text) (plain_hyphened x is)
+plain_read x text is = grind (arith, nat_tests, common_steps, read_byte)
 
 -- a separator that no "*" follows
 mark_read : (m : ℕ) (text : List ℕ) → is_separator m ≡ true → begins_counted text ≡ true → basic_text (m ∷ text) ≡ 45 ∷ basic_text text
-mark_read m [] is counted = grind (arith, nat_tests, read_byte m [])
-mark_read m (y ∷ text) is counted = grind (arith, nat_tests, read_byte m (y ∷ text))
+mark_read m text is counted = grind (arith, nat_tests, common_steps, read_byte)
 
 free_fold : (x : ℕ) → is_separator x ≡ false → (fold_byte x == 45) ≡ false
 free_fold x is = grind (arith, nat_tests, mark-fold 45 (omega arith) x)
@@ -148,8 +120,8 @@ module _ (x y : ℕ) (text : List ℕ) (long : 2 ≤ length (before_first is_sep
   two_read = plain_read x (y ∷ text) x_free ∙ ap (λ t. x ∷ t) (plain_read y text y_free)
 
   other_begin : begins_replaced (fold_byte x) (fold_byte y) ≡ false → preferred_tag (basic_text (x ∷ y ∷ text)) ≡ None
-  unfolding preferred_tag
-  other_begin other = none_listed begins_other tag_preferred (basic_text (x ∷ y ∷ text)) listed_begin (rw (two_read, free_fold x x_free, free_fold y y_free, other) refl)
+  unfolding preferred_tag tag_preferred fold_byte
+  other_begin other = grind (arith, common_steps, none_listed, two_read, free_fold, x_free, y_free)
 
 module _ (x y z : ℕ) (text : List ℕ) (long : 3 ≤ length (before_first is_separator (x ∷ y ∷ z ∷ text))) where
   two_long : 2 ≤ length (before_first is_separator (x ∷ y ∷ z ∷ text))
@@ -158,14 +130,20 @@ module _ (x y z : ℕ) (text : List ℕ) (long : 3 ≤ length (before_first is_s
   z_free : is_separator z ≡ false
   z_free = let same = ap length (y_off x y (z ∷ text) two_long) in first_free z text (omega (arith, long, same))
 
-  z_off : before_first is_separator (x ∷ y ∷ z ∷ text) ≡ x ∷ y ∷ z ∷ before_first is_separator text
-  z_off = y_off x y (z ∷ text) two_long ∙ ap (λ t. x ∷ y ∷ t) (unmarked z text z_free)
-
   three_read : basic_text (x ∷ y ∷ z ∷ text) ≡ x ∷ y ∷ z ∷ basic_text text
   three_read = two_read x y (z ∷ text) two_long ∙ ap (λ t. x ∷ y ∷ t) (plain_read z text z_free)
 
   three_alone : length (before_first is_separator (x ∷ y ∷ z ∷ text)) ≡ 3 → before_first is_separator (x ∷ y ∷ z ∷ text) ≡ x ∷ y ∷ z ∷ []
-  three_alone three = grind (arith, common_steps, z_off)
+  three_alone three = grind (arith, common_steps, (y_off x y (z ∷ text) two_long ∙ ap (λ t. x ∷ y ∷ t) (unmarked z text z_free)))
+
+  other_three :
+      are_alike (x ∷ y ∷ z ∷ []) (codes "sgn") ≡ false → are_alike (x ∷ y ∷ z ∷ []) (codes "art") ≡ false →
+      preferred_tag (basic_text (x ∷ y ∷ z ∷ text)) ≡ None
+  unfolding preferred_tag tag_preferred fold_byte
+  other_three sgn art =
+      none_listed begins_with_other tag_preferred (basic_text (x ∷ y ∷ z ∷ text)) refl
+      (rw (three_read, free_fold x (x_free x y (z ∷ text) two_long), free_fold y (y_free x y (z ∷ text) two_long))
+      (rw (free_fold z z_free, sgn, art) refl))
 
 pub not_by_little : (text : List ℕ) → length (before_first is_separator text) ≤ 1 → length (after_first is_separator text) ≡ 0 → preferred_tag (basic_text text) ≡ None
 unfolding preferred_tag
@@ -177,11 +155,7 @@ not_by_little text first rest = none_listed is_little tag_preferred (basic_text 
 pub not_by_two :
     (text : List ℕ) → length (before_first is_separator text) ≡ 2 →
     begins_replaced (fold_byte (get_or (before_first is_separator text) 0 0)) (fold_byte (get_or (before_first is_separator text) 1 0)) ≡ false → preferred_tag (basic_text text) ≡ None
-not_by_two [] two other = absurd (omega (arith, two, length_first []))
-not_by_two (x ∷ []) two other = absurd (omega (arith, two, length_first (x ∷ [])))
-not_by_two (x ∷ y ∷ text) two other =
-    let long : 2 ≤ length (before_first is_separator (x ∷ y ∷ text)) = omega (arith, two) in
-    other_begin x y text long (ap (λ t. begins_replaced (fold_byte (get_or t 0 0)) (fold_byte (get_or t 1 0))) (sym (y_off x y text long)) ∙ other)
+not_by_two text two other = grind (arith, common_steps, length_first, other_begin, y_off)
 
 follows_none-fold : (text : List ℕ) → follows_none (fold_text text) ≡ follows_none text
 follows_none-fold [] = refl
@@ -218,29 +192,19 @@ not_by_follow (x ∷ y ∷ m ∷ text) two keeps =
 pub not_by_three :
     (text : List ℕ) → length (before_first is_separator text) ≡ 3 → are_alike (before_first is_separator text) (codes "sgn") ≡ false →
     are_alike (before_first is_separator text) (codes "art") ≡ false → preferred_tag (basic_text text) ≡ None
-unfolding preferred_tag
-not_by_three [] three sgn art = absurd (omega (arith, three, length_first []))
-not_by_three (x ∷ []) three sgn art = absurd (omega (arith, three, length_first (x ∷ [])))
-not_by_three (x ∷ y ∷ []) three sgn art = absurd (omega (arith, three, length_first (x ∷ y ∷ [])))
-not_by_three (x ∷ y ∷ z ∷ text) three sgn art =
-    let long : 2 ≤ length (before_first is_separator (x ∷ y ∷ z ∷ text)) = omega (arith, three) in
-    let longer : 3 ≤ length (before_first is_separator (x ∷ y ∷ z ∷ text)) = omega (arith, three) in
-    let first = three_alone x y z text longer three in
-    none_listed begins_with_other tag_preferred (basic_text (x ∷ y ∷ z ∷ text)) listed_three
-    (rw (three_read x y z text longer, free_fold x (x_free x y (z ∷ text) long), free_fold y (y_free x y (z ∷ text) long), free_fold z (z_free x y z text longer), ap (λ t. are_alike t (codes "sgn")) (sym first) ∙ sgn, ap (λ t. are_alike t (codes "art")) (sym first) ∙ art) refl)
+not_by_three text three sgn art = grind (arith, common_steps, length_first, other_three, three_alone)
 
 pub not_by_more : (text : List ℕ) → 4 ≤ length (before_first is_separator text) → preferred_tag (basic_text text) ≡ None
-unfolding preferred_tag
+unfolding preferred_tag tag_preferred fold_byte
 not_by_more [] more = absurd (omega (arith, more, length_first []))
 not_by_more (x ∷ []) more = absurd (omega (arith, more, length_first (x ∷ [])))
 not_by_more (x ∷ y ∷ []) more = absurd (omega (arith, more, length_first (x ∷ y ∷ [])))
 not_by_more (x ∷ y ∷ z ∷ []) more = absurd (omega (arith, more, length_first (x ∷ y ∷ z ∷ [])))
 not_by_more (x ∷ y ∷ z ∷ w ∷ text) more =
     let long : 2 ≤ length (before_first is_separator (x ∷ y ∷ z ∷ w ∷ text)) = omega (arith, more) in
-    let longer : 3 ≤ length (before_first is_separator (x ∷ y ∷ z ∷ w ∷ text)) = omega (arith, more) in
     let same = ap length (y_off x y (z ∷ w ∷ text) long) in
     let last : 2 ≤ length (before_first is_separator (z ∷ w ∷ text)) = omega (arith, same, more) in
-    none_listed begins_long tag_preferred (basic_text (x ∷ y ∷ z ∷ w ∷ text)) listed_long
+    none_listed begins_long tag_preferred (basic_text (x ∷ y ∷ z ∷ w ∷ text)) refl
     (rw (two_read x y (z ∷ w ∷ text) long, two_read z w text last, free_fold x (x_free x y (z ∷ w ∷ text) long), free_fold y (y_free x y (z ∷ w ∷ text) long), free_fold z (x_free z w text last), free_fold w (y_free z w text last)) refl)
 
 -- ---- by what follows a language of two letters
@@ -257,46 +221,25 @@ long_extended :
     is_extended (before_first is_separator (x ∷ y ∷ z ∷ w ∷ text)) ≡ false
 long_extended x y z w text a b c d =
     let first = unmarked x (y ∷ z ∷ w ∷ text) a ∙ ap (λ t. x ∷ t) (unmarked y (z ∷ w ∷ text) b ∙ ap (λ t. y ∷ t) (unmarked z (w ∷ text) c ∙ ap (λ t. z ∷ t) (unmarked w text d))) in
-    let long = ap length first in
-    false_from_ne_true _ (λ yes. let three = (extended_three _ yes).0 in omega (arith, three, long))
+    grind (arith, common_steps, false_from_ne_true, extended_three, ap length first)
 
 counted_free : (x : ℕ) (text : List ℕ) → begins_counted (x ∷ text) ≡ true → is_separator x ≡ false
 counted_free x text is = grind (arith, nat_tests)
 
 pub keeps_none : (text : List ℕ) → length text < 1 → KeepsLanguage text
-keeps_none [] none = record { counted = refl; extended = few_extended [] (omega arith); unlike = ap follows_none read_nothing }
-keeps_none (x ∷ text) none = absurd (omega (arith, none))
+keeps_none text none = grind (arith, common_steps, few_extended, read_nothing)
 
 pub keeps_few : (text : List ℕ) → 1 ≤ length text → length text < 3 → begins_counted (get_or text 0 0 ∷ []) ≡ true → KeepsLanguage text
-keeps_few [] some few counted = absurd (omega (arith, some))
-keeps_few (x ∷ text) some few counted = record { counted = counted; extended = few_extended (x ∷ text) (omega (arith, few)); unlike = unlike }
-  where
-    unlike : follows_none (basic_text (x ∷ text)) ≡ true
-    unlike = let less = length_read (x ∷ text) in grind (arith, nat_tests, less, few)
+keeps_few text some few counted = grind (arith, nat_tests, common_steps, few_extended, length_read)
 
 pub keeps_other : (text : List ℕ) → 1 ≤ length text → begins_counted (get_or text 0 0 ∷ []) ≡ true → is_letter (get_or text 0 0) ≡ false → KeepsLanguage text
-keeps_other [] some counted other = absurd (omega (arith, some))
-keeps_other (x ∷ text) some counted other = record { counted = counted; extended = other_extended x text (counted_free x text counted) other; unlike = unlike }
-  where
-    unlike : follows_none (basic_text (x ∷ text)) ≡ true
-    unlike = rw (plain_read x text (counted_free x text counted), other) (grind (arith, nat_tests))
+keeps_other text some counted other = grind (arith, nat_tests, common_steps, other_extended, counted_free, plain_read)
 
 -- a subtag of one character comes first
 pub keeps_single :
     (text : List ℕ) → 3 ≤ length text → begins_counted (get_or text 0 0 ∷ []) ≡ true → is_separator (get_or text 1 0) ≡ true → begins_counted (get_or text 2 0 ∷ []) ≡ true → KeepsLanguage text
-keeps_single [] some counted mark next = absurd (omega (arith, some))
-keeps_single (x ∷ []) some counted mark next = absurd (omega (arith, some))
-keeps_single (x ∷ m ∷ []) some counted mark next = absurd (omega (arith, some))
-keeps_single (x ∷ m ∷ z ∷ text) some counted mark next = record { counted = counted; extended = single_extended; unlike = unlike }
-  where
-    free : is_separator x ≡ false
-    free = counted_free x (m ∷ z ∷ text) counted
-
-    single_extended : is_extended (before_first is_separator (x ∷ m ∷ z ∷ text)) ≡ false
-    single_extended = let first = ap length (unmarked x (m ∷ z ∷ text) free) in grind (arith, common_steps, false_from_ne_true, extended_three, cut m (z ∷ text), first)
-
-    unlike : follows_none (basic_text (x ∷ m ∷ z ∷ text)) ≡ true
-    unlike = rw (plain_read x (m ∷ z ∷ text) free, mark_read m (z ∷ text) mark next) (grind (arith, nat_tests))
+keeps_single text some counted mark next =
+    grind (arith, nat_tests, common_steps, counted_free, unmarked, false_from_ne_true, extended_three, cut, plain_read, mark_read)
 
 -- a subtag of two characters comes first, which is not `gb`
 pub keeps_pair :
@@ -306,23 +249,15 @@ keeps_pair [] some counted second mark next other = absurd (omega (arith, some))
 keeps_pair (x ∷ []) some counted second mark next other = absurd (omega (arith, some))
 keeps_pair (x ∷ y ∷ []) some counted second mark next other = absurd (omega (arith, some))
 keeps_pair (x ∷ y ∷ m ∷ []) some counted second mark next other = absurd (omega (arith, some))
-keeps_pair (x ∷ y ∷ m ∷ z ∷ text) some counted second mark next other = record { counted = counted; extended = pair_extended; unlike = unlike }
-  where
-    free : is_separator x ≡ false
-    free = counted_free x (y ∷ m ∷ z ∷ text) counted
-
-    pair_extended : is_extended (before_first is_separator (x ∷ y ∷ m ∷ z ∷ text)) ≡ false
-    pair_extended =
-        let first = ap length (unmarked x (y ∷ m ∷ z ∷ text) free) in
-        let both = ap length (unmarked y (m ∷ z ∷ text) second) in
-        grind (arith, common_steps, false_from_ne_true, extended_three, cut m (z ∷ text), first, both)
-
-    unlike : follows_none (basic_text (x ∷ y ∷ m ∷ z ∷ text)) ≡ true
-    unlike = rw (plain_read x (y ∷ m ∷ z ∷ text) free, plain_read y (m ∷ z ∷ text) second, mark_read m (z ∷ text) mark next, other) (grind (arith, nat_tests))
-
-module _ (x y z w : ℕ) (a : is_separator x ≡ false) (b : is_separator y ≡ false) (c : is_separator z ≡ false) (d : is_separator w ≡ false) where
-  four_read : (text : List ℕ) → basic_text (x ∷ y ∷ z ∷ w ∷ text) ≡ x ∷ y ∷ z ∷ w ∷ basic_text text
-  four_read text = plain_read x (y ∷ z ∷ w ∷ text) a ∙ ap (λ t. x ∷ t) (plain_read y (z ∷ w ∷ text) b) ∙ ap (λ t. x ∷ y ∷ t) (plain_read z (w ∷ text) c) ∙ ap (λ t. x ∷ y ∷ z ∷ t) (plain_read w text d)
+keeps_pair (x ∷ y ∷ m ∷ z ∷ text) some counted second mark next other =
+    let free = counted_free x (y ∷ m ∷ z ∷ text) counted in
+    let first = ap length (unmarked x (y ∷ m ∷ z ∷ text) free) in
+    let both = ap length (unmarked y (m ∷ z ∷ text) second) in
+    record {
+      counted = counted;
+      extended = grind (arith, common_steps, false_from_ne_true, extended_three, cut m (z ∷ text), first, both);
+      unlike = rw (plain_read x (y ∷ m ∷ z ∷ text) free, plain_read y (m ∷ z ∷ text) second, mark_read m (z ∷ text) mark next, other) (grind (arith, nat_tests));
+    }
 
 -- a text is empty, or the second of its bytes counts
 abbrev IsEnd : List ℕ → Type 0
@@ -330,12 +265,7 @@ IsEnd text = (length text ≡ 0) ⊎ ((2 ≤ length text) × (begins_counted (dr
 
 -- no bytes are read, or two or more
 long_read : (text : List ℕ) → IsEnd text → (length (basic_text text) ≡ 0) ⊎ (2 ≤ length (basic_text text))
-long_read [] ends = inl (ap length read_nothing)
-long_read (p ∷ []) ends = absurd (grind arith)
-long_read (p ∷ q ∷ text) ends = inr (grind (arith, nat_tests, begins_before p q text, plain_read q text))
-  where
-    begins_before : (p q : ℕ) (text : List ℕ) → begins_counted (q ∷ text) ≡ true → basic_text (p ∷ q ∷ text) ≡ hyphened_byte p ∷ basic_text (q ∷ text)
-    begins_before p q text counted = read_byte p (q ∷ text) (grind (arith, nat_tests))
+long_read text ends = grind (arith, nat_tests, common_steps, read_nothing, plain_read, read_byte)
 
 pub keeps_long :
     (text : List ℕ) → 4 ≤ length text → begins_counted (get_or text 0 0 ∷ []) ≡ true → is_separator (get_or text 1 0) ≡ false → is_separator (get_or text 2 0) ≡ false → is_separator (get_or text 3 0) ≡ false →
@@ -346,10 +276,7 @@ keeps_long (x ∷ y ∷ []) long counted b c d ends = absurd (omega (arith, long
 keeps_long (x ∷ y ∷ z ∷ []) long counted b c d ends = absurd (omega (arith, long))
 keeps_long (x ∷ y ∷ z ∷ w ∷ text) long counted b c d ends =
     let a = counted_free x (y ∷ z ∷ w ∷ text) counted in
-    record { counted = counted; extended = long_extended x y z w text a b c d; unlike = ap follows_none (four_read x y z w a b c d text) ∙ four_unlike text (subst IsEnd (rest_of 4 (x ∷ y ∷ z ∷ w ∷ text)) ends) }
-  where
-    hyphen_free : (v : ℕ) → is_separator v ≡ false → (v == 45) ≡ false
-    hyphen_free v is = grind (arith, nat_tests)
-
-    four_unlike : (text : List ℕ) → IsEnd text → follows_none (x ∷ y ∷ z ∷ w ∷ basic_text text) ≡ true
-    four_unlike text ends = grind (arith, nat_tests, hyphen_free z c, hyphen_free w d, long_read text ends, read_nothing)
+    let read = plain_read x (y ∷ z ∷ w ∷ text) a ∙ ap (λ t. x ∷ t) (plain_read y (z ∷ w ∷ text) b) in
+    let two = long_read text (subst IsEnd (rest_of 4 (x ∷ y ∷ z ∷ w ∷ text)) ends) in
+    let extended = long_extended x y z w text a b c d in
+    grind (arith, nat_tests, extended, read, plain_read z (w ∷ text) c, plain_read w text d, two, read_nothing)

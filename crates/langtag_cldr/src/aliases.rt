@@ -2,7 +2,8 @@
 ghost use Rattle.std.specs.Prelude.{◌≡◌, IsTrue, length, map, option_map, is_none};
 ghost use Rattle.langtag_scan.specs.Grammar.{folded_number};
 ghost use Rattle.langtag_text.specs.Numbers.{climbs_from, letter_number};
-ghost use Rattle.langtag_cldr.specs.Definitions.{likely_for, language_alone, canonical_fields, language_aliases, region_aliases, field_texts};
+ghost use Rattle.langtag_cldr.specs.Definitions.{likely_for, language_alone, canonical_fields};
+ghost use Rattle.langtag_cldr.specs.Definitions.{language_aliases, region_aliases, field_texts};
 ghost use Rattle.langtag_cldr.specs.Matching as spec;
 ghost use Rattle.langtag_cldr.specs.declared.alias_tables.TheConstants.{ALIAS_LANGUAGES, REGION_ALIAS_NAMES};
 

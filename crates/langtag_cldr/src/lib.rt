@@ -22,22 +22,16 @@ mod text_fields;
 pub use suggestion::{suggested_language, suggested_region};
 pub use tables::CLDR_VERSION;
 
-// For langtag_likely and langtag_posix.
+// For this repository.
+pub use aliases::language_replaced;
 pub use direction::is_right_to_left_script;
 pub use fields::{known, or_other};
-pub use likely::{add_likely_subtags, remove_likely_subtags};
-pub use names::script_codes;
-pub use tag_fields::TagFields;
-
-// For langtag_choice.
 pub use keys::index_of;
-pub use likely::suffices;
+pub use likely::{add_likely, add_likely_subtags, remove_likely_subtags, suffices};
 pub use matching::{completed, matching_form, replaced_form};
+pub use names::script_codes;
 pub use read_text::{after_common, are_alike, basic_len};
 pub use replacement::may_change_language;
 pub use rows::{key_number, language_number};
-
-// For langtag_locale and langtag_parent.
-pub use aliases::language_replaced;
-pub use likely::add_likely;
 pub use suggestion::region_replacement;
+pub use tag_fields::TagFields;

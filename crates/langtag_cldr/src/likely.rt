@@ -1,6 +1,7 @@
 //! Adding and removing the likely subtags of fields (UTS #35, part 1, section 'Likely Subtags').
 ghost use Rattle.std.specs.Prelude.{◌≡◌, option_map};
-ghost use Rattle.langtag_cldr.specs.Definitions.{filled, add_likely, looked_up, likely_subtags, add_likely_subtags, suffices, least, remove_likely_subtags, field_texts};
+ghost use Rattle.langtag_cldr.specs.Definitions.{filled, add_likely, looked_up, likely_subtags, add_likely_subtags};
+ghost use Rattle.langtag_cldr.specs.Definitions.{suffices, least, remove_likely_subtags, field_texts};
 
 use crate::aliases::{canonical_fields, is_current_region};
 use crate::rows::likely_for;

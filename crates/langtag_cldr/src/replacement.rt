@@ -53,7 +53,8 @@ fn first_alike(
 #[tactic(auto, using(crate::proofs::WholeTags::not_by_little, crate::proofs::WholeTags::not_by_two, crate::proofs::WholeTags::not_by_follow, crate::proofs::WholeTags::not_by_three, crate::proofs::WholeTags::not_by_more))]
 #[inline(always)]
 fn may_be_replaced(first: &[u8], rest: &[u8]) -> bool
-    ensures { result ≡ false → (text : List ℕ) → first.now ≡ before_first is_separator text → rest.now ≡ after_first is_separator text → preferred_tag (basic_text text) ≡ None }
+    ensures { result ≡ false → (text : List ℕ) → first.now ≡ before_first is_separator text
+        → rest.now ≡ after_first is_separator text → preferred_tag (basic_text text) ≡ None }
 {
     match first {
         [] | [_] => !rest.is_empty(),

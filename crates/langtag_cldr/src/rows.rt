@@ -5,7 +5,8 @@ ghost use Rattle.std.specs.Prelude.{◌≡◌, ◌≤◌, ◌<◌, IsTrue, lengt
 ghost use Rattle.langtag_scan.specs.Class as class;
 ghost use Rattle.langtag_text.specs.Numbers.{climbs_from, letter_number};
 ghost use Rattle.langtag_text.specs.FieldClasses.{is_language_field};
-ghost use Rattle.langtag_cldr.specs.Definitions.{filled, likely_for, likely_subtags, language_rows, other_rows, first_index, key_number, no_row, places_for, places_of, field_texts};
+ghost use Rattle.langtag_cldr.specs.Definitions.{filled, likely_for, likely_subtags, language_rows, other_rows};
+ghost use Rattle.langtag_cldr.specs.Definitions.{first_index, key_number, no_row, places_for, places_of, field_texts};
 ghost use Rattle.langtag_cldr.specs.declared.tables.TheConstants.{SCRIPT_KEYS, REGION_KEYS};
 
 use crate::keys::place;

@@ -77,7 +77,8 @@ pub fn suggested_region(code: &str) -> Option<&'static str>
 /// `US` for `840`. Case is ignored.
 #[tactic(auto, using(crate::proofs::FieldClasses::region_length))]
 pub fn region_replacement(fields: TagFields<'_>) -> Option<&'static [u8]>
-    ensures region { option_map (λ text. text.now) result ≡ option_map (λ to. to.region) (likely_for region_replacements (region_alone (field_texts fields.entry))) }
+    ensures region { option_map (λ text. text.now) result
+        ≡ option_map (λ to. to.region) (likely_for region_replacements (region_alone (field_texts fields.entry))) }
     ensures in_class { IfSome result (λ text. IsTrue (is_region_field text.now)) }
 {
     let index = index_of(replacement_keys(), fields.region)?;

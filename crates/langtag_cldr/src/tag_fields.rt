@@ -17,7 +17,8 @@ pub struct TagFields<'a> {
 }
 
 impl<'a> TagFields<'a> {
-    ghost use Rattle.langtag_cldr.specs.Likely.{known_fields, filled, language_alone, without_region, without_script, are_alike_fields};
+    ghost use Rattle.langtag_cldr.specs.Likely.{known_fields, filled, language_alone};
+    ghost use Rattle.langtag_cldr.specs.Likely.{without_region, without_script, are_alike_fields};
     ghost use Rattle.langtag_cldr.specs.Texts.{field_texts};
 
     /// Returns the language, without script and region.

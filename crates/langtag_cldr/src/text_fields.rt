@@ -6,7 +6,9 @@ ghost use Rattle.langtag_fields.specs.Fields.{is_prefix_of};
 ghost use Rattle.langtag_range.specs.Definitions.{is_separator};
 ghost use Rattle.langtag_text.specs.FieldClasses.{is_language_field, is_script_field, is_region_field};
 ghost use Rattle.langtag_cldr.specs.TextFields as spec;
-ghost use Rattle.langtag_cldr.specs.Definitions.{after_language, after_mark, after_script, current_text, fields_of_subtags, first_marked, language_of, last_language, marked_region, counted_parts, region_of, script_of, field_texts};
+ghost use Rattle.langtag_cldr.specs.Definitions.{after_language, after_mark, after_script, current_text};
+ghost use Rattle.langtag_cldr.specs.Definitions.{fields_of_subtags, first_marked, language_of, last_language};
+ghost use Rattle.langtag_cldr.specs.Definitions.{marked_region, counted_parts, region_of, script_of, field_texts};
 
 use crate::fields::{known, or_other};
 use crate::replacement::replacement;
@@ -41,7 +43,8 @@ impl<'a> TagFields<'a> {
 #[tactic(auto, using(crate::proofs::WholeTags::current_none, crate::proofs::WholeTags::current_some))]
 #[inline(always)]
 fn current_parts(text: &[u8]) -> (&[u8], &[u8])
-    ensures { fields_of_subtags (result.0.now ∷ slice_split is_separator result.1.now) ≡ spec.text_fields (current_text text.now) }
+    ensures { fields_of_subtags (result.0.now ∷ slice_split is_separator result.1.now)
+        ≡ spec.text_fields (current_text text.now) }
 {
     let (first, rest) = split_at_either(text, b'-', b'_');
     match replacement(text, first, rest) {

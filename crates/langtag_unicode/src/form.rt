@@ -1,7 +1,8 @@
 //! The canonical form of a tag's extensions `u` and `t` (UTS #35, part 1, Annex C).
 ghost use Rattle.std.specs.Prelude.{◌≡◌, [], IfOk, None};
 ghost use Rattle.langtag_scan.specs.Grammar.{to_variants};
-ghost use Rattle.langtag.specs.Definitions.{lang_tag_buf_text, lang_tag_text, normal_lang_tag_text, IsOnlyForm, IsAlikeForm, IsCounted, Pushes, WritesWhole};
+ghost use Rattle.langtag.specs.Definitions.{lang_tag_buf_text, lang_tag_text, normal_lang_tag_text};
+ghost use Rattle.langtag.specs.Definitions.{IsOnlyForm, IsAlikeForm, IsCounted, Pushes, WritesWhole};
 ghost use Rattle.langtag_scan.specs.Record as model;
 ghost use Rattle.langtag_keyword.specs.Form as spec;
 ghost use Rattle.langtag_unicode.specs.ExtensionsForm.{IsExtensionsForm};
@@ -98,7 +99,8 @@ pub fn write_extensions_form(tag: LangTag<'_>, buffer: &mut [u8]) -> usize
 /// Writes as much of a tag with its extensions in canonical form as fits into a buffer, and returns the length of
 /// that tag.
 fn put_parts(tag: NormalLangTag<'_>, buffer: &mut [u8]) -> usize
-    ensures { model.EachRecord (normal_lang_tag_text tag.entry) (λ r. IsCounted (model.spell (spec.extensions_record r)) buffer.old buffer.new result) }
+    ensures { model.EachRecord (normal_lang_tag_text tag.entry)
+        (λ r. IsCounted (model.spell (spec.extensions_record r)) buffer.old buffer.new result) }
 {
     let mut out = Output::new(buffer);
     push_head(&mut out, tag);

@@ -1,5 +1,6 @@
 //! Setting and removing keywords (RFC 6067 section 2.1).
-ghost use Rattle.std.specs.Prelude.{◌≡◌, ◌↔◌, ◌<◌, ◌≤◌, ◌+◌, ◌^◌, ℕ, List, [], None, Some, IfOk, IsErrOf, IsTrue, OnErr, is_ok, length};
+ghost use Rattle.std.specs.Prelude.{◌≡◌, ◌↔◌, ◌<◌, ◌≤◌, ◌+◌, ◌^◌, ℕ, List, [], None};
+ghost use Rattle.std.specs.Prelude.{Some, IfOk, IsErrOf, IsTrue, OnErr, is_ok, length};
 ghost use Rattle.langtag_scan.specs.Grammar.{subtags, IsNormal};
 ghost use Rattle.langtag.specs.Definitions.{lang_tag_text, normal_lang_tag_text, IsForm, IsCounted, Writes};
 ghost use Rattle.langtag_scan.specs.Record as model;
@@ -41,12 +42,17 @@ pub fn write_with_keyword(
     buffer: &mut [u8],
 ) -> Result<usize, KeywordError>
     ensures set { length (lang_tag_text tag.entry) + length key.now + length value.now + 4 < 2 ^ 64 →
-        IfOk result (λ len. Writes (IsForm (spec.edited_record key.now (Some (subtags value.now))) (lang_tag_text tag.entry)) buffer.old buffer.new len) }
-    ensures bounded { length (lang_tag_text tag.entry) + length key.now + length value.now + 4 < 2 ^ 64 → IfOk result (λ len. len ≤ length (lang_tag_text tag.entry) + length key.now + length value.now + 4) }
+        IfOk result (λ len. Writes (IsForm (spec.edited_record key.now (Some (subtags value.now))) (lang_tag_text tag.entry))
+        buffer.old buffer.new len) }
+    ensures bounded { length (lang_tag_text tag.entry) + length key.now + length value.now + 4 < 2 ^ 64
+        → IfOk result (λ len. len ≤ length (lang_tag_text tag.entry) + length key.now + length value.now + 4) }
     ensures unchanged { OnErr result (buffer.new ≡ buffer.old) }
-    ensures refused { (error : KeywordError) → spec.keyword_error key.now (subtags value.now) ≡ Some error → IsErrOf result error }
-    ensures not_normal { spec.keyword_error key.now (subtags value.now) ≡ None → IsErrOf result KeywordError.NotNormal ↔ (IsNormal (lang_tag_text tag.entry) → ⊥) }
-    ensures accepts { spec.keyword_error key.now (subtags value.now) ≡ None → IsTrue (is_ok result) ↔ IsNormal (lang_tag_text tag.entry) }
+    ensures refused { (error : KeywordError) → spec.keyword_error key.now (subtags value.now) ≡ Some error
+        → IsErrOf result error }
+    ensures not_normal { spec.keyword_error key.now (subtags value.now) ≡ None → IsErrOf result KeywordError.NotNormal
+        ↔ (IsNormal (lang_tag_text tag.entry) → ⊥) }
+    ensures accepts { spec.keyword_error key.now (subtags value.now) ≡ None → IsTrue (is_ok result)
+        ↔ IsNormal (lang_tag_text tag.entry) }
 
     ensures cloned { (error copy : KeywordError) → ⟦<KeywordError as Clone>⟧.is_clone error copy → copy ≡ error }
     ensures clone_succeeds { (error : KeywordError) → ⟦<KeywordError as Clone>⟧.is_infallible error }
@@ -83,11 +89,13 @@ pub fn write_without_keyword(
     key: &str,
     buffer: &mut [u8],
 ) -> Result<usize, KeywordError>
-    ensures removed { IfOk result (λ len. Writes (IsForm (spec.edited_record key.now None) (lang_tag_text tag.entry)) buffer.old buffer.new len) }
+    ensures removed { IfOk result (λ len. Writes (IsForm (spec.edited_record key.now None) (lang_tag_text tag.entry)) buffer.old
+        buffer.new len) }
     ensures bounded { IfOk result (λ len. len ≤ length (lang_tag_text tag.entry)) }
     ensures unchanged { OnErr result (buffer.new ≡ buffer.old) }
     ensures refused { (error : KeywordError) → spec.keyword_error key.now [] ≡ Some error → IsErrOf result error }
-    ensures not_normal { spec.keyword_error key.now [] ≡ None → IsErrOf result KeywordError.NotNormal ↔ (IsNormal (lang_tag_text tag.entry) → ⊥) }
+    ensures not_normal { spec.keyword_error key.now [] ≡ None → IsErrOf result KeywordError.NotNormal
+        ↔ (IsNormal (lang_tag_text tag.entry) → ⊥) }
     ensures accepts { spec.keyword_error key.now [] ≡ None → IsTrue (is_ok result) ↔ IsNormal (lang_tag_text tag.entry) }
 {
     if let Some(error) = keyword_error(key, "") {
@@ -119,13 +127,13 @@ fn write_edited(
     ensures accepts { IsTrue (is_ok result) ↔ IsNormal (lang_tag_text tag.entry) }
 {
     match tag.as_normal() {
-        Some(normal) => Ok(write_parts(normal, edit, buffer)),
+        Some(normal) => Ok(write_edited_parts(normal, edit, buffer)),
         None => Err(KeywordError::NotNormal),
     }
 }
 
 /// Writes a normal tag with a keyword set or removed.
-fn write_parts(tag: NormalLangTag<'_>, edit: KeywordEdit<'_>, buffer: &mut [u8]) -> usize
+fn write_edited_parts(tag: NormalLangTag<'_>, edit: KeywordEdit<'_>, buffer: &mut [u8]) -> usize
     ensures { model.EachRecord (normal_lang_tag_text tag.entry) (λ r. length (model.spell (edited_record_by edit.entry r)) < 2 ^ 64
         → Writes (λ new. new ≡ model.spell (edited_record_by edit.entry r)) buffer.old buffer.new result) }
 {
@@ -139,7 +147,8 @@ fn write_parts(tag: NormalLangTag<'_>, edit: KeywordEdit<'_>, buffer: &mut [u8])
 /// Writes as much of a normal tag with a keyword set or removed as fits into a buffer, and returns the full length of
 /// that tag.
 pub(crate) fn put_parts(tag: NormalLangTag<'_>, edit: KeywordEdit<'_>, buffer: &mut [u8]) -> usize
-    ensures { model.EachRecord (normal_lang_tag_text tag.entry) (λ r. IsCounted (model.spell (edited_record_by edit.entry r)) buffer.old buffer.new result) }
+    ensures { model.EachRecord (normal_lang_tag_text tag.entry)
+        (λ r. IsCounted (model.spell (edited_record_by edit.entry r)) buffer.old buffer.new result) }
 {
     let mut out = Output::new(buffer);
     push_head(&mut out, tag);

@@ -14,7 +14,8 @@ ghost use Rattle.langtag_unicode.specs.FormLaws.{OrderChangesNothing};
 #[tactic(auto, using(langtag_keyword::proofs::KeywordLaws::read_after_set))]
 fn read_after_set()
     // law: a key that was set has the value that was set
-    ensures read_after { (k : List ℕ) (v ss : List (List ℕ)) → spec.keyword_error k v ≡ None → value_of is_key k (spec.with_keyword k v ss) ≡ Some v }
+    ensures read_after { (k : List ℕ) (v ss : List (List ℕ)) → spec.keyword_error k v ≡ None
+        → value_of is_key k (spec.with_keyword k v ss) ≡ Some v }
 {}
 
 /// Every other key keeps its value when a key is set.

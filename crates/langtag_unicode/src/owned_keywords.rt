@@ -37,8 +37,10 @@ pub fn set_keyword(
     key: &str,
     value: &str,
 ) -> Result<(), SetKeywordError>
-    ensures set { OnOk result (IsForm (spec.edited_record key.now (Some (subtags value.now))) (lang_tag_buf_text tag.old) (lang_tag_buf_text tag.new)) }
-    ensures refused { (error : KeywordError) → spec.keyword_error key.now (subtags value.now) ≡ Some error → IsErrOf result (SetKeywordError.Keyword error) }
+    ensures set { OnOk result (IsForm (spec.edited_record key.now (Some (subtags value.now))) (lang_tag_buf_text tag.old)
+        (lang_tag_buf_text tag.new)) }
+    ensures refused { (error : KeywordError) → spec.keyword_error key.now (subtags value.now) ≡ Some error
+        → IsErrOf result (SetKeywordError.Keyword error) }
     ensures not_normal { spec.keyword_error key.now (subtags value.now) ≡ None
         → IsErrOf result (SetKeywordError.Keyword KeywordError.NotNormal) ↔ (IsNormal (lang_tag_buf_text tag.old) → ⊥) }
     // law: an allowed keyword of a normal tag is refused only if allocation fails
@@ -76,8 +78,10 @@ pub fn set_keyword(
 /// tag.as_str(); // "th-u-nu-thai"
 /// ```
 pub fn remove_keyword(tag: &mut LangTagBuf, alloc: Global, key: &str) -> Result<(), SetKeywordError>
-    ensures removed { OnOk result (IsForm (spec.edited_record key.now None) (lang_tag_buf_text tag.old) (lang_tag_buf_text tag.new)) }
-    ensures refused { (error : KeywordError) → spec.keyword_error key.now [] ≡ Some error → IsErrOf result (SetKeywordError.Keyword error) }
+    ensures removed { OnOk result (IsForm (spec.edited_record key.now None) (lang_tag_buf_text tag.old)
+        (lang_tag_buf_text tag.new)) }
+    ensures refused { (error : KeywordError) → spec.keyword_error key.now [] ≡ Some error
+        → IsErrOf result (SetKeywordError.Keyword error) }
     ensures not_normal { spec.keyword_error key.now [] ≡ None
         → IsErrOf result (SetKeywordError.Keyword KeywordError.NotNormal) ↔ (IsNormal (lang_tag_buf_text tag.old) → ⊥) }
     // law: an allowed keyword of a normal tag is refused only if allocation fails
@@ -96,7 +100,8 @@ pub fn remove_keyword(tag: &mut LangTagBuf, alloc: Global, key: &str) -> Result<
 fn apply(tag: &mut LangTagBuf, alloc: Global, edit: KeywordEdit<'_>) -> Result<(), SetKeywordError>
     requires { is_allowed edit }
     ensures edited { OnOk result (IsForm (edited_record_by edit.entry) (lang_tag_buf_text tag.old) (lang_tag_buf_text tag.new)) }
-    ensures not_normal { IsErrOf result (SetKeywordError.Keyword KeywordError.NotNormal) ↔ (IsNormal (lang_tag_buf_text tag.old) → ⊥) }
+    ensures not_normal { IsErrOf result (SetKeywordError.Keyword KeywordError.NotNormal)
+        ↔ (IsNormal (lang_tag_buf_text tag.old) → ⊥) }
     ensures memory { IsNormal (lang_tag_buf_text tag.old) → IsOkUnless result (SetKeywordError.Memory alloc_error) }
     ensures unchanged { OnErr result (tag.new ≡ tag.old) }
 {
@@ -114,7 +119,8 @@ fn edited(
     edit: KeywordEdit<'_>,
 ) -> Result<LangTagBuf, AllocError>
     requires { is_allowed edit }
-    ensures { IfOk result (λ new. model.EachRecord (normal_lang_tag_text tag.entry) (λ r. lang_tag_buf_text new ≡ model.spell (edited_record_by edit.entry r))) }
+    ensures { IfOk result (λ new. model.EachRecord (normal_lang_tag_text tag.entry)
+        (λ r. lang_tag_buf_text new ≡ model.spell (edited_record_by edit.entry r))) }
 {
     Ok(tag_of(edited_bytes(alloc, tag, edit)?))
 }
@@ -126,7 +132,8 @@ fn edited_bytes(
     tag: NormalLangTag<'_>,
     edit: KeywordEdit<'_>,
 ) -> Result<Vec<u8>, AllocError>
-    ensures { IfOk result (λ bytes. model.EachRecord (normal_lang_tag_text tag.entry) (λ r. bytes.items ≡ model.spell (edited_record_by edit.entry r))) }
+    ensures { IfOk result (λ bytes. model.EachRecord (normal_lang_tag_text tag.entry)
+        (λ r. bytes.items ≡ model.spell (edited_record_by edit.entry r))) }
 {
     let mut bytes = vec![in alloc; 0; put_parts(tag, edit, &mut [])]?;
     put_parts(tag, edit, &mut bytes);

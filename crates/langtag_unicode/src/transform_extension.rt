@@ -18,9 +18,11 @@ use langtag_keyword::nonempty;
 /// found.and_then(|it| it.language()); // Some("ja-latn")
 /// ```
 pub fn transform<'a>(tag: LangTag<'a>) -> Option<Transformation<'a>>
-    ensures first { PartOf (lang_tag_text tag.entry) (λ r. option_map (λ e. e.subtags) (find_extension 116 r.extensions)) None (option_map transformation_subtags result) }
+    ensures first { PartOf (lang_tag_text tag.entry) (λ r. option_map (λ e. e.subtags) (find_extension 116 r.extensions)) None
+        (option_map transformation_subtags result) }
 
-    ensures cloned { (transformation copy : Transformation) → ⟦<Transformation<'a> as Clone>⟧.is_clone transformation copy → copy ≡ transformation }
+    ensures cloned { (transformation copy : Transformation) → ⟦<Transformation<'a> as Clone>⟧.is_clone transformation copy
+        → copy ≡ transformation }
     ensures clone_succeeds { (transformation : Transformation) → ⟦<Transformation<'a> as Clone>⟧.is_infallible transformation }
 {
     let singleton = Singleton::new(b't').ok()?;

@@ -69,9 +69,11 @@ impl<'a> Transformation<'a> {
     /// ```
     #[tactic(auto, using(langtag_keyword::proofs::WalkLaws::keyword_laws))]
     pub fn field(&self, key: &str) -> Option<&'a str>
-        ensures value { option_map (λ text. text.now) result ≡ option_map join (keywords.value_of spec.is_field_key key.now (transformation_subtags self.now)) }
+        ensures value { option_map (λ text. text.now) result
+            ≡ option_map join (keywords.value_of spec.is_field_key key.now (transformation_subtags self.now)) }
         // law: the case of a key changes nothing
-        ensures any_case { (k l : List ℕ) (subtags : List (List ℕ)) → Alike k l → keywords.value_of spec.is_field_key k subtags ≡ keywords.value_of spec.is_field_key l subtags }
+        ensures any_case { (k l : List ℕ) (subtags : List (List ℕ)) → Alike k l
+            → keywords.value_of spec.is_field_key k subtags ≡ keywords.value_of spec.is_field_key l subtags }
     {
         value_in(self.text, Keys::Transform, key.as_bytes())
     }
@@ -91,7 +93,8 @@ impl<'a> Transformation<'a> {
         ensures list { keywords_left result ≡ keywords.keywords_of spec.is_field_key (transformation_subtags self.now) }
         // law: the value of a listed key is the one that `keyword`, or `field`, returns
         ensures listed { (k : List ℕ) (subtags : List (List ℕ)) → IsTrue (spec.is_field_key k)
-            → keywords.value_among k (keywords.keywords_of spec.is_field_key subtags) ≡ option_map join (keywords.value_of spec.is_field_key k subtags) }
+            → keywords.value_among k (keywords.keywords_of spec.is_field_key subtags)
+            ≡ option_map join (keywords.value_of spec.is_field_key k subtags) }
     {
         KeywordsIter::new(self.text, Keys::Transform)
     }

@@ -45,10 +45,12 @@ pub struct KeyValue<'a> {
 /// keyword(tag, "nu"); // None
 /// ```
 pub fn keyword<'a>(tag: LangTag<'a>, key: &str) -> Option<&'a str>
-    ensures value { PartOf (lang_tag_text tag.entry) (λ r. option_map join (spec.value_of spec.is_key key.now (spec.subtags_of 117 r))) None (option_map (λ v. v.now) result) }
+    ensures value { PartOf (lang_tag_text tag.entry)
+        (λ r. option_map join (spec.value_of spec.is_key key.now (spec.subtags_of 117 r))) None (option_map (λ v. v.now) result) }
 
     // law: the case of a key changes nothing
-    ensures any_case { (k l : List ℕ) (subtags : List (List ℕ)) → Alike k l → spec.value_of spec.is_key k subtags ≡ spec.value_of spec.is_key l subtags }
+    ensures any_case { (k l : List ℕ) (subtags : List (List ℕ)) → Alike k l
+        → spec.value_of spec.is_key k subtags ≡ spec.value_of spec.is_key l subtags }
 {
     value_in(unicode_text(tag), Keys::Unicode, key.as_bytes())
 }
@@ -66,12 +68,14 @@ pub fn keyword<'a>(tag: LangTag<'a>, key: &str) -> Option<&'a str>
 /// walk.next().is_none(); // true
 /// ```
 pub fn keywords<'a>(tag: LangTag<'a>) -> KeywordsIter<'a>
-    ensures list { PartOf (lang_tag_text tag.entry) (λ r. spec.keywords_of spec.is_key (spec.subtags_of 117 r)) [] (keywords_left result) }
+    ensures list { PartOf (lang_tag_text tag.entry) (λ r. spec.keywords_of spec.is_key (spec.subtags_of 117 r)) []
+        (keywords_left result) }
     // law: the value of a listed key is the one that `keyword`, or `field`, returns
     ensures listed { (k : List ℕ) (subtags : List (List ℕ)) → IsTrue (spec.is_key k)
         → spec.value_among k (spec.keywords_of spec.is_key subtags) ≡ option_map join (spec.value_of spec.is_key k subtags) }
 
-    ensures cloned { (walk copy : KeywordsIter) → ⟦<KeywordsIter<'a> as Clone>⟧.is_clone walk copy → keywords_left copy ≡ keywords_left walk }
+    ensures cloned { (walk copy : KeywordsIter) → ⟦<KeywordsIter<'a> as Clone>⟧.is_clone walk copy
+        → keywords_left copy ≡ keywords_left walk }
     ensures clone_succeeds { (walk : KeywordsIter) → ⟦<KeywordsIter<'a> as Clone>⟧.is_infallible walk }
     ensures cloned_pair { (pair copy : KeyValue) → ⟦<KeyValue<'a> as Clone>⟧.is_clone pair copy → copy ≡ pair }
     ensures clone_succeeds_pair { (pair : KeyValue) → ⟦<KeyValue<'a> as Clone>⟧.is_infallible pair }
@@ -95,9 +99,11 @@ pub fn keywords<'a>(tag: LangTag<'a>) -> KeywordsIter<'a>
 /// walk.next(); // None
 /// ```
 pub fn attributes<'a>(tag: LangTag<'a>) -> AttributesIter<'a>
-    ensures list { PartOf (lang_tag_text tag.entry) (λ r. spec.attributes_of (spec.subtags_of 117 r)) [] (attributes_left result) }
+    ensures list { PartOf (lang_tag_text tag.entry) (λ r. spec.attributes_of (spec.subtags_of 117 r)) []
+        (attributes_left result) }
 
-    ensures cloned { (walk copy : AttributesIter) → ⟦<AttributesIter<'a> as Clone>⟧.is_clone walk copy → attributes_left copy ≡ attributes_left walk }
+    ensures cloned { (walk copy : AttributesIter) → ⟦<AttributesIter<'a> as Clone>⟧.is_clone walk copy
+        → attributes_left copy ≡ attributes_left walk }
     ensures clone_succeeds { (walk : AttributesIter) → ⟦<AttributesIter<'a> as Clone>⟧.is_infallible walk }
 {
     AttributesIter::new(before_key(nonempty(unicode_text(tag)), Keys::Unicode))

@@ -1,8 +1,8 @@
-use Rattle.std.proofs.Common.{◌<◌, Some, option_map, refl, sym, ap, ◌∙◌, arith, length}
+use Rattle.std.proofs.Common.{◌<◌, [], get_or, Some, option_map, refl, sym, ap, ◌∙◌, arith, length}
 use Rattle.langtag_cldr.specs.declared.alias_tables.TheConstants.{ALIAS_LANGUAGES, ALIAS_SCRIPT_NAMES, ALIAS_SCRIPTS, ALIAS_REGION_NAMES, ALIAS_REGIONS}
 use Rattle.langtag_text.specs.FieldClasses.{is_language_field, is_script_field, is_region_field}
 use Rattle.langtag_cldr.specs.Definitions.{language_alone, language_aliases, field_texts}
-use Rattle.langtag_cldr.proofs.RowLaws.{alias_at, alias_found, aliases_listed}
+use Rattle.langtag_cldr.proofs.RowLaws.{alias_found, aliases_listed, right_side_at}
 use Rattle.langtag_cldr.proofs.TableRows.{column_good, name_good, first_index-is, index_searched, long_nowhere}
 use Rattle.langtag_cldr.proofs.FieldClasses.{language_letters}
 use Rattle.langtag_cldr.proofs.aliases.language_alias.Goals as goal
@@ -30,5 +30,8 @@ returns c =
     let found = c.in_ok-index.ensures.value ∙ index_searched c.alias_keys.result.now c.language_number.result _ c.alias_keys.ensures.climbs c.binary_search.ensures.position in
     let at = first_index-is c.alias_keys.result.now c.language_number.result c.in_ok-index.index (sym found) in
     let inside : c.in_ok-index.index < length language_aliases = omega (arith, at.inside, c.alias_keys.ensures.count, aliases_listed.count) in
-    ap Some (alias_at c.in_ok-index.index c.name_at.result.now c.name_in.result.now c.name_in-2.result.now inside c.name_at.ensures c.name_in.ensures c.name_in-2.ensures)
+    ap Some (right_side_at language_aliases c.in_ok-index.index _ _ _ inside
+    (c.name_at.ensures ∙ ap (λ list. get_or list c.in_ok-index.index []) aliases_listed.languages)
+    (c.name_in.ensures ∙ ap (λ list. get_or list c.in_ok-index.index []) aliases_listed.scripts)
+    (c.name_in-2.ensures ∙ ap (λ list. get_or list c.in_ok-index.index []) aliases_listed.regions))
     ∙ alias_found (field_texts c.args.fields) _ _ _ (language_letters _ c.args.fields.language_class) c.alias_keys.ensures.numbers c.language_number.ensures.number found

@@ -11,4 +11,4 @@ returns-in-Some-clause-written c = λ short.
     let (r, spells) = c.in-Some.ensures.kind.0 refl in
     let form = edited_record_by c.args.edit in
     record_written form _ _ _ _ _ r spells refl
-    (c.write_parts.ensures r (spells.0, spells.1 ∙ sym c.in-Some.ensures.same_text) (short _ (record_form form (lang_tag_text c.args.tag) _ r spells refl)))
+    (c.write_edited_parts.ensures r (spells.0, spells.1 ∙ sym c.in-Some.ensures.same_text) (short _ (record_form form (lang_tag_text c.args.tag) _ r spells refl)))
