@@ -75,20 +75,11 @@ span-first text span len has few = grind (arith, nat_tests, take-take len (end_o
 pub span-rest :
     (text : List ℕ) (span : Span) (len : ℕ) → HasBytes text span → len ≤ span.len →
     span_text text (span_between (span.start + len) (end_of span)) ≡ drop (len + 1) (span_text text span)
-span-rest text span len has few = elim (eqb_tells (span.start + len) (end_of span)) [
-  | inl same ↦
-      let nothing : end_of span + 0 - end_of span ≡ 0 = omega arith in
-      let all : length (span_text text span) ≤ len + 1 = omega (arith, length-take (end_of span - span.start) (drop span.start text), same.1) in
-      rw same.0 (ap (λ n. take n (drop (end_of span) text)) nothing ∙ sym (drop_all (len + 1) (span_text text span) all))
-  | inr other ↦
-      let more = span.len - (len + 1) in
-      let size : span.start + len + 1 + (end_of span - (span.start + len) - 1) - (span.start + len + 1) ≡ more = omega (arith, other.1) in
-      let whole : end_of span - span.start ≡ len + 1 + more = omega (arith, other.1) in
-      let index : span.start + len + 1 ≡ span.start + (len + 1) = omega arith in
-      rw other.0 (ap (λ n. take n (drop (span.start + len + 1) text)) size
-      ∙ ap (take more) (ap (λ n. drop n text) index ∙ sym (drop-drop (len + 1) span.start text))
-      ∙ sym (drop-take (len + 1) more (drop span.start text)) ∙ ap (λ n. drop (len + 1) (take n (drop span.start text))) (sym whole))
-]
+span-rest text span len has few =
+    let cut = drop-take (len + 1) (span.len - (len + 1)) (drop span.start text) in
+    let all = drop_all (len + 1) (span_text text span) in
+    let index = drop-drop (len + 1) span.start text in
+    grind (arith, nat_tests, eqb_tells (span.start + len) (end_of span), length-span text span has, all, index, cut)
 
 -- the text of some first bytes of a span, and of what stands after them
 module _ (text part : List ℕ) (before : Span) (len : ℕ) (has : HasBytes text before) (is : part ≡ span_text text before) (within : len ≤ length part) where
@@ -195,11 +186,4 @@ pub span-before_key :
     (span_text text (record { start = span.start; len = n }) ≡ join (before_key test (subtags_in text span))) × IsWithin text (record { start = span.start; len = n })
 span-before_key test text span n within is =
     let few : n ≤ span.len = omega (arith, is, length-before_key test (span_text text span), (length-spanned text span within).1) in
-    let size : span.start + n - span.start ≡ n = omega arith in
-    let whole : span.start + span.len - span.start ≡ span.len = omega arith in (
-      ap (λ k. take k (drop span.start text)) size
-          ∙ sym (take-take n span.len (drop span.start text) few)
-          ∙ ap (λ k. take n (take k (drop span.start text))) (sym whole)
-          ∙ take-before_key test (span_text text span) n is,
-      omega (arith, few, within),
-    )
+    grind (arith, nat_tests, few, take-take n span.len (drop span.start text), take-before_key test (span_text text span) n is)

@@ -39,10 +39,9 @@ pub extensions-span :
     EachRecord text (λ r. span_text text span ≡ extensions_part r) × IsWithin text span
 extensions-span text ends span normal each is ending =
     let had = had-ends text ends normal each in
-    let order = ends_ordered text ends had in (
-      λ r spells. ap (span_text text) (is order.extensions) ∙ between_text text ends.variants ends.extensions order.extensions ∙ extensions_found text ends had r spells,
-      omega (arith, ending order.extensions, order.private_use, ends_whole text ends had),
-    )
+    let found = extensions_found text ends had in
+    let between = between_text text ends.variants ends.extensions in
+    grind (arith, nat_tests, ends_ordered text ends had, ends_whole text ends had, between, found)
 
 -- ---- the first of some
 
@@ -52,13 +51,9 @@ nothing-in text span none = grind (arith, nat_tests)
 
 -- an extension has a singleton and a hyphen, and then subtags
 pub after-singleton : (text : List ℕ) → IsExtension text → AreSubtags (subtags (drop 2 text)) × (2 ≤ length text)
-after-singleton text (e, spelled) = (
-  subst AreSubtags (sym (subtags-after_singleton e text spelled)) (each_subtag is_extension_subtag of_extension_subtag e.subtags spelled.member.subtags),
-  by_subtags e.subtags refl,
-)
-  where
-    by_subtags : (ss : List (List ℕ)) → e.subtags ≡ ss → 2 ≤ length text
-    by_subtags ss is = grind (arith, nat_tests)
+after-singleton text (e, spelled) =
+    let each = each_subtag is_extension_subtag of_extension_subtag e.subtags spelled.member.subtags in
+    (subst AreSubtags (sym (subtags-after_singleton e text spelled)) each, grind (arith, nat_tests))
 
 -- the first, which lies within the text, and those that are left
 pub record IsStep (text : List ℕ) (before after taken : Span) (part : List ℕ) (len : ℕ) : Type 0 where

@@ -1,11 +1,11 @@
 -- What a walk over the elements of a header finds is what lookup finds first among the acceptable ones, the heaviest
 -- first.
-use Rattle.langtag_keyword.proofs.Common.{filter, list_all, and_parts, take_all, ◌≡◌, ℕ, ◌+◌, ◌-◌, ◌<◌, ◌≤◌, Bool, true, false, not, nat_lt, cond, List, [], ◌∷◌, ◌++◌, map, length, take, get_or, Option, None, Some, unwrap_or, ap, refl, sym, subst, ◌∙◌, arith, rules, suc, zero, position_or_len, sum_by, AllByRecursion, option_map_or, nat_tests, length-map, take_more, common_steps, are_alike, length-slice_split, is_some, slice_get, option_map}
+use Rattle.langtag_keyword.proofs.Common.{filter, list_all, and_parts, take_all, ◌≡◌, ℕ, ◌+◌, ◌-◌, ◌<◌, ◌≤◌, Bool, true, false, not, nat_lt, cond, List, [], ◌∷◌, ◌++◌, map, length, take, get_or, Option, None, Some, unwrap_or, ap, refl, sym, subst, ◌∙◌, arith, rules, suc, zero, sum_by, AllByRecursion, option_map_or, nat_tests, length-map, take_more, common_steps, are_alike, length-slice_split, is_some, slice_get, option_map}
 use Rattle.langtag_c.proofs.FoundExtension.{nothing-in}
 use Rattle.langtag_c.specs.Negotiation.{filled_items}
 use Rattle.langtag_range.specs.Definitions.{element, from_first, trimmed, is_ows, is_space, Element, is_comma, items, fallbacks, digits_behind, written, written_elements, written_items}
 use Rattle.langtag_match.specs.AcceptLanguage.{are_good, elements, IsByWeight, StandsAt, acceptable, bad_part, is_good, weight_in}
-use Rattle.langtag_scan.proofs.Prelude.{position, slice_range, cons_option, eqb, length-append, IfSome, list_all-append, list_all_at, position-Some, sum_by-append, get_or_from_slice_get, slice_get_read, slice_get_within, slice_split-cons_no, slice_split-cons_yes}
+use Rattle.langtag_scan.proofs.Prelude.{position, slice_range, cons_option, eqb, length-append, IfSome, list_all-append, list_all_at, take-append-drop, position-Some, sum_by-append, get_or_from_slice_get, slice_get_read, slice_get_within, slice_split-cons_no, slice_split-cons_yes}
 use Rattle.std.specs.List.{filter_map, prefix_len}
 use Rattle.std.proofs.Common.{drop, if◌then◌else◌, length-drop}
 use Rattle.std.proofs.Math.Seq.{drop-append-add}
@@ -123,10 +123,7 @@ prefix_len-map p f [] = refl
 prefix_len-map p f (x ∷ xs) = ap (λ n. cond (p (f x)) (1 + n) 0) (prefix_len-map p f xs)
 
 position-map : {X Y : Type 0} (p : Y → Bool) (f : X → Y) (xs : List X) → position (λ x. p (f x)) xs ≡ position p (map f xs)
-position-map p f xs =
-    let size : length xs ≡ length (map f xs) = sym (length-map xs f) in
-    ap (λ n. cond (nat_lt n (length xs)) (Some n) None) (prefix_len-map (λ y. not (p y)) f xs)
-    ∙ ap (λ len. cond (nat_lt (position_or_len p (map f xs)) len) (Some (position_or_len p (map f xs))) None) size
+position-map p f xs = rw (prefix_len-map (λ y. not (p y)) f xs, ← length-map xs f) refl
 
 pub position_spans :
     (text wanted : List ℕ) (spans : List Span) →
@@ -199,10 +196,8 @@ module _ (header item : List ℕ) (n : ℕ) (below : n < length (items header)) 
 -- where one is bad, not all are good
 pub not_good : (header : List ℕ) (span : Span) (part : ElementPart) → IsBadAt header span part → are_good (items header) ≡ false
 not_good header span part bad =
-    let item = bad.first.item in
-    let within = slice_get_within (items header) bad.commas item bad.first.there in
-    let there = get_or_from_slice_get (items header) bad.commas item item bad.first.there in
-    list_all_at is_good (items header) bad.commas item within (ap is_good there ∙ bad.first.bad)
+    let bad_one = list_all_at is_good (items header) bad.commas bad.first.item in
+    grind (arith, nat_tests, bad_one, slice_get_within, get_or_from_slice_get, bad.first)
 
 -- ---- an item has no comma
 
@@ -259,18 +254,15 @@ same_range : (item behind : List ℕ) → is_some (written item behind) ≡ has_
 unfolding written
 same_range item behind = grind (arith, nat_tests)
 
+length-cons : (o : Option Element) (es : List Element) → length (cons_option o es) ≡ cond (is_some o) 1 0 + length es
+length-cons o es = grind arith
+
 pub length_written : (all : List (List ℕ)) → length (written_items all) ≡ range_count all
 length_written [] = refl
-length_written (item ∷ all) = by_option (written item (digits_behind all)) refl (same_range item (digits_behind all)) (length_written all)
-  where
-    more : range_count (item ∷ all) ≡ cond (has_range item) 1 0 + range_count all
-    more = omega (arith, sum_by-append (λ it. cond (has_range it) 1 0) (item ∷ []) all)
-
-    by_option :
-        (o : Option Element) → written item (digits_behind all) ≡ o → is_some (written item (digits_behind all)) ≡ has_range item → length (written_items all) ≡ range_count all →
-        length (cons_option (written item (digits_behind all)) (written_items all)) ≡ range_count (item ∷ all)
-    by_option None none same others = grind (arith, nat_tests)
-    by_option (Some e) some same others = grind (arith, nat_tests, more)
+length_written (item ∷ all) =
+    let more = sum_by-append (λ it. cond (has_range it) 1 0) (item ∷ []) all in
+    length-cons (written item (digits_behind all)) (written_items all)
+    ∙ rw (same_range item (digits_behind all), length_written all) (omega (arith, more))
 
 pub range_placed : (header : List ℕ) (place : ℕ) (o : Option Span) (end : Span) → place < range_count (items header) → (o ≡ None → range_count (items header) ≤ place) → IfSome o (IsRangeAt header place) → IsRangeAt header place (unwrap_or o end)
 range_placed header place o end within none some = grind (arith, nat_tests)
@@ -283,9 +275,8 @@ spaces_trimmed [] spaces = refl
 spaces_trimmed (b ∷ text) spaces = let k = and_parts (is_space b) (is_ows text) spaces in rw k.0 (spaces_trimmed text k.1)
 
 spaces_taken : (n : ℕ) (text : List ℕ) → is_ows text ≡ true → is_ows (take n text) ≡ true
-spaces_taken zero text spaces = refl
-spaces_taken (suc n) [] spaces = refl
-spaces_taken (suc n) (b ∷ text) spaces = let k = and_parts (is_space b) (is_ows text) spaces in rw k.0 (spaces_taken n text k.1)
+spaces_taken n text spaces =
+    grind (arith, nat_tests, and_parts, take-append-drop n text, list_all-append is_space (take n text) (drop n text))
 
 empty_no_element : (item : List ℕ) → is_ows item ≡ true → element item ≡ None
 unfolding element

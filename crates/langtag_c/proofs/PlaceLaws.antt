@@ -1,9 +1,9 @@
 -- What a span of a span has.
-use Rattle.langtag_keyword.proofs.Common.{◌≡◌, ℕ, ◌+◌, ◌-◌, ◌≤◌, List, length, take, drop, ap, ◌∙◌, arith, zero, suc, [], ◌∷◌, ◌++◌, map, slice_get, Option, Some, refl, sym, append_assoc, drop-drop, drop-take, take-take, length-take, length-append, nat_tests, common_steps, flat_map, sum_by, slice_get-map, ends_of, to_variants, Record, Extension, IsWellFormed, extension_flat, join, hyphenated, SpellsExtensions, extension_spelling, is_some, option_map}
+use Rattle.langtag_keyword.proofs.Common.{◌≡◌, ℕ, ◌+◌, ◌-◌, ◌≤◌, List, length, take, drop, ap, arith, zero, suc, [], ◌∷◌, ◌++◌, map, slice_get, Option, Some, refl, sym, append_assoc, drop-drop, drop-take, take-take, length-take, length-append, nat_tests, common_steps, flat_map, sum_by, slice_get-map, ends_of, to_variants, Record, Extension, IsWellFormed, extension_flat, join, hyphenated, SpellsExtensions, extension_spelling, is_some, option_map}
 use Rattle.langtag_c.specs.Spans.{end_of, span_text}
 use Rattle.langtag_c.specs.declared.span.Span.{Span}
 use Rattle.std.specs.List.{scan}
-use Rattle.langtag_scan.proofs.Prelude.{option_and_then}
+use Rattle.langtag_scan.proofs.Prelude.{option_and_then, slice_range}
 use Rattle.langtag_scan.specs.Grammar.{to_region, extensions_part}
 use Rattle.std.proofs.lemmas.List.Concat.{length-flat_map}
 use Rattle.langtag_scan.proofs.Joins.{hyphenated-append, join-hyphenated, length-join-append}
@@ -12,11 +12,8 @@ use Rattle.langtag_c.specs.Members.{member_span}
 -- a span of the first bytes
 pub front_text : (text : List ℕ) (n : ℕ) (span : Span) → end_of span ≤ n → span_text (take n text) span ≡ span_text text span
 front_text text n span few =
-    let more = n - span.start in
-    let whole : n ≡ span.start + more = omega (arith, few) in
-    let size = span.start + span.len - span.start in
-    ap (λ k. take size (drop span.start (take k text))) whole ∙ ap (take size) (drop-take span.start more text)
-    ∙ take-take size more (drop span.start text) (omega (arith, few))
+    let more = drop-take span.start (n - span.start) text in
+    grind (arith, nat_tests, more, take-take span.len (n - span.start) (drop span.start text))
 
 -- a span of a span
 pub inner_text :
@@ -29,6 +26,17 @@ pub begin_text :
     (text : List ℕ) (outer : Span) (start : ℕ) → start ≤ length (span_text text outer) →
     take start (span_text text outer) ≡ take (outer.start + start - outer.start) (drop outer.start text)
 begin_text text outer start within = grind (arith, common_steps, take-take, length-take)
+
+-- a cut of the text in a span: its bytes, its end, and what stands before it
+pub cut_place :
+    (text : List ℕ) (outer : Span) (first stop : ℕ) → first ≤ stop → stop ≤ length (span_text text outer) →
+    (span_text text (record { start = outer.start + first; len = stop - first }) ≡ slice_range (span_text text outer) first stop)
+    × (outer.start + first + (stop - first) ≤ end_of outer)
+    × (slice_range text outer.start (outer.start + first) ≡ take first (span_text text outer))
+cut_place text outer first stop ordered within =
+    let inner = inner_text text outer (record { start = first; len = stop - first }) in
+    let before = begin_text text outer first in
+    grind (arith, nat_tests, inner, before, length-take (outer.start + outer.len - outer.start) (drop outer.start text))
 
 -- ---- where variants and singletons stand
 
@@ -79,13 +87,9 @@ extensions_end r = grind (arith, nat_tests, length-flat_map, length-extensions r
 pub option_map-same : {A B C : Type 0} (f : A → B) (z : C) (o : Option A) → option_map (λ _. z) (option_map f o) ≡ option_map (λ _. z) o
 option_map-same f z o = grind (arith, nat_tests)
 
--- ---- a member is there where its span is
+-- ---- a member is there where its span is, also where it is asked of what is made of each member
 
-is_some-map : {A B : Type 0} (f : A → B) (o : Option A) → is_some (option_map f o) ≡ is_some o
-is_some-map f o = grind (arith, nat_tests)
-
--- also where it is asked of what is made of each member
 pub is_some-span :
     {A B : Type 0} (place : List A → A → Span) (f : A → B) (xs : List A) (index : Option ℕ) →
     is_some (member_span place xs index) ≡ is_some (option_and_then (slice_get (map f xs)) index)
-is_some-span place f xs index = grind (arith, nat_tests, is_some-map, is_some-map f, slice_get-map f xs)
+is_some-span place f xs index = grind (arith, nat_tests, slice_get-map f xs)

@@ -1,21 +1,17 @@
--- No tag is empty, so a part that is set is one by its text. The texts of parts are UTF-8.
-use Rattle.langtag_keyword.proofs.Common.{◌≡◌, ℕ, ◌≤◌, List, [], ◌∷◌, length, arith, Option, None, Some, unwrap_or, refl, nat_tests, extension_flat, length-join, of_primary, IsSubtag, of_variant, AllByRecursion, flat_map, IsUtf8, common_steps, is_extended, is_variant, join, each_subtag, option_map}
+-- A part that is set is one by its text, since no tag is empty. The texts of parts are UTF-8.
+use Rattle.langtag_keyword.proofs.Common.{◌≡◌, ℕ, ◌≤◌, List, [], ◌∷◌, length, arith, Option, None, Some, unwrap_or, nat_tests, extension_flat, of_primary, IsSubtag, of_variant, AllByRecursion, flat_map, IsUtf8, common_steps, is_extended, is_variant, join, each_subtag, option_map}
 use Rattle.langtag_scan.proofs.Prelude.{MatchOption, IsUtf8-from_ascii}
-use Rattle.langtag_scan.specs.Grammar.{grandfathered_tags, irregular_texts, IsNormal, IsTag}
 use Rattle.langtag_scan.proofs.Laws.{of_extended, of_region, of_script, IsAscii-private, IsAscii-spelled, tag_private}
-use Rattle.langtag_private.proofs.Rules.{is_private_use-from_rule, IsPrivate-from_test}
-use Rattle.langtag_scan.proofs.IrregularTexts.{alike_some}
+use Rattle.langtag_private.proofs.Rules.{IsPrivate-from_test}
 use Rattle.langtag_extension.proofs.Rules.{all_subtags-flat}
 use Rattle.langtag.specs.Text.{part_text}
+use Rattle.langtag_parent.proofs.Chains.{some_tag}
 use Rattle.langtag.specs.declared.part.Part.{Part}
 use Rattle.langtag_c.specs.NumberedParts.{PartName, language, script, region, variants, extensions, private_use, IsPartText, IsTextOf, SetsNamedPart}
 use Rattle.langtag_c.specs.NumberedParts.{name_of, part_numbered}
 use Rattle.langtag_keyword.specs.Transform.{some_text}
+use Rattle.langtag_cldr.proofs.RowLaws.{utf8_name}
 use Rattle.langtag.specs.Edit as typed
-
-pub some_tag : (t : List ℕ) → IsTag t → 1 ≤ length t
-unfolding IsTag IsNormal grandfathered_tags irregular_texts
-some_tag t tag = grind (arith, common_steps, length-join, of_primary, is_private_use-from_rule [], alike_some [])
 
 -- ---- what a part does
 
@@ -39,15 +35,12 @@ IsUtf8-joined ss text each joined = IsUtf8-from_ascii text (IsAscii-spelled text
 IsUtf8-text : (p : PartName) (text : List ℕ) → IsTextOf p text → IsUtf8 text
 IsUtf8-text language text (primary, extended, spells) =
     IsUtf8-joined (primary ∷ extended) text (of_primary primary spells.first, each_subtag is_extended of_extended extended spells.others) spells.joined
-IsUtf8-text script [] is = IsUtf8-joined [] [] tt refl
-IsUtf8-text script (b ∷ text) is = IsUtf8-joined ((b ∷ text) ∷ []) _ (of_script _ is, tt) refl
-IsUtf8-text region [] is = IsUtf8-joined [] [] tt refl
-IsUtf8-text region (b ∷ text) is = IsUtf8-joined ((b ∷ text) ∷ []) _ (of_region _ is, tt) refl
+IsUtf8-text script text is = utf8_name text (grind (arith, common_steps, of_script text))
+IsUtf8-text region text is = utf8_name text (grind (arith, common_steps, of_region text))
 IsUtf8-text variants text (members, spells) = IsUtf8-joined members text (each_subtag is_variant of_variant members spells.members) spells.joined
 IsUtf8-text extensions text (members, spells) =
     IsUtf8-joined (flat_map extension_flat members) text (all_subtags-flat members spells.members) spells.joined
-IsUtf8-text private_use [] is = IsUtf8-joined [] [] tt refl
-IsUtf8-text private_use (b ∷ text) is = IsUtf8-from_ascii _ (IsAscii-private _ is)
+IsUtf8-text private_use text is = grind (arith, common_steps, utf8_name [], IsUtf8-from_ascii text, IsAscii-private text)
 
 IsUtf8-named : (p : Option PartName) (text : List ℕ) → MatchOption p ⊥ (λ part. IsTextOf part text) → IsUtf8 text
 IsUtf8-named None text is = absurd is

@@ -1,11 +1,12 @@
 -- What is written for a caller: it is not empty where a text is due, and what is cut out of a text is UTF-8.
-use Rattle.langtag_scan.proofs.Prelude.{◌≡◌, ℕ, ◌+◌, ◌≤◌, true, List, [], ◌∷◌, leb, length, Option, None, refl, arith, ◌↔◌, Some, unwrap_or, sym, subst, and_parts, false≢true, false_from_ne_true, IsUtf8-from_ascii, IsAscii-nil, IsAscii-cons, AllByRecursion, nat_tests, IsUtf8, IfSome, MatchOption}
+use Rattle.langtag_scan.proofs.Prelude.{◌≡◌, ℕ, ◌+◌, ◌≤◌, List, [], ◌∷◌, leb, length, Option, None, refl, arith, ◌↔◌, Some, unwrap_or, sym, subst, and_parts, AllByRecursion, nat_tests, IsUtf8, IfSome, MatchOption}
 use Rattle.langtag.specs.Form.{IsForm}
 use Rattle.langtag_text.specs.Writes.{Writes}
-use Rattle.langtag_scan.proofs.Laws.{alphanumeric_below, IsAscii-each, length-join, IsSubtag, of_extension_subtag, of_primary, of_region, join-subtags}
-use Rattle.langtag_scan.specs.Grammar.{is_alphanumeric, is_extension_subtag, is_letter, is_primary, is_region, subtags, IsNormal, IsTag}
-use Rattle.langtag_keyword.specs.Edit.{edited_record, invalid_type, invalid_type_from, is_unicode_key, keyword_error}
-use Rattle.langtag_c.proofs.TagLengths.{IsUtf8-joined, some_tag}
+use Rattle.langtag_scan.proofs.Laws.{length-join, IsSubtag, of_extension_subtag, of_primary, of_region, join-subtags}
+use Rattle.langtag_scan.specs.Grammar.{is_extension_subtag, subtags, IsNormal, IsTag}
+use Rattle.langtag_keyword.specs.Edit.{edited_record, invalid_type_from, keyword_error}
+use Rattle.langtag_c.proofs.TagLengths.{IsUtf8-joined}
+use Rattle.langtag_parent.proofs.Chains.{some_tag}
 use Rattle.langtag_text.specs.WritesWhole.{WritesWhole}
 use Rattle.langtag_registry.specs.Canonical.{IsCanonicalForm}
 use Rattle.langtag_likely.proofs.Definitions.{IsMaximalForm, IsMinimalForm, maximal_record, minimal_record}
@@ -22,33 +23,22 @@ use Rattle.langtag_unicode.specs.ExtensionsForm.{IsExtensionsForm}
 use Rattle.langtag_locale.specs.LocaleForm.{IsWholeForm}
 use Rattle.langtag_cldr.specs.Suggestion.{suggested_language, suggested_region}
 use Rattle.langtag_c.specs.Validity.{suggested}
+use Rattle.langtag_cldr.proofs.RowLaws.{utf8_name}
 use Rattle.langtag_registry.proofs.CanonicalParts as canonical
 
 -- ---- a key and a value are UTF-8
-
-IsUtf8-key : (key : List ℕ) → is_unicode_key key ≡ true → IsUtf8 key
-IsUtf8-key [] is = absurd (false≢true is)
-IsUtf8-key (a ∷ []) is = absurd (false≢true is)
-IsUtf8-key (a ∷ b ∷ c ∷ key) is = absurd (false≢true is)
-IsUtf8-key (a ∷ b ∷ []) is =
-    let both = and_parts (is_alphanumeric a) (is_letter b) is in
-    IsUtf8-from_ascii (a ∷ b ∷ [])
-    (IsAscii-cons a (b ∷ []) (alphanumeric_below a both.0) (IsAscii-cons b [] (alphanumeric_below b (rw both.1 refl)) IsAscii-nil))
 
 types_subtags : (at : ℕ) (ss : List (List ℕ)) → invalid_type_from at ss ≡ None → AllByRecursion IsSubtag ss
 types_subtags at [] none = tt
 types_subtags at (s ∷ ss) none =
     grind (arith, nat_tests, types_subtags (at + (length s + 1)) ss, of_extension_subtag s, and_parts (leb 3 (length s)) (is_extension_subtag s))
 
-accepted : (key : List ℕ) (value : List (List ℕ)) → keyword_error key value ≡ None → (is_unicode_key key ≡ true) × (invalid_type value ≡ None)
-accepted key value none = grind (arith, nat_tests)
-
 pub IsUtf8-keyword_key : (key : List ℕ) (value : List (List ℕ)) → keyword_error key value ≡ None → IsUtf8 key
-IsUtf8-keyword_key key value none = IsUtf8-key key (accepted key value none).0
+IsUtf8-keyword_key key value none = utf8_name key (grind (arith, nat_tests, and_parts))
 
 pub IsUtf8-keyword_value : (key value : List ℕ) → keyword_error key (subtags value) ≡ None → IsUtf8 value
 IsUtf8-keyword_value key value none =
-    IsUtf8-joined (subtags value) value (types_subtags 0 (subtags value) (accepted key (subtags value) none).1) (join-subtags value)
+    IsUtf8-joined (subtags value) value (types_subtags 0 (subtags value) (grind (arith, nat_tests))) (join-subtags value)
 
 -- ---- the tag is not empty
 
@@ -95,10 +85,8 @@ pub posix_none :
     (bytes text before after : List ℕ) (o : Option ℕ) (result : ℕ) → text ≡ bytes → result ≡ unwrap_or o 0 →
     MatchOption o (IsPosixName text None) (λ len. Writes (λ name. IsPosixName text (Some name)) before after len) → (result ≡ 0) ↔ IsPosixName bytes None
 posix_none bytes text before after None result same is none = (λ _. subst (λ t. IsPosixName t None) same none, λ _. is)
-posix_none bytes text before after (Some len) result same is w = (
-  λ zero. absurd (let some = some_name text w.text w.is_so in omega (arith, some, w.whole, is, zero)),
-  λ none. let no : Some w.text ≡ None = one_name text (Some w.text) None w.is_so (subst (λ t. IsPosixName t None) (sym same) none) in absurd cc,
-)
+posix_none bytes text before after (Some len) result same is w =
+    grind (arith, nat_tests, some_name text w.text w.is_so, one_name text (Some w.text) None w.is_so)
 
 pub posix_some :
     (tag before after : List ℕ) (o : Option ℕ) → MatchOption o (IsPosixName tag None) (λ len. Writes (λ name. IsPosixName tag (Some name)) before after len) →
@@ -108,19 +96,9 @@ posix_some tag before after (Some len) w some = w
 
 -- ---- what is suggested for bytes: they are UTF-8, as a language and a region are
 
-IsUtf8-subtag : (s : List ℕ) → IsSubtag s → IsUtf8 s
-IsUtf8-subtag s is = IsUtf8-from_ascii s (IsAscii-each is_alphanumeric alphanumeric_below s is.alphanumeric)
-
-no_language : (s : List ℕ) → (IsUtf8 s → ⊥) → suggested_language s ≡ None
-unfolding suggested_language
-no_language s other = rw (false_from_ne_true (is_primary s) (λ is. other (IsUtf8-subtag s (of_primary s is)))) refl
-
-no_region : (s : List ℕ) → (IsUtf8 s → ⊥) → suggested_region s ≡ None
-unfolding suggested_region
-no_region s other = rw (false_from_ne_true (is_region s) (λ is. other (IsUtf8-subtag s (of_region s is)))) refl
-
 -- other bytes are no code
 pub none_suggested : (fault : ℕ) (s : List ℕ) → (IsUtf8 s → ⊥) → suggested fault s ≡ None
-none_suggested fault s other = grind (arith, nat_tests, no_language s other, no_region s other)
+unfolding suggested_language suggested_region
+none_suggested fault s other = grind (arith, nat_tests, utf8_name s, of_primary s, of_region s)
 
 pub ruleset utf8_suggested = (none_suggested)

@@ -8,7 +8,7 @@ use crate::tag::tag_of;
 /// Returns the length of a tag without its extensions and private use, which is 10 for de-CH-1996-u-co-phonebk-x-mine.
 /// A private-use tag and an irregular tag have no extensions, so this is their length. Returns 0 for bytes that are not
 /// a tag.
-#[tactic(auto, using(crate::proofs::TagLengths::some_tag))]
+#[tactic(auto, using(langtag_parent::proofs::Chains::some_tag))]
 #[unsafe(no_mangle)]
 pub extern "C" fn langtag_base_len(bytes: &[u8]) -> usize
     // law: the length of the text of `LangTag::base`

@@ -92,7 +92,8 @@ fn len_before_key(bytes: &[u8], subtags: Span, keys: Keys) -> usize
 /// Returns the value of the first key that equals a string, ignoring case.
 pub(crate) fn value_of(bytes: &[u8], subtags: Span, keys: Keys, key: &[u8]) -> Option<Span>
     requires { HasSubtags bytes.now subtags }
-    ensures value { option_map (span_text bytes.now) result ≡ option_map join (spec.value_of (opens_keyword keys) key.now (subtags_in bytes.now subtags)) }
+    ensures value { option_map (span_text bytes.now) result
+        ≡ option_map join (spec.value_of (opens_keyword keys) key.now (subtags_in bytes.now subtags)) }
     ensures within { IfSome result (IsWithin bytes.now) }
 {
     let mut rest = subtags;
@@ -114,7 +115,8 @@ pub(crate) fn next_key(
 ) -> Option<KeyPlace>
     requires { HasSubtags bytes.now subtags }
     ensures some { IfSome result (λ place. keywords_from (opens_keyword keys) (subtags_in bytes.now subtags) passed.old
-        ≡ record { key = span_text bytes.now place.key; value = span_text bytes.now place.value } ∷ keywords_from (opens_keyword keys) (subtags_in bytes.now subtags) passed.new) }
+        ≡ record { key = span_text bytes.now place.key; value = span_text bytes.now place.value } ∷ keywords_from
+        (opens_keyword keys) (subtags_in bytes.now subtags) passed.new) }
     ensures within { IfSome result (λ place. IsWithin bytes.now place.key × IsWithin bytes.now place.value) }
     ensures none { result ≡ None → keywords_from (opens_keyword keys) (subtags_in bytes.now subtags) passed.old ≡ [] }
     ensures nothing { result ≡ None → passed.new ≡ passed.old }
@@ -137,7 +139,8 @@ pub(crate) fn next_key(
 /// Removes the first of some subtags, with the hyphen after it. Returns its span and its text.
 fn take_subtag<'a>(bytes: &'a [u8], rest: &mut Span) -> Option<(Span, &'a [u8])>
     requires { HasSubtags bytes.now rest.old }
-    ensures subtags { MatchOption result (subtags_in bytes.now rest.old ≡ []) (λ taken. subtags_in bytes.now rest.old ≡ taken.1.now ∷ subtags_in bytes.now rest.new) }
+    ensures subtags { MatchOption result (subtags_in bytes.now rest.old ≡ [])
+        (λ taken. subtags_in bytes.now rest.old ≡ taken.1.now ∷ subtags_in bytes.now rest.new) }
     ensures left { HasSubtags bytes.now rest.new }
     ensures nothing { result ≡ None → rest.new ≡ rest.old }
     ensures place { IfSome result (λ taken. IsWithin bytes.now taken.0 × (span_text bytes.now taken.0 ≡ taken.1.now)) }

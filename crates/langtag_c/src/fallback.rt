@@ -28,8 +28,10 @@ use langtag_range::shortened_len;
 pub extern "C" fn langtag_next_fallback(bytes: &[u8], rest: &mut Span) -> bool
     // law: each call removes the first element of RFC 4647's list of fallbacks
     ensures fallbacks { HasBytes bytes.now rest.old →
-        fallbacks (span_text bytes.now rest.old) ≡ span_text bytes.now rest.old ∷ later_fallbacks result (span_text bytes.now rest.new) }
-    ensures cut { IsTrue result → HasBytes bytes.now rest.old × (rest.new.start ≡ rest.old.start) × (rest.new.len < rest.old.len) }
+        fallbacks (span_text bytes.now rest.old)
+        ≡ span_text bytes.now rest.old ∷ later_fallbacks result (span_text bytes.now rest.new) }
+    ensures cut { IsTrue result → HasBytes bytes.now rest.old × (rest.new.start ≡ rest.old.start) ×
+        (rest.new.len < rest.old.len) }
     ensures nothing { result ≡ false → rest.new ≡ rest.old }
 {
     let Some(range) = rest.of(bytes) else {

@@ -28,7 +28,8 @@ use langtag_keyword::Keys;
 #[unsafe(no_mangle)]
 pub extern "C" fn langtag_keyword(bytes: &[u8], key: &[u8], value: &mut Span) -> bool
     // law: the value that `keyword` returns, as a span of the tag
-    ensures value { PartOf bytes.now (λ r. option_map join (spec.value_of spec.is_key key.now (spec.subtags_of 117 r))) None (answered result (span_text bytes.now value.new)) }
+    ensures value { PartOf bytes.now (λ r. option_map join (spec.value_of spec.is_key key.now (spec.subtags_of 117 r))) None
+        (answered result (span_text bytes.now value.new)) }
     ensures within { IsTrue result → IsWithin bytes.now value.new }
     ensures nothing { result ≡ false → value.new ≡ value.old }
 {
@@ -62,7 +63,8 @@ pub extern "C" fn langtag_next_keyword(
 ) -> bool
     // law: the next keyword after so many subtags
     ensures taken { IsTrue result → EachRecord bytes.now (λ r. keywords_from spec.is_key (spec.subtags_of 117 r) passed.old
-        ≡ record { key = span_text bytes.now key.new; value = span_text bytes.now value.new } ∷ keywords_from spec.is_key (spec.subtags_of 117 r) passed.new) }
+        ≡ record { key = span_text bytes.now key.new; value = span_text bytes.now value.new } ∷ keywords_from spec.is_key
+        (spec.subtags_of 117 r) passed.new) }
     // law: only a normal tag has one
     ensures other { (IsNormal bytes.now → ⊥) → result ≡ false }
     // law: there is none if and only if none is left
@@ -86,7 +88,8 @@ pub extern "C" fn langtag_next_keyword(
 /// Returns false, and writes an empty span, if there are none.
 #[unsafe(no_mangle)]
 pub extern "C" fn langtag_attributes(bytes: &[u8], attributes: &mut Span) -> bool
-    ensures text { PartOf bytes.now (λ r. join (spec.before_key spec.is_key (spec.subtags_of 117 r))) [] (span_text bytes.now attributes.new) }
+    ensures text { PartOf bytes.now (λ r. join (spec.before_key spec.is_key (spec.subtags_of 117 r))) []
+        (span_text bytes.now attributes.new) }
     ensures some { IsTrue result ↔ 0 < attributes.new.len }
     ensures within { IsWithin bytes.now attributes.new }
 {

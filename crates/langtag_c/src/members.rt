@@ -24,7 +24,8 @@ pub(crate) fn variant_at(tag: &NormalLangTag<'_>, wanted: usize) -> Option<Span>
 
 /// Returns where the singleton of the extension at an index is in a tag.
 pub(crate) fn singleton_at(tag: &NormalLangTag<'_>, wanted: usize) -> Option<Span>
-    ensures { EachRecord (normal_lang_tag_text tag.now) (λ r. result ≡ member_span (singleton_place r) r.extensions (Some wanted)) }
+    ensures { EachRecord (normal_lang_tag_text tag.now)
+        (λ r. result ≡ member_span (singleton_place r) r.extensions (Some wanted)) }
 {
     tag.extensions()
         .iter()

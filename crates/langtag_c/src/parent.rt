@@ -18,7 +18,8 @@ pub extern "C" fn langtag_parent(bytes: &[u8], buffer: &mut [u8]) -> usize
     ensures parent { (chain : List (List ℕ)) → IsTag bytes.now → IsChain bytes.now chain
         → MatchOption (slice_get chain 1) (result ≡ 0) (λ parent. Writes (λ new. new ≡ parent) buffer.old buffer.new result) }
     // law: the result is 0 if and only if the tag has no parent
-    ensures no_parent { (chain : List (List ℕ)) → IsTag bytes.now → IsChain bytes.now chain → result ≡ 0 ↔ slice_get chain 1 ≡ None }
+    ensures no_parent { (chain : List (List ℕ)) → IsTag bytes.now → IsChain bytes.now chain → result ≡ 0
+        ↔ slice_get chain 1 ≡ None }
     ensures no_tag { (IsTag bytes.now → ⊥) → result ≡ 0 }
     ensures nothing { result ≡ 0 → buffer.new ≡ buffer.old }
 {
@@ -51,7 +52,8 @@ pub extern "C" fn langtag_nth_parent(bytes: &[u8], index: u32, buffer: &mut [u8]
     ensures parent { (chain : List (List ℕ)) → IsTag bytes.now → IsChain bytes.now chain
         → MatchOption (slice_get chain index) (result ≡ 0) (λ parent. Writes (λ new. new ≡ parent) buffer.old buffer.new result) }
     // law: the result is 0 if and only if the chain has no more tags
-    ensures no_parent { (chain : List (List ℕ)) → IsTag bytes.now → IsChain bytes.now chain → result ≡ 0 ↔ slice_get chain index ≡ None }
+    ensures no_parent { (chain : List (List ℕ)) → IsTag bytes.now → IsChain bytes.now chain → result ≡ 0
+        ↔ slice_get chain index ≡ None }
     ensures no_tag { (IsTag bytes.now → ⊥) → result ≡ 0 }
     ensures nothing { result ≡ 0 → buffer.new ≡ buffer.old }
 {

@@ -2,7 +2,8 @@
 #![tactic(auto, using(crate::proofs::KindLaws::parse_laws))]
 
 ghost use Rattle.std.specs.Prelude.{◌≡◌, ◌≤◌, ℕ, List, length, IfSome, MatchOption};
-ghost use Rattle.langtag_scan.specs.Grammar.{HasEnds, ends_of, IsFoundOf, finding, normal_ends, AreInOrder, EachRecord, IsTag, IsNormal, IsPrivate};
+ghost use Rattle.langtag_scan.specs.Grammar.{HasEnds, ends_of, IsFoundOf, finding, normal_ends};
+ghost use Rattle.langtag_scan.specs.Grammar.{AreInOrder, EachRecord, IsTag, IsNormal, IsPrivate};
 ghost use Rattle.langtag_c.specs.Answers.{IsKind};
 ghost use Rattle.langtag_c.specs.PartSpans.{AreWithin, ArePartsOf, spans_at, no_parts, private_alone};
 
@@ -74,7 +75,8 @@ impl Parts {
 #[inline(always)]
 fn found_of(bytes: &[u8]) -> Option<Found>
     ensures found { MatchOption result (IsTag bytes.now → ⊥) (λ found. IsFoundOf bytes.now (finding found)) }
-    ensures ends { IfSome result (λ found. MatchOption (normal_ends (finding found)) (IsNormal bytes.now → ⊥) (HasEnds bytes.now)) }
+    ensures ends { IfSome result (λ found. MatchOption (normal_ends (finding found)) (IsNormal bytes.now → ⊥)
+        (HasEnds bytes.now)) }
 {
     recognise(&mut Metered::of_bytes(bytes))
 }

@@ -1,7 +1,8 @@
 //! The parts of a normal tag (RFC 5646 section 2.1), by number.
 ghost use Rattle.std.specs.Prelude.{◌≡◌, IfSome, MatchOption, None, Some};
 ghost use Rattle.langtag.specs.Definitions.{part_text};
-ghost use Rattle.langtag_c.specs.NumberedParts.{IsPartNamed, IsPartText, extensions, language, name_of, part_numbered, private_use, region, script, variants};
+ghost use Rattle.langtag_c.specs.NumberedParts.{IsPartNamed, IsPartText, extensions, language, name_of};
+ghost use Rattle.langtag_c.specs.NumberedParts.{part_numbered, private_use, region, script, variants};
 
 use langtag::{Extensions, Language, Part, PrivateUse, Region, Script, Variants};
 

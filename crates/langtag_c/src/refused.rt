@@ -27,7 +27,8 @@ pub extern "C" fn langtag_refused(bytes: &[u8], subtag: &mut Span, offset: &mut 
     ensures none { result ≡ 0 ↔ IsTag bytes.now }
     ensures end { result ≡ 3 ↔ EndsTooSoon bytes.now }
     ensures subtag { 0 < result → result < 3 → IsRefusedSubtag bytes.now subtag.new.start (end_of subtag.new) }
-    ensures whole { result ≡ 1 → AlphanumericWithin bytes.now subtag.new.start (end_of subtag.new) × (offset.new ≡ subtag.new.start) }
+    ensures whole { result ≡ 1 → AlphanumericWithin bytes.now subtag.new.start (end_of subtag.new) ×
+        (offset.new ≡ subtag.new.start) }
     ensures byte { result ≡ 2 → IsFirstOther bytes.now subtag.new.start (end_of subtag.new) offset.new }
     ensures nothing { (result ≡ 0) ⊎ (result ≡ 3) → (subtag.new ≡ empty_at (length bytes.now)) × (offset.new ≡ length bytes.now) }
 {

@@ -32,12 +32,15 @@ pub struct Repeated {
 #[unsafe(no_mangle)]
 pub extern "C" fn langtag_repeats(bytes: &[u8], repeated: &mut Repeated) -> u32
     ensures flags { EachRecord bytes.now (λ r.
-        result ≡ repeat_flags (is_some (repeat are_alike r.variants)) (is_some (repeat are_alike_bytes (map (λ e. e.singleton) r.extensions)))) }
+        result ≡ repeat_flags (is_some (repeat are_alike r.variants))
+        (is_some (repeat are_alike_bytes (map (λ e. e.singleton) r.extensions)))) }
     ensures variant { EachRecord bytes.now (λ r.
-        repeated.new.variant ≡ unwrap_or (member_span (variant_place r) r.variants (repeat_index are_alike r.variants)) (empty_at 0)) }
+        repeated.new.variant
+        ≡ unwrap_or (member_span (variant_place r) r.variants (repeat_index are_alike r.variants)) (empty_at 0)) }
     ensures singleton { EachRecord bytes.now (λ r.
         repeated.new.singleton
-        ≡ unwrap_or (member_span (singleton_place r) r.extensions (repeat_index are_alike_bytes (map (λ e. e.singleton) r.extensions))) (empty_at 0)) }
+        ≡ unwrap_or (member_span (singleton_place r) r.extensions
+        (repeat_index are_alike_bytes (map (λ e. e.singleton) r.extensions))) (empty_at 0)) }
     ensures other { (IsNormal bytes.now → ⊥) → (result ≡ 0) × (repeated.new ≡ none_repeated) }
 {
     let none = Span { start: 0, len: 0 };
@@ -59,7 +62,8 @@ pub extern "C" fn langtag_repeats(bytes: &[u8], repeated: &mut Repeated) -> u32
 
 /// Returns where the first repeated variant is in a tag.
 fn repeated_variant(tag: &NormalLangTag<'_>) -> Option<Span>
-    ensures { EachRecord (normal_lang_tag_text tag.now) (λ r. result ≡ member_span (variant_place r) r.variants (repeat_index are_alike r.variants)) }
+    ensures { EachRecord (normal_lang_tag_text tag.now)
+        (λ r. result ≡ member_span (variant_place r) r.variants (repeat_index are_alike r.variants)) }
 {
     variant_at(tag, tag.repeated_variant_index()?)
 }
@@ -67,7 +71,8 @@ fn repeated_variant(tag: &NormalLangTag<'_>) -> Option<Span>
 /// Returns where the first repeated singleton is in a tag.
 fn repeated_singleton(tag: &NormalLangTag<'_>) -> Option<Span>
     ensures { EachRecord (normal_lang_tag_text tag.now) (λ r.
-        result ≡ member_span (singleton_place r) r.extensions (repeat_index are_alike_bytes (map (λ e. e.singleton) r.extensions))) }
+        result ≡ member_span (singleton_place r) r.extensions
+        (repeat_index are_alike_bytes (map (λ e. e.singleton) r.extensions))) }
 {
     singleton_at(tag, tag.repeated_singleton_index()?)
 }

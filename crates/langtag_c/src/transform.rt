@@ -19,7 +19,8 @@ use langtag_keyword::Keys;
 /// Returns false and leaves `language` unchanged if there is no t.
 #[unsafe(no_mangle)]
 pub extern "C" fn langtag_transform(bytes: &[u8], language: &mut Span) -> bool
-    ensures language { PartOf bytes.now (λ r. option_map (λ e. join (spec.before_key is_field_key e.subtags)) (find_extension 116 r.extensions)) None (answered result (span_text bytes.now language.new)) }
+    ensures language { PartOf bytes.now (λ r. option_map (λ e. join (spec.before_key is_field_key e.subtags))
+        (find_extension 116 r.extensions)) None (answered result (span_text bytes.now language.new)) }
     ensures within { IsTrue result → IsWithin bytes.now language.new }
     ensures nothing { result ≡ false → language.new ≡ language.old }
 {
@@ -35,7 +36,8 @@ pub extern "C" fn langtag_transform(bytes: &[u8], language: &mut Span) -> bool
 #[unsafe(no_mangle)]
 pub extern "C" fn langtag_field(bytes: &[u8], key: &[u8], value: &mut Span) -> bool
     // law: the value that `field` returns, as a span of the tag
-    ensures value { PartOf bytes.now (λ r. option_map join (spec.value_of is_field_key key.now (spec.subtags_of 116 r))) None (answered result (span_text bytes.now value.new)) }
+    ensures value { PartOf bytes.now (λ r. option_map join (spec.value_of is_field_key key.now (spec.subtags_of 116 r))) None
+        (answered result (span_text bytes.now value.new)) }
     ensures within { IsTrue result → IsWithin bytes.now value.new }
     ensures nothing { result ≡ false → value.new ≡ value.old }
 {
@@ -57,11 +59,13 @@ pub extern "C" fn langtag_next_field(
 ) -> bool
     // law: the next field after so many subtags
     ensures taken { IsTrue result → EachRecord bytes.now (λ r. keywords_from is_field_key (spec.subtags_of 116 r) passed.old
-        ≡ record { key = span_text bytes.now key.new; value = span_text bytes.now value.new } ∷ keywords_from is_field_key (spec.subtags_of 116 r) passed.new) }
+        ≡ record { key = span_text bytes.now key.new; value = span_text bytes.now value.new } ∷ keywords_from is_field_key
+        (spec.subtags_of 116 r) passed.new) }
     // law: only a normal tag has one
     ensures other { (IsNormal bytes.now → ⊥) → result ≡ false }
     // law: there is none if and only if none is left
-    ensures end { result ≡ false → EachRecord bytes.now (λ r. keywords_from is_field_key (spec.subtags_of 116 r) passed.old ≡ []) }
+    ensures end { result ≡ false → EachRecord bytes.now
+        (λ r. keywords_from is_field_key (spec.subtags_of 116 r) passed.old ≡ []) }
     ensures within { IsTrue result → IsWithin bytes.now key.new × IsWithin bytes.now value.new }
     ensures nothing { result ≡ false → (passed.new ≡ passed.old) × (key.new ≡ key.old) × (value.new ≡ value.old) }
 {

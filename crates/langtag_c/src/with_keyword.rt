@@ -41,7 +41,8 @@ pub extern "C" fn langtag_with_keyword(
     ensures set { keyword_bound key.now value.now tag.now < 2 ^ 64 → CanSetKeyword key.now value.now tag.now →
         Writes (IsForm (edited_record key.now (Some (subtags value.now))) tag.now) buffer.old buffer.new result }
     // law: the call returns 0 if `write_with_keyword` returns an error
-    ensures refused { keyword_bound key.now value.now tag.now < 2 ^ 64 → result ≡ 0 ↔ (CanSetKeyword key.now value.now tag.now → ⊥) }
+    ensures refused { keyword_bound key.now value.now tag.now < 2 ^ 64 → result ≡ 0
+        ↔ (CanSetKeyword key.now value.now tag.now → ⊥) }
     ensures nothing { (CanSetKeyword key.now value.now tag.now → ⊥) → (result ≡ 0) × (buffer.new ≡ buffer.old) }
     ensures bounded { keyword_bound key.now value.now tag.now < 2 ^ 64 → result ≤ keyword_bound key.now value.now tag.now }
 {
@@ -69,7 +70,8 @@ pub extern "C" fn langtag_with_keyword(
 #[unsafe(no_mangle)]
 pub extern "C" fn langtag_without_keyword(tag: &[u8], key: &[u8], buffer: &mut [u8]) -> usize
     // law: the call does what `write_without_keyword` does
-    ensures removed { CanRemoveKeyword key.now tag.now → Writes (IsForm (edited_record key.now None) tag.now) buffer.old buffer.new result }
+    ensures removed { CanRemoveKeyword key.now tag.now
+        → Writes (IsForm (edited_record key.now None) tag.now) buffer.old buffer.new result }
     // law: the call returns 0 if `write_without_keyword` returns an error
     ensures refused { result ≡ 0 ↔ (CanRemoveKeyword key.now tag.now → ⊥) }
     ensures nothing { result ≡ 0 → buffer.new ≡ buffer.old }

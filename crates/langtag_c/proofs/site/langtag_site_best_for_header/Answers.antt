@@ -1,10 +1,14 @@
 use Rattle.std.proofs.Common.{rules}
-use Rattle.langtag_match.specs.Wanted.{wanted_elements}
-use Rattle.langtag_c.proofs.ChoiceLaws.{best_counted, site_within}
+use Rattle.langtag_c.proofs.ChoiceLaws.{choice_within, current_count}
 use Rattle.langtag_c.proofs.site.langtag_site_best_for_header.Goals as goal
 
 pub returns-clause-best : goal.returns-clause-best
-returns-clause-best c = record { chosen = c.best_among.result; choice = c.best_among.ensures.choice; same = best_counted c.args.bytes.now c.args.tags.now c.best_among.result _ (search rules) }
+returns-clause-best c =
+    let count = current_count c.args.bytes.now c.args.tags.now in
+    record { chosen = c.best_among.result; choice = c.best_among.ensures.choice; same = rw count (search rules) }
 
 pub returns-clause-within : goal.returns-clause-within
-returns-clause-within c = let within = site_within (wanted_elements c.args.header.now) c.args.bytes.now c.args.tags.now c.best_among.result c.best_among.ensures.choice in search (rules, within)
+returns-clause-within c =
+    let count = current_count c.args.bytes.now c.args.tags.now in
+    let within = choice_within _ _ _ c.best_among.result count c.best_among.ensures.choice in
+    search (rules, within)

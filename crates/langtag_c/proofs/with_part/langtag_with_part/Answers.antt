@@ -1,6 +1,7 @@
 use Rattle.langtag_scan.proofs.Prelude.{arith, nat_tests}
 use Rattle.langtag_scan.proofs.TagLaws.{tag_normal}
-use Rattle.langtag_c.proofs.TagLengths.{part_sets, some_tag}
+use Rattle.langtag_c.proofs.TagLengths.{part_sets}
+use Rattle.langtag_parent.proofs.Chains.{some_tag}
 use Rattle.langtag_c.proofs.with_part.langtag_with_part.Goals as goal
 
 pub returns-clause-set : goal.returns-clause-set
