@@ -99,7 +99,7 @@ pub fn write_canonical(tag: LangTag<'_>, buffer: &mut [u8]) -> usize
     match form_of(tag) {
         Form::Same => write_text(tag.as_bytes(), buffer),
         Form::Whole(preferred) => write_text(preferred.as_bytes(), buffer),
-        Form::Parts(normal) => write_parts(normal, buffer),
+        Form::Parts(normal) => write_canonical_parts(normal, buffer),
     }
 }
 
@@ -115,7 +115,7 @@ fn form_as_tag(alloc: Global, tag: LangTag<'_>) -> Result<LangTagBuf, AllocError
     }
 }
 
-/// Returns the bytes of the canonical form of a tag, as [`write_parts`] writes them. The buffer has a guessed length. If it
+/// Returns the bytes of the canonical form of a tag, as [`write_canonical_parts`] writes them. The buffer has a guessed length. If it
 /// is too short, the bytes are written again.
 #[tactic(auto, using(langtag_text::proofs::Taken::whole_taken))]
 fn bytes_of_parts(
@@ -127,7 +127,7 @@ fn bytes_of_parts(
     ensures { IfOk result (λ bytes. IsCanonicalForm (lang_tag_text tag.entry) bytes.items) }
 {
     let mut bytes = vec![in alloc; 0; tag.as_bytes().len().saturating_add(SPARE)]?;
-    let len = write_parts(normal, &mut bytes);
+    let len = write_canonical_parts(normal, &mut bytes);
     if len > bytes.len() {
         return counted_bytes(alloc, normal);
     }
@@ -139,15 +139,16 @@ fn bytes_of_parts(
 fn counted_bytes(alloc: Global, tag: NormalLangTag<'_>) -> Result<Vec<u8>, AllocError>
     ensures { IfOk result (λ bytes. EachRecord (normal_lang_tag_text tag.entry) (λ r. bytes.items ≡ canonical_text r)) }
 {
-    let mut bytes = vec![in alloc; 0; write_parts(tag, &mut [])]?;
-    write_parts(tag, &mut bytes);
+    let mut bytes = vec![in alloc; 0; write_canonical_parts(tag, &mut [])]?;
+    write_canonical_parts(tag, &mut bytes);
     Ok(bytes)
 }
 
 /// Writes a tag with its parts in their canonical forms, or the Preferred-Value of the tag that these parts make up.
 #[tactic(auto, using(langtag_fields::proofs::WholeTags::none_longer))]
-fn write_parts(tag: NormalLangTag<'_>, buffer: &mut [u8]) -> usize
-    ensures form { EachRecord (normal_lang_tag_text tag.entry) (λ r. WritesWhole (λ form. form ≡ canonical_text r) buffer.old buffer.new result) }
+fn write_canonical_parts(tag: NormalLangTag<'_>, buffer: &mut [u8]) -> usize
+    ensures form { EachRecord (normal_lang_tag_text tag.entry)
+        (λ r. WritesWhole (λ form. form ≡ canonical_text r) buffer.old buffer.new result) }
     ensures untouched { length buffer.old < result → buffer.new ≡ buffer.old }
 {
     let mut start = [0; LONGEST_REPLACED];

@@ -2,8 +2,11 @@
 ghost use Rattle.std.specs.Prelude.{◌≡◌, ◌∷◌, [], List, map, flat_map, option_map};
 ghost use Rattle.langtag_scan.specs.Grammar.{fold_text, subtags};
 ghost use Rattle.langtag_scan.specs.Record as model;
-ghost use Rattle.langtag.specs.Definitions.{EachLanguageSpelling, language_text, extended_lang_tag_text, script_text, region_text, variants_text, SpellsExtensions, extension_spelling, extensions_text, normal_lang_tag_text, of_singleton, Pushes, IsCounted};
-ghost use Rattle.langtag_canonical.specs.Canonical.{canonical_record, canonical_language, canonical_primary, canonical_extended, canonical_region, canonical_variants, in_order};
+ghost use Rattle.langtag.specs.Definitions.{EachLanguageSpelling, language_text, extended_lang_tag_text, script_text};
+ghost use Rattle.langtag.specs.Definitions.{region_text, variants_text, SpellsExtensions, extension_spelling};
+ghost use Rattle.langtag.specs.Definitions.{extensions_text, normal_lang_tag_text, of_singleton, Pushes, IsCounted};
+ghost use Rattle.langtag_canonical.specs.Canonical.{canonical_record, canonical_language, canonical_primary};
+ghost use Rattle.langtag_canonical.specs.Canonical.{canonical_extended, canonical_region, canonical_variants, in_order};
 
 use crate::extension_order::are_in_order;
 use langtag::{NormalLangTag, push_private_use};
@@ -18,7 +21,8 @@ use langtag_text::Output;
 /// Writes a tag with its parts in their canonical forms into a buffer, as far as it fits, and returns the length of
 /// the form.
 pub(crate) fn put_canonical_parts(tag: NormalLangTag<'_>, buffer: &mut [u8]) -> usize
-    ensures { model.EachRecord (normal_lang_tag_text tag.entry) (λ r. IsCounted (model.spell (canonical_record r)) buffer.old buffer.new result) }
+    ensures { model.EachRecord (normal_lang_tag_text tag.entry)
+        (λ r. IsCounted (model.spell (canonical_record r)) buffer.old buffer.new result) }
 {
     let mut out = Output::new(buffer);
     push_parts(&mut out, tag);
@@ -28,17 +32,17 @@ pub(crate) fn put_canonical_parts(tag: NormalLangTag<'_>, buffer: &mut [u8]) -> 
 fn push_parts(out: &mut Output<'_>, tag: NormalLangTag<'_>)
     ensures { model.EachRecord (normal_lang_tag_text tag.entry) (λ r. Pushes (model.flat (canonical_record r)) out.old out.new) }
 {
-    push_language(out, tag.language());
+    push_canonical_language(out, tag.language());
     push_script(out, tag.script());
     push_region(out, tag.region());
     push_variants(out, tag.variants());
-    push_extensions(out, tag.extensions());
+    push_ordered(out, tag.extensions());
     push_private_use(out, tag.private_use());
 }
 
 /// Adds the canonical form of a language. A registered extended subtag replaces the language before it, and may then be
 /// replaced as a language. If there are two or more extended subtags, nothing is replaced.
-fn push_language(out: &mut Output<'_>, language: Language<'_>)
+fn push_canonical_language(out: &mut Output<'_>, language: Language<'_>)
     ensures { EachLanguageSpelling (language_text language.entry) (λ primary extended.
         Pushes (canonical_primary primary extended ∷ canonical_extended extended) out.old out.new) }
 {
@@ -105,7 +109,7 @@ fn push_variants(out: &mut Output<'_>, variants: Variants<'_>)
 
 /// Adds extensions in the order of their singletons. Extensions with the same singleton, which no valid tag has, keep
 /// their order.
-fn push_extensions(out: &mut Output<'_>, extensions: Extensions<'_>)
+fn push_ordered(out: &mut Output<'_>, extensions: Extensions<'_>)
     ensures { (es : List model.Extension) → SpellsExtensions es (extensions_text extensions.entry)
         → Pushes (flat_map model.extension_flat (in_order es)) out.old out.new }
 {
@@ -120,12 +124,12 @@ fn push_extensions(out: &mut Output<'_>, extensions: Extensions<'_>)
         if !present[usize::from(singleton)] {
             continue;
         }
-        push_extensions_of(out, extensions, singleton);
+        push_singleton(out, extensions, singleton);
     }
 }
 
 /// Adds the extensions with a singleton, which is given in lowercase.
-fn push_extensions_of(out: &mut Output<'_>, extensions: Extensions<'_>, singleton: u8)
+fn push_singleton(out: &mut Output<'_>, extensions: Extensions<'_>, singleton: u8)
     ensures { (es : List model.Extension) → SpellsExtensions es (extensions_text extensions.entry)
         → Pushes (of_singleton singleton (map extension_spelling es)) out.old out.new }
 {

@@ -10,7 +10,8 @@ use langtag_place::Variants;
 /// Returns whether none of these variants has a Preferred-Value.
 #[tactic(auto, using(crate::proofs::ReplacedSubtags::variants_stay))]
 pub(crate) fn are_canonical_variants(variants: Variants<'_>) -> bool
-    ensures { (result ≡ true) ↔ (canonical_variants (subtags (variants_text variants.entry)) ≡ subtags (variants_text variants.entry)) }
+    ensures { (result ≡ true) ↔ (canonical_variants (subtags (variants_text variants.entry))
+        ≡ subtags (variants_text variants.entry)) }
 {
     for variant in variants.iter() {
         if preferred_variant(variant).is_some() {

@@ -9,7 +9,8 @@ use langtag_extension::{Extensions, folded_singleton};
 /// Returns whether extensions are in order, which means that no singleton is less than the singleton before it.
 #[tactic(auto, using(crate::proofs::ExtensionOrder::rise_in_order, std::proofs::lemmas::Bool::Decides::nat_tests))]
 pub(crate) fn are_in_order(extensions: Extensions<'_>) -> bool
-    ensures { (es : List model.Extension) → SpellsExtensions es (extensions_text extensions.entry) → (result ≡ true) ↔ (in_order es ≡ es) }
+    ensures { (es : List model.Extension) → SpellsExtensions es (extensions_text extensions.entry) → (result ≡ true)
+        ↔ (in_order es ≡ es) }
 {
     let mut last = 0;
     for extension in extensions.iter() {

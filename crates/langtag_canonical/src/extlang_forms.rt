@@ -1,7 +1,8 @@
 //! The extlang form of a tag (RFC 5646 section 4.5).
 ghost use Rattle.std.specs.Prelude.{◌≡◌, IsNone, IfSome, IfOk, string_bytes};
 ghost use Rattle.langtag_scan.specs.Grammar.{EachRecord, Spells};
-ghost use Rattle.langtag.specs.Definitions.{EachLanguageSpelling, IsLanguage, SpellsLanguage, language_text, lang_tag_text, lang_tag_buf_text, normal_lang_tag_buf_text};
+ghost use Rattle.langtag.specs.Definitions.{EachLanguageSpelling, IsLanguage, SpellsLanguage, language_text};
+ghost use Rattle.langtag.specs.Definitions.{lang_tag_text, lang_tag_buf_text, normal_lang_tag_buf_text};
 ghost use Rattle.langtag_canonical.specs.Canonical as form;
 ghost use Rattle.langtag_canonical.specs.Canonical.{IsExtlangForm, extlang_primary, extlang_extended, extlang_record};
 
@@ -37,7 +38,8 @@ pub fn extlang_form(alloc: Global, tag: LangTag<'_>) -> Result<LangTagBuf, Alloc
 
 /// Returns a tag with the prefix of its language before it.
 fn with_prefix(alloc: Global, mut form: NormalLangTagBuf) -> Result<NormalLangTagBuf, AllocError>
-    ensures { IfOk result (λ new. EachRecord (normal_lang_tag_buf_text form) (λ r. Spells (extlang_record r) (normal_lang_tag_buf_text new))) }
+    ensures { IfOk result (λ new. EachRecord (normal_lang_tag_buf_text form)
+        (λ r. Spells (extlang_record r) (normal_lang_tag_buf_text new))) }
 {
     let Some(text) = prefixed_language(alloc, form.as_normal_lang_tag().language())? else {
         return Ok(form);
@@ -52,7 +54,8 @@ fn prefixed_language(alloc: Global, language: Language<'_>) -> Result<Option<Str
     ensures stays { IfOk result (λ text. IsNone text → EachLanguageSpelling (language_text language.entry)
         (λ primary extended. (extlang_primary primary extended ≡ primary) × (extlang_extended primary extended ≡ extended))) }
     ensures becomes { IfOk result (λ text. IfSome text (λ new. EachLanguageSpelling (language_text language.entry)
-        (λ primary extended. SpellsLanguage (extlang_primary primary extended) (extlang_extended primary extended) (string_bytes new)))) }
+        (λ primary extended. SpellsLanguage (extlang_primary primary extended) (extlang_extended primary extended)
+        (string_bytes new)))) }
 {
     if is_full(language) {
         return Ok(None);

@@ -82,7 +82,10 @@ fn transform_value<'a>(key: &[u8], value: &'a str) -> &'a str
 
 /// Returns the replacement of a type of a key, if there is one.
 fn key_alias_for(rows: &'static [KeyAliases], key: &[u8], text: &[u8]) -> Option<&'static str>
-    ensures { option_map (λ t. t.now) result ≡ type_alias_for (flat_map (λ group. map (λ row. record { key = group.0.now; old = row.0.now; new = row.1.now }) group.1.now) rows.now) key.now text.now }
+    ensures { option_map (λ t. t.now) result
+        ≡ type_alias_for (flat_map
+        (λ group. map (λ row. record { key = group.0.now; old = row.0.now; new = row.1.now }) group.1.now) rows.now) key.now
+        text.now }
 {
     let mut rows = rows;
     while let [(of, types), others @ ..] = rows {
@@ -98,14 +101,16 @@ fn key_alias_for(rows: &'static [KeyAliases], key: &[u8], text: &[u8]) -> Option
 
 #[tactic(auto, using(crate::proofs::Aliases::unicode_rows))]
 fn unicode_type_aliases() -> &'static [KeyAliases]
-    ensures { flat_map (λ group. map (λ row. record { key = group.0.now; old = row.0.now; new = row.1.now }) group.1.now) result.now ≡ list.unicode_type_aliases }
+    ensures { flat_map (λ group. map (λ row. record { key = group.0.now; old = row.0.now; new = row.1.now }) group.1.now)
+        result.now ≡ list.unicode_type_aliases }
 {
     &tables::UNICODE_TYPE_ALIASES
 }
 
 #[tactic(auto, using(crate::proofs::Aliases::transform_rows))]
 fn transform_type_aliases() -> &'static [KeyAliases]
-    ensures { flat_map (λ group. map (λ row. record { key = group.0.now; old = row.0.now; new = row.1.now }) group.1.now) result.now ≡ list.transform_type_aliases }
+    ensures { flat_map (λ group. map (λ row. record { key = group.0.now; old = row.0.now; new = row.1.now }) group.1.now)
+        result.now ≡ list.transform_type_aliases }
 {
     &tables::TRANSFORM_TYPE_ALIASES
 }

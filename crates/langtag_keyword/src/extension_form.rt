@@ -55,21 +55,24 @@ fn is_first_transform(extension: Extension<'_>, after_t: bool) -> bool
 
 /// Returns whether an extension is the first extension with the given singleton.
 fn is_first(singleton: u8, extension: Extension<'_>, is_after: bool) -> bool
-    ensures { (e : model.Extension) → SpellsExtension e (extension_text extension.entry) → result ≡ (spec.is_of singleton e && not is_after) }
+    ensures { (e : model.Extension) → SpellsExtension e (extension_text extension.entry)
+        → result ≡ (spec.is_of singleton e && not is_after) }
 {
     is_of(singleton, extension) && !is_after
 }
 
 /// Returns whether an extension with the singleton has occurred, up to and including this extension.
 fn is_after(singleton: u8, extension: Extension<'_>, is_after: bool) -> bool
-    ensures { (e : model.Extension) → SpellsExtension e (extension_text extension.entry) → result ≡ (is_after || spec.is_of singleton e) }
+    ensures { (e : model.Extension) → SpellsExtension e (extension_text extension.entry)
+        → result ≡ (is_after || spec.is_of singleton e) }
 {
     is_after || is_of(singleton, extension)
 }
 
 /// Returns the subtags after the singleton, joined by hyphens.
 pub fn subtags_of<'a>(extension: Extension<'a>) -> &'a str
-    ensures subtags { (e : model.Extension) → SpellsExtension e (extension_text extension.entry) → subtags result.now ≡ e.subtags }
+    ensures subtags { (e : model.Extension) → SpellsExtension e (extension_text extension.entry)
+        → subtags result.now ≡ e.subtags }
     ensures each { AllByRecursion IsSubtag (subtags result.now) }
 {
     &extension.as_str()[2..]

@@ -42,7 +42,7 @@ pub fn push_edited(out: &mut Output<'_>, extensions: Extensions<'_>, edit: Keywo
     while let Some(extension) = rest.next() {
         if is_at(place, extension) {
             push_at(out, place, extension, edit);
-            return push_extensions(out, rest);
+            return push_rest(out, rest);
         }
         out.push_subtag(extension.as_bytes());
     }
@@ -51,7 +51,8 @@ pub fn push_edited(out: &mut Output<'_>, extensions: Extensions<'_>, edit: Keywo
 
 /// Returns where the edited `u` goes.
 fn place_of_unicode(extensions: Extensions<'_>) -> Place
-    ensures { (es : List model.Extension) → SpellsExtensions es (extensions_text extensions.entry) → replaces result ≡ is_some (find_extension 117 es) }
+    ensures { (es : List model.Extension) → SpellsExtensions es (extensions_text extensions.entry)
+        → replaces result ≡ is_some (find_extension 117 es) }
 {
     match Singleton::new(b'u') {
         Ok(singleton) if extensions.get(singleton).is_some() => Place::OfFirstUnicode,
@@ -61,7 +62,8 @@ fn place_of_unicode(extensions: Extensions<'_>) -> Place
 
 /// Returns whether the place is at this extension.
 fn is_at(place: Place, extension: Extension<'_>) -> bool
-    ensures { (e : model.Extension) → SpellsExtension e (extension_text extension.entry) → result ≡ spec.is_place_of_u (replaces place) e }
+    ensures { (e : model.Extension) → SpellsExtension e (extension_text extension.entry)
+        → result ≡ spec.is_place_of_u (replaces place) e }
 {
     let singleton = into_smallcase(extension.singleton().unwrap());
     match place {
@@ -88,7 +90,7 @@ fn push_at(out: &mut Output<'_>, place: Place, extension: Extension<'_>, edit: K
 }
 
 /// Appends the remaining extensions of an iterator.
-fn push_extensions(out: &mut Output<'_>, rest: ExtensionsIter<'_>)
+fn push_rest(out: &mut Output<'_>, rest: ExtensionsIter<'_>)
     ensures { (es : List model.Extension) → AllByRecursion IsWellFormedExtension es → extensions_left rest.entry ≡ map extension_spelling es
         → Pushes (flat_map model.extension_flat es) out.old out.new }
 {
@@ -99,7 +101,8 @@ fn push_extensions(out: &mut Output<'_>, rest: ExtensionsIter<'_>)
 
 /// Appends an extension with its edited subtags, or nothing if no subtag is left.
 fn push_unicode(out: &mut Output<'_>, singleton: u8, text: &str, edit: KeywordEdit<'_>)
-    ensures { Pushes (flat_map model.extension_flat (spec.extension_of singleton (edited_by edit.entry (subtags text.now)))) out.old out.new }
+    ensures { Pushes (flat_map model.extension_flat (spec.extension_of singleton (edited_by edit.entry (subtags text.now))))
+        out.old out.new }
 {
     let Some(value) = edit.value else {
         return push_others(out, singleton, text, edit.key);
@@ -110,7 +113,8 @@ fn push_unicode(out: &mut Output<'_>, singleton: u8, text: &str, edit: KeywordEd
 
 /// Appends an extension without the keywords of a key, or nothing if no subtag is left.
 fn push_others(out: &mut Output<'_>, singleton: u8, text: &str, key: &str)
-    ensures { Pushes (flat_map model.extension_flat (spec.extension_of singleton (spec.without_keyword key.now (subtags text.now)))) out.old out.new }
+    ensures { Pushes (flat_map model.extension_flat
+        (spec.extension_of singleton (spec.without_keyword key.now (subtags text.now)))) out.old out.new }
 {
     if has_others(text, key) {
         out.push_subtag(&[singleton]);

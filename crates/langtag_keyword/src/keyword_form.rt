@@ -65,7 +65,8 @@ fn offer_keys<const ROOM: usize>(least: &mut LeastNumbers<ROOM>, text: &str, key
 fn push_each(out: &mut Output<'_>, text: &str, keys: Keys, numbers: &[u64])
     requires subtags { AllByRecursion IsSubtag (subtags text.now) }
     requires numbers { All (λ number. IsSubtag (key_of number)) numbers.now }
-    ensures { Pushes (flat_map (λ number. spec.keyword_form (opens_keyword keys) (canonical_value_of keys) (subtags text.now) (key_of number)) numbers.now) out.old out.new }
+    ensures { Pushes (flat_map (λ number. spec.keyword_form (opens_keyword keys) (canonical_value_of keys) (subtags text.now)
+        (key_of number)) numbers.now) out.old out.new }
 {
     if numbers.len() <= CHARACTERS {
         return push_each_of_few(out, text, keys, numbers);
@@ -75,7 +76,8 @@ fn push_each(out: &mut Output<'_>, text: &str, keys: Keys, numbers: &[u64])
 
 /// Appends what [`push_each`] appends. The string is read up to each key.
 fn push_each_of_few(out: &mut Output<'_>, text: &str, keys: Keys, numbers: &[u64])
-    ensures { Pushes (flat_map (λ number. spec.keyword_form (opens_keyword keys) (canonical_value_of keys) (subtags text.now) (key_of number)) numbers.now) out.old out.new }
+    ensures { Pushes (flat_map (λ number. spec.keyword_form (opens_keyword keys) (canonical_value_of keys) (subtags text.now)
+        (key_of number)) numbers.now) out.old out.new }
 {
     for number in numbers {
         let key = key_of(*number);
@@ -87,7 +89,8 @@ fn push_each_of_few(out: &mut Output<'_>, text: &str, keys: Keys, numbers: &[u64
 fn push_each_of_many(out: &mut Output<'_>, text: &str, keys: Keys, numbers: &[u64])
     requires subtags { AllByRecursion IsSubtag (subtags text.now) }
     requires numbers { All (λ number. IsSubtag (key_of number)) numbers.now }
-    ensures { Pushes (flat_map (λ number. spec.keyword_form (opens_keyword keys) (canonical_value_of keys) (subtags text.now) (key_of number)) numbers.now) out.old out.new }
+    ensures { Pushes (flat_map (λ number. spec.keyword_form (opens_keyword keys) (canonical_value_of keys) (subtags text.now)
+        (key_of number)) numbers.now) out.old out.new }
 {
     let mut first = b'0';
     let mut values = values_after(first, text, keys);

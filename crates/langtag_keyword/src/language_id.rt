@@ -1,6 +1,7 @@
 //! The language of the extension `t` (UTS #35, part 1, `unicode_language_id`).
 ghost use Rattle.std.specs.Prelude.{◌≡◌, ◌-◌, ◌^◌, [], IsTrue, fold, length, map, min, option_map};
-ghost use Rattle.langtag_scan.specs.Grammar.{AllByRecursion, list_all, list_any, are_alike, fold_text, is_region, is_script, one_flat, segments, segments_left, is_variant, IsSubtag};
+ghost use Rattle.langtag_scan.specs.Grammar.{AllByRecursion, list_all, list_any, are_alike, fold_text, is_region};
+ghost use Rattle.langtag_scan.specs.Grammar.{is_script, one_flat, segments, segments_left, is_variant, IsSubtag};
 ghost use Rattle.langtag_text.specs.Output.{Pushes, with_subtag};
 ghost use Rattle.langtag_keyword.specs.Form as spec;
 

@@ -2,7 +2,8 @@
 ghost use Rattle.std.specs.Prelude.{◌≡◌, ◌<◌, ◌≤◌, ℕ, List, [], ◌∷◌, length, ltb, take, true, filter, flat_map};
 ghost use Rattle.langtag_scan.specs.Grammar.{IsSubtag};
 ghost use Rattle.langtag_text.specs.Output.{Pushes};
-ghost use Rattle.langtag_keyword.specs.Least.{AscendsFrom, HoldsLeast, IsOffered, IsSettled, Least, ascending_after, is_within, number_text, order_number};
+ghost use Rattle.langtag_keyword.specs.Least.{AscendsFrom, HoldsLeast, IsOffered, IsSettled, Least};
+ghost use Rattle.langtag_keyword.specs.Least.{ascending_after, is_within, number_text, order_number};
 
 use langtag_scan::folded_number;
 use langtag_text::Output;
@@ -67,7 +68,8 @@ impl<const ROOM: usize> LeastNumbers<ROOM> {
 
     /// Puts the numbers that are kept in ascending order, each once.
     pub fn sort(&mut self)
-        ensures kept { (all : List ℕ) → AscendsFrom 0 all → HoldsLeast self.old all → self.new.kept ≡ filter (is_within self.old.last self.old.limit) all }
+        ensures kept { (all : List ℕ) → AscendsFrom 0 all → HoldsLeast self.old all
+            → self.new.kept ≡ filter (is_within self.old.last self.old.limit) all }
         ensures last { self.new.last ≡ self.old.last }
         ensures limit { self.new.limit ≡ self.old.limit }
     {

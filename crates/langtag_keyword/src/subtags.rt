@@ -1,6 +1,7 @@
 //! The subtags of an extension, as one string that is read from its start.
 ghost use Rattle.std.specs.Prelude.{◌≡◌, ◌∷◌, take, option_map};
-ghost use Rattle.langtag_scan.specs.Grammar.{AllByRecursion, list_any, are_alike, join, segments, segments_left, subtags, IsSubtag};
+ghost use Rattle.langtag_scan.specs.Grammar.{AllByRecursion, list_any, are_alike, join};
+ghost use Rattle.langtag_scan.specs.Grammar.{segments, segments_left, subtags, IsSubtag};
 ghost use Rattle.langtag_keyword.specs.Keys.{length_with_hyphens, opens_keyword};
 ghost use Rattle.langtag_keyword.specs.Keywords as spec;
 ghost use Rattle.langtag_keyword.specs.Transform.{some_text};

@@ -38,12 +38,12 @@ pub(crate) fn push_transform(out: &mut Output<'_>, text: &str)
     ensures { Pushes ((116 ∷ []) ∷ spec.transform_form (subtags text.now)) out.old out.new }
 {
     out.push_subtag(b"t");
-    push_language(out, text);
+    push_transform_language(out, text);
     push_keywords(out, text, Keys::Transform);
 }
 
 /// Appends the canonical form of the language before the fields.
-fn push_language(out: &mut Output<'_>, text: &str)
+fn push_transform_language(out: &mut Output<'_>, text: &str)
     requires { AllByRecursion IsSubtag (subtags text.now) }
     ensures { Pushes (spec.language_form (before_key is_field_key (subtags text.now))) out.old out.new }
 {

@@ -2,9 +2,10 @@
 //! applies. Here they are seven steps, and the generator in data/unicode tests what the steps assume. If several
 //! regions replace a region, the likely region is taken if it is among them. `maximized` takes the first, as Add Likely
 //! Subtags says; over CLDR's languages the two differ only for Azerbaijani.
-ghost use Rattle.std.specs.Prelude.{◌≡◌, ◌≤◌, ◌<◌, ◌+◌, IfOk, IfSome, IsTrue, None, Some, [], unwrap_or, option_map};
-ghost use Rattle.langtag.specs.Definitions.{lang_tag_buf_text, lang_tag_text, normal_lang_tag_text, EachLanguageSpelling, language_text, IsCounted, WritesWhole, region_text, script_text};
-ghost use Rattle.langtag_text.specs.FieldClasses.{is_language_field, is_region_field, is_script_field};
+ghost use Rattle.std.specs.Prelude.{◌≡◌, ◌≤◌, ◌<◌, ◌+◌, IfOk, IfSome, IsTrue, None, Some, option_map};
+ghost use Rattle.langtag.specs.Definitions.{lang_tag_buf_text, lang_tag_text, normal_lang_tag_text, EachLanguageSpelling};
+ghost use Rattle.langtag.specs.Definitions.{language_text, IsCounted, WritesWhole};
+ghost use Rattle.langtag_text.specs.FieldClasses.{is_language_field};
 ghost use Rattle.langtag_cldr.specs.Definitions.{field_texts};
 ghost use Rattle.langtag_scan.specs.Record as model;
 ghost use Rattle.langtag_locale.specs.Locale as identifier;
@@ -13,7 +14,8 @@ ghost use Rattle.langtag_locale.specs.LocaleForm as spec;
 use crate::locale_extensions::{push_identifier, push_locale_extensions};
 use crate::locale_for::locale_for;
 use langtag::{
-    LangTag, LangTagBuf, Language, NormalLangTag, Region, Script, push_private_use, tag_of,
+    LangTag, LangTagBuf, Language, NormalLangTag, push_private_use, region_field, script_field,
+    tag_of,
 };
 use langtag_cldr::TagFields;
 use langtag_keyword::nonempty;
@@ -64,7 +66,7 @@ fn form_bytes(alloc: Global, tag: NormalLangTag<'_>) -> Result<Vec<u8>, AllocErr
     ensures { IfOk result (λ bytes. model.EachRecord (normal_lang_tag_text tag.entry) (λ r. bytes.items ≡ spec.locale_text r)) }
 {
     let mut bytes = vec![in alloc; 0; tag.as_str().len().saturating_add(SPARE)]?;
-    let len = write_parts(tag, &mut bytes);
+    let len = write_locale_parts(tag, &mut bytes);
     if len > bytes.len() {
         return counted_form_bytes(alloc, tag);
     }
@@ -113,19 +115,21 @@ fn counted_form_bytes(alloc: Global, tag: NormalLangTag<'_>) -> Result<Vec<u8>, 
 /// write_locale_form(LangTag::new("x-a")?, &mut buffer); // None
 /// ```
 pub fn write_locale_form(tag: LangTag<'_>, buffer: &mut [u8]) -> Option<usize>
-    ensures form { IfSome result (λ len. WritesWhole (λ form. spec.IsWholeForm (lang_tag_text tag.entry) (Some form)) buffer.old buffer.new len) }
+    ensures form { IfSome result (λ len. WritesWhole (λ form. spec.IsWholeForm (lang_tag_text tag.entry) (Some form)) buffer.old
+        buffer.new len) }
     // law: `None` if and only if there is none
     ensures none { result ≡ None → spec.IsWholeForm (lang_tag_text tag.entry) None }
     ensures unchanged { result ≡ None → buffer.new ≡ buffer.old }
 {
     let locale = locale_for(tag)?;
-    Some(write_parts(locale, buffer))
+    Some(write_locale_parts(locale, buffer))
 }
 
 /// Writes the form of a Unicode locale identifier.
-fn write_parts(tag: NormalLangTag<'_>, buffer: &mut [u8]) -> usize
+fn write_locale_parts(tag: NormalLangTag<'_>, buffer: &mut [u8]) -> usize
     requires { identifier.IsLocale (normal_lang_tag_text tag) }
-    ensures { model.EachRecord (normal_lang_tag_text tag.entry) (λ r. WritesWhole (λ form. form ≡ spec.locale_text r) buffer.old buffer.new result) }
+    ensures { model.EachRecord (normal_lang_tag_text tag.entry)
+        (λ r. WritesWhole (λ form. form ≡ spec.locale_text r) buffer.old buffer.new result) }
 {
     let len = put_parts(tag, buffer);
     if len > buffer.len() {
@@ -138,7 +142,8 @@ fn write_parts(tag: NormalLangTag<'_>, buffer: &mut [u8]) -> usize
 /// Writes as much of the form, before its case is changed, as fits into a buffer, and returns its full length.
 fn put_parts(tag: NormalLangTag<'_>, buffer: &mut [u8]) -> usize
     requires { identifier.IsLocale (normal_lang_tag_text tag) }
-    ensures { model.EachRecord (normal_lang_tag_text tag.entry) (λ r. IsCounted (model.spell (spec.locale_record r)) buffer.old buffer.new result) }
+    ensures { model.EachRecord (normal_lang_tag_text tag.entry)
+        (λ r. IsCounted (model.spell (spec.locale_record r)) buffer.old buffer.new result) }
 {
     let mut out = Output::new(buffer);
     push_identifier(&mut out, fields_of(tag), nonempty(tag.variants().as_str()));
@@ -164,24 +169,4 @@ fn primary_field<'a>(language: Language<'a>) -> &'a [u8]
     ensures in_class { IsTrue (is_language_field result.now) }
 {
     language.primary().as_bytes()
-}
-
-fn script_field<'a>(script: Option<Script<'a>>) -> &'a [u8]
-    ensures field { result.now ≡ unwrap_or (option_map script_text script.entry) [] }
-    ensures in_class { IsTrue (is_script_field result.now) }
-{
-    match script {
-        Some(script) => script.as_bytes(),
-        None => b"",
-    }
-}
-
-fn region_field<'a>(region: Option<Region<'a>>) -> &'a [u8]
-    ensures field { result.now ≡ unwrap_or (option_map region_text region.entry) [] }
-    ensures in_class { IsTrue (is_region_field result.now) }
-{
-    match region {
-        Some(region) => region.as_bytes(),
-        None => b"",
-    }
 }

@@ -9,5 +9,6 @@ ghost use Rattle.langtag_scan.specs.Record as model;
 #[tactic(auto, using(crate::proofs::LocaleTwice::locale_settled))]
 fn form_is_locale()
     // law: the form of a Unicode locale identifier is one
-    ensures locale { (r : model.Record) → model.IsWellFormed r → IsTrue (is_locale_record r) → IsTrue (is_locale_record (locale_record r)) }
+    ensures locale { (r : model.Record) → model.IsWellFormed r → IsTrue (is_locale_record r)
+        → IsTrue (is_locale_record (locale_record r)) }
 {}

@@ -1,7 +1,8 @@
 //! Unicode locale identifiers (UTS #35, part 1, section 'Unicode Locale Identifier').
 ghost use Rattle.std.specs.Prelude.{◌≡◌, ◌&&◌, ◌==◌, List, false, length};
 ghost use Rattle.langtag_scan.specs.Grammar.{list_all, subtags};
-ghost use Rattle.langtag.specs.Definitions.{PartOf, lang_tag_text, normal_lang_tag_text, SpellsExtension, SpellsExtensions, extension_text, extensions_text};
+ghost use Rattle.langtag.specs.Definitions.{PartOf, lang_tag_text, normal_lang_tag_text, SpellsExtension};
+ghost use Rattle.langtag.specs.Definitions.{SpellsExtensions, extension_text, extensions_text};
 ghost use Rattle.langtag_scan.specs.Record as model;
 ghost use Rattle.langtag_keyword.specs.Form.{is_unicode_language};
 ghost use Rattle.langtag_locale.specs.Locale as spec;
@@ -51,7 +52,8 @@ pub(crate) fn is_locale_record(tag: NormalLangTag<'_>) -> bool
 
 /// Returns whether the language of a tag is allowed, and has no extended subtags.
 fn has_unicode_language(tag: NormalLangTag<'_>) -> bool
-    ensures { model.EachRecord (normal_lang_tag_text tag.entry) (λ r. result ≡ (is_unicode_language r.primary && length r.extended == 0)) }
+    ensures { model.EachRecord (normal_lang_tag_text tag.entry)
+        (λ r. result ≡ (is_unicode_language r.primary && length r.extended == 0)) }
 {
     let language = tag.language();
     is_unicode_language(language.primary().as_str()) && language.extension().is_none()
@@ -59,7 +61,8 @@ fn has_unicode_language(tag: NormalLangTag<'_>) -> bool
 
 /// Returns whether each extension is allowed.
 fn are_locale_extensions(extensions: Extensions<'_>) -> bool
-    ensures { (es : List model.Extension) → SpellsExtensions es (extensions_text extensions.entry) → result ≡ list_all spec.is_locale_extension es }
+    ensures { (es : List model.Extension) → SpellsExtensions es (extensions_text extensions.entry)
+        → result ≡ list_all spec.is_locale_extension es }
 {
     for extension in extensions.iter() {
         if !is_locale_extension(extension) {

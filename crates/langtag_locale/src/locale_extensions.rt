@@ -79,23 +79,23 @@ fn push_locale_transform(out: &mut Output<'_>, text: &str)
     ensures { Pushes ((116 ∷ []) ∷ spec.locale_transform_form (subtags text.now)) out.old out.new }
 {
     out.push_subtag(b"t");
-    push_language(out, text);
+    push_locale_language(out, text);
     push_keywords(out, text, Keys::Transform);
 }
 
 /// Appends the form of the language before the fields.
-fn push_language(out: &mut Output<'_>, text: &str)
+fn push_locale_language(out: &mut Output<'_>, text: &str)
     requires each { AllByRecursion IsSubtag (subtags text.now) }
     requires allowed { IsTrue (is_transform (subtags text.now)) }
     ensures { Pushes (spec.transform_language_form (before_key is_field_key (subtags text.now))) out.old out.new }
 {
     if let Some(language) = preceding(text, Keys::Transform) {
-        push_language_id(out, language);
+        push_locale_language_id(out, language);
     }
 }
 
 /// Appends the form of a language identifier, given as a string.
-fn push_language_id(out: &mut Output<'_>, text: &str)
+fn push_locale_language_id(out: &mut Output<'_>, text: &str)
     requires { IsTrue (is_language_id (segments text.now)) }
     ensures { Pushes (spec.transform_language_form (segments text.now)) out.old out.new }
 {

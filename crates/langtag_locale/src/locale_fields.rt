@@ -41,7 +41,8 @@ fn variant_language<'a>(fields: TagFields<'a>, variants: Option<&str>) -> TagFie
 /// Returns a language, or the language that it becomes with some of the variants.
 fn language_with<'a>(language: &'a [u8], variants: Option<&str>) -> &'a [u8]
     requires { IsTrue (is_language_field language.now) }
-    ensures language { result.now ≡ fold (spec.language_after (segments_left variants.entry)) language.now list.variant_languages }
+    ensures language { result.now ≡ fold (spec.language_after (segments_left variants.entry)) language.now
+        list.variant_languages }
     ensures in_class { IsTrue (is_language_field result.now) }
 {
     if variants.is_none() {
@@ -102,7 +103,8 @@ fn variant_region<'a>(fields: TagFields<'a>, variants: Option<&str>) -> TagField
 
 /// Returns the region of the fields or, if they have none, the region for which one of the variants stands.
 fn brought_region<'a>(fields: TagFields<'a>, variants: Option<&str>) -> &'a [u8]
-    ensures region { result.now ≡ or_other fields.entry.region.now (spec.variants_region (segments_left variants.entry) list.variant_regions) }
+    ensures region { result.now ≡ or_other fields.entry.region.now
+        (spec.variants_region (segments_left variants.entry) list.variant_regions) }
     ensures in_class { IsTrue (is_region_field result.now) }
 {
     if fields.region.is_empty() {

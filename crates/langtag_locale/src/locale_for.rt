@@ -34,7 +34,8 @@ pub(crate) fn locale_for<'a>(tag: LangTag<'a>) -> Option<NormalLangTag<'a>>
 
 /// Returns a tag as a normal tag if it is a Unicode locale identifier.
 fn as_locale<'a>(tag: LangTag<'a>) -> Option<NormalLangTag<'a>>
-    ensures some { IfSome result (λ locale. (normal_lang_tag_text locale ≡ lang_tag_text tag.entry) × IsLocale (lang_tag_text tag.entry)) }
+    ensures some { IfSome result (λ locale. (normal_lang_tag_text locale ≡ lang_tag_text tag.entry) × IsLocale
+        (lang_tag_text tag.entry)) }
     ensures none { result ≡ None → IsLocale (lang_tag_text tag.entry) → ⊥ }
 {
     let normal = tag.as_normal()?;
@@ -47,7 +48,8 @@ fn as_locale<'a>(tag: LangTag<'a>) -> Option<NormalLangTag<'a>>
 /// Returns a tag from its extended language on: `yue-HK` for `zh-yue-HK`. Returns `None` if the extended language is not
 /// registered, or not the only one.
 fn from_extlang<'a>(tag: NormalLangTag<'a>) -> Option<LangTag<'a>>
-    ensures some { IfSome result (λ rest. EachRecord (normal_lang_tag_text tag.entry) (λ r. Spells (spec.extlang_replaced r) (lang_tag_text rest))) }
+    ensures some { IfSome result (λ rest. EachRecord (normal_lang_tag_text tag.entry)
+        (λ r. Spells (spec.extlang_replaced r) (lang_tag_text rest))) }
     ensures none { result ≡ None → EachRecord (normal_lang_tag_text tag.entry) (λ r. spec.extlang_replaced r ≡ r) }
 {
     let language = tag.language();

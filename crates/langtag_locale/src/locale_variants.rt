@@ -51,7 +51,8 @@ fn offer_forms<const ROOM: usize>(
     variants: Option<&str>,
 )
     requires { AreVariants (segments_left variants) }
-    ensures { IsOffered (map order_number (spec.forms language.now (segments_left variants.entry) (segments_left variants.entry))) least.old least.new }
+    ensures { IsOffered (map order_number (spec.forms language.now (segments_left variants.entry) (segments_left variants.entry)))
+        least.old least.new }
 {
     let mut rest = variants;
     while let Some(text) = rest {
@@ -69,7 +70,8 @@ fn offer_form<const ROOM: usize>(
     variant: &str,
 )
     requires { IsTrue (is_variant variant.now) }
-    ensures { IsOffered (map order_number (one_flat (subtag_of (spec.variant_form language.now (segments_left variants.entry) variant.now)))) least.old least.new }
+    ensures { IsOffered (map order_number
+        (one_flat (subtag_of (spec.variant_form language.now (segments_left variants.entry) variant.now)))) least.old least.new }
 {
     let number = order_number(variant.as_bytes());
     if may_change(number) {
@@ -80,7 +82,8 @@ fn offer_form<const ROOM: usize>(
 
 /// Returns whether the variant with this number may have another form. Most variants never do, and this is a quick test.
 fn may_change(number: u64) -> bool
-    ensures { result ≡ false → (variant : List ℕ) → order_number variant ≡ number → (language : List ℕ) (variants : List (List ℕ)) → spec.variant_form language variants variant ≡ variant }
+    ensures { result ≡ false → (variant : List ℕ) → order_number variant ≡ number → (language : List ℕ) (variants : List (List ℕ))
+        → spec.variant_form language variants variant ≡ variant }
 {
     tables::CHANGING_VARIANTS.contains(&number)
 }
@@ -116,7 +119,8 @@ fn variant_form<'a>(language: &[u8], variants: Option<&str>, variant: &'a str) -
 
 /// Returns the variant that replaces a variant together with another variant.
 fn replaced_pair(variant: &str, variants: Option<&str>) -> Option<&'static str>
-    ensures { option_map (λ t. t.now) result ≡ option_map (λ alias. alias.new) (find (spec.is_pair_of (segments_left variants.entry) variant.now) list.variant_pairs) }
+    ensures { option_map (λ t. t.now) result
+        ≡ option_map (λ alias. alias.new) (find (spec.is_pair_of (segments_left variants.entry) variant.now) list.variant_pairs) }
 {
     let mut rows = variant_pairs();
     while let [(first, second, new), others @ ..] = rows {

@@ -5,10 +5,10 @@ use Rattle.langtag_canonical.proofs.canonical_form.counted_bytes.Goals as goal
 pub returns : goal.returns
 returns c = λ r spells.
     let before = c.deref_mut.result.now in
-    let after = c.write_parts-2.new.buffer in
+    let after = c.write_canonical_parts-2.new.buffer in
     let n = c.in_ok-bytes.bytes.len in
-    let first = c.write_parts.ensures.form r spells in
-    let second = c.write_parts-2.ensures.form r spells in
+    let first = c.write_canonical_parts.ensures.form r spells in
+    let second = c.write_canonical_parts-2.ensures.form r spells in
     let same : n ≡ length second.text = omega (arith, first.whole, c.in_ok-bytes.ensures.len, c.in_ok-bytes.bytes.ok, ap length first.is_so, ap length second.is_so) in
     let room : length before ≡ length second.text = omega (arith, same, ap length c.deref_mut.ensures.value, c.in_ok-bytes.bytes.ok) in
     let none : drop (length second.text) before ≡ [] = drop_all (length second.text) before (omega (arith, room)) in

@@ -13,11 +13,11 @@ returns-then-is_at c = λ es spells.
     left-opens (ArePut put (flat_map extension_flat (with_changed_u change es)) c.args.out.now c.loop-extension.out) _ (c.loop-extension.invariant es spells) (extensions_left c.next.new.self)
     (extension_text c.in-Some.extension) c.in-Some.ensures.steps in
     let others = o.others.left in
-    o.others.holds c.push_extensions.new.out
-    (pushes_same (flat_map extension_flat (at_place change stands o.first) ++ flat_map extension_flat others) _ c.loop-extension.out c.push_extensions.new.out
+    o.others.holds c.push_rest.new.out
+    (pushes_same (flat_map extension_flat (at_place change stands o.first) ++ flat_map extension_flat others) _ c.loop-extension.out c.push_rest.new.out
     (sym (u-here change stands o.first others (sym (c.is_at.ensures o.first o.spells) ∙ c.if-is_at.true)))
-    (pushes_both (flat_map extension_flat (at_place change stands o.first)) (flat_map extension_flat others) c.loop-extension.out c.push_at.new.out c.push_extensions.new.out
-    (c.push_at.ensures o.first o.spells) (c.push_extensions.ensures others o.others.members o.others.spelled)))
+    (pushes_both (flat_map extension_flat (at_place change stands o.first)) (flat_map extension_flat others) c.loop-extension.out c.push_at.new.out c.push_rest.new.out
+    (c.push_at.ensures o.first o.spells) (c.push_rest.ensures others o.others.members o.others.spelled)))
 
 pub loop-extension-preserved : goal.loop-extension-preserved
 loop-extension-preserved c =

@@ -6,4 +6,4 @@ pub returns : goal.returns
 returns c =
     let ss = subtags c.args.text.now in
     pushes_both ((116 ∷ []) ∷ []) (locale_transform_form ss) _ _ _ c.push_subtag.ensures
-    (pushes_both (transform_language_form (before_key is_field_key ss)) (keywords_form is_field_key transform_value ss) _ _ _ c.push_language.ensures c.push_keywords.ensures)
+    (pushes_both (transform_language_form (before_key is_field_key ss)) (keywords_form is_field_key transform_value ss) _ _ _ c.push_locale_language.ensures c.push_keywords.ensures)

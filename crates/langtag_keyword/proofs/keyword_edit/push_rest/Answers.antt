@@ -1,6 +1,6 @@
 use Rattle.langtag_keyword.proofs.Common.{refl, flat_map, extension_text, extensions_left, extension_flat, pushes_ended}
 use Rattle.langtag_keyword.proofs.ExtensionsPut.{extension-pushed, left-next, left-none}
-use Rattle.langtag_keyword.proofs.keyword_edit.push_extensions.Goals as goal
+use Rattle.langtag_keyword.proofs.keyword_edit.push_rest.Goals as goal
 
 pub loop-extension-preserved : goal.loop-extension-preserved
 loop-extension-preserved c = record {

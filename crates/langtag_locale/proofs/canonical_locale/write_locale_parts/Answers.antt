@@ -5,7 +5,7 @@ use Rattle.std.proofs.lemmas.Slice.{drop-append-drop}
 use Rattle.langtag_text.specs.RecommendedCase.{recommended_text}
 use Rattle.langtag_locale.specs.LocaleForm.{locale_record, locale_text}
 use Rattle.langtag_locale.proofs.IdentifierForms.{same_length}
-use Rattle.langtag_locale.proofs.canonical_locale.write_parts.Goals as goal
+use Rattle.langtag_locale.proofs.canonical_locale.write_locale_parts.Goals as goal
 
 pub returns : goal.returns
 unfolding locale_text

@@ -1,7 +1,7 @@
 use Rattle.langtag_scan.proofs.Prelude.{sym, ap, ◌∙◌, arith, eq-eqb, ne_eqb, common_steps}
 use Rattle.langtag.specs.Definitions.{extension_text, extensions_left, of_singleton, small_singleton}
 use Rattle.langtag_text.proofs.Pushed.{pushes_same, pushes_next, pushes_ended}
-use Rattle.langtag_canonical.proofs.canonical_parts.push_extensions_of.Goals as goal
+use Rattle.langtag_canonical.proofs.canonical_parts.push_singleton.Goals as goal
 
 pub loop-extension-init : goal.loop-extension-init
 loop-extension-init c = grind (arith, common_steps, pushes_same)

@@ -5,7 +5,7 @@ use Rattle.langtag_canonical.specs.Canonical.{canonical_language}
 use Rattle.langtag_fields.specs.Fields.{preferred_language}
 use Rattle.langtag_canonical.proofs.ReplacedSubtags.{several_pushed, extlang_pushed, other_pushed, view_of}
 use Rattle.langtag_text.proofs.Pushed.{pushes_same}
-use Rattle.langtag_canonical.proofs.canonical_parts.push_language.Goals as goal
+use Rattle.langtag_canonical.proofs.canonical_parts.push_canonical_language.Goals as goal
 
 pub returns-in_default-next : goal.returns-in_default-next
 returns-in_default-next c = λ primary extended spells.

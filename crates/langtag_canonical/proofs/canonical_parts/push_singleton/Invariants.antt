@@ -4,7 +4,7 @@ use Rattle.langtag.specs.Definitions.{SpellsExtensions, extensions_text, extensi
 use Rattle.langtag_text.specs.declared.output.Output.{Output}
 use Rattle.langtag_text.specs.Output.{Pushes}
 use Rattle.langtag_canonical.proofs.ExtensionOrder.{spellings}
-use Rattle.langtag_canonical.proofs.canonical_parts.push_extensions_of.Given as goal
+use Rattle.langtag_canonical.proofs.canonical_parts.push_singleton.Given as goal
 
 -- those of the singleton in the rest are put after those before it
 abbrev pub invariant-loop-extension : goal.invariant-loop-extension

@@ -1,6 +1,6 @@
 use Rattle.langtag_keyword.proofs.Common.{◌≡◌, List, map, AllByRecursion, flat_map, extension_spelling, extensions_left, Extension, IsWellFormedExtension, extension_flat}
 use Rattle.langtag_keyword.proofs.ExtensionsPut.{AreLeft, ArePut}
-use Rattle.langtag_keyword.proofs.keyword_edit.push_extensions.Given as goal
+use Rattle.langtag_keyword.proofs.keyword_edit.push_rest.Given as goal
 
 -- those that are left are put after those before them
 abbrev pub invariant-loop-extension : goal.invariant-loop-extension

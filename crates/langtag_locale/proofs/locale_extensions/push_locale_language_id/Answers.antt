@@ -1,7 +1,7 @@
 use Rattle.langtag_keyword.proofs.Common.{◌≡◌, sym, ap, subst, ◌∙◌, is_region, is_script, segments_left, after_one, are_different_variants, is_unicode_language, both}
 use Rattle.langtag_keyword.specs.Form.{is_language_id}
 use Rattle.langtag_keyword.proofs.IdentifierParts.{AreVariants, different_variants}
-use Rattle.langtag_locale.proofs.locale_extensions.push_language_id.Goals as goal
+use Rattle.langtag_locale.proofs.locale_extensions.push_locale_language_id.Goals as goal
 
 pub push_identifier-requires : goal.push_identifier-requires
 push_identifier-requires c =

@@ -2,7 +2,7 @@ use Rattle.langtag_scan.proofs.Prelude.{◌≡◌, ◌≤◌, ◌∷◌, [], fal
 use Rattle.langtag.specs.Definitions.{extensions_text, of_singleton}
 use Rattle.langtag_canonical.proofs.ExtensionOrder.{spellings, left_from, left_from-ends, pushes_one_more, spelled_in_order, none_in_order, all_in_order}
 use Rattle.langtag_text.proofs.Pushed.{pushes_same, pushes_ended}
-use Rattle.langtag_canonical.proofs.canonical_parts.push_extensions.Goals as goal
+use Rattle.langtag_canonical.proofs.canonical_parts.push_ordered.Goals as goal
 
 pub returns-then-is_empty : goal.returns-then-is_empty
 returns-then-is_empty c = λ es spells.
@@ -31,7 +31,7 @@ loop-singleton-preserved-then-not-present-from c =
 pub loop-singleton-preserved : goal.loop-singleton-preserved
 loop-singleton-preserved c =
     λ es spells new these.
-    c.loop-singleton.invariant es spells new (pushes_one_more c.loop-singleton.singleton (spellings es) _ _ new (c.push_extensions_of.ensures es spells) these)
+    c.loop-singleton.invariant es spells new (pushes_one_more c.loop-singleton.singleton (spellings es) _ _ new (c.push_singleton.ensures es spells) these)
 
 pub returns : goal.returns
 returns c =
