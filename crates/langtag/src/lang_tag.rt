@@ -1,8 +1,11 @@
 //! Language tags of every kind: rule `Language-Tag` of RFC 5646 section 2.1.
-ghost use Rattle.std.specs.Prelude.{◌≡◌, ◌↔◌, ◌<◌, ◌^◌, ℕ, List, [], Some, None, IsTrue, IfOk, IfErr, IfSome, is_ok, is_some, length, option_map};
+ghost use Rattle.std.specs.Prelude.{◌≡◌, ◌↔◌, ◌<◌, ◌^◌, ℕ, List, [], Some, None, IsTrue, IfOk};
+ghost use Rattle.std.specs.Prelude.{IfErr, IfSome, is_ok, is_some, length, option_map};
 ghost use Rattle.langtag_text.specs.RecommendedCase.{recommended_text};
 ghost use Rattle.langtag_text.specs.Text.{in_recommended_case_text};
-ghost use Rattle.langtag_scan.specs.Grammar.{IsSpelledAlike, EndsFirst, are_alike, case_cmp, IsFoundOf, language_part, variants_part, extensions_part, private_use_part, private_use_subtags, EachRecord, flat, spell, subtags, IsNormal, IsPrivate, IsIrregular, IsTag};
+ghost use Rattle.langtag_scan.specs.Grammar.{IsSpelledAlike, EndsFirst, are_alike, case_cmp, IsFoundOf, language_part};
+ghost use Rattle.langtag_scan.specs.Grammar.{variants_part, extensions_part, private_use_part, private_use_subtags};
+ghost use Rattle.langtag_scan.specs.Grammar.{EachRecord, flat, spell, subtags, IsNormal, IsPrivate, IsIrregular, IsTag};
 ghost use Rattle.langtag.specs.Edit.{base_record};
 ghost use Rattle.langtag.specs.Recognised.{finding_of};
 

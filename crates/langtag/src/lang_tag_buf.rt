@@ -1,5 +1,6 @@
 //! Language tags of every kind that own their text.
-ghost use Rattle.std.specs.Prelude.{◌≡◌, ◌↔◌, ◌≤◌, ℕ, List, [], Some, IsTrue, IsNone, IsOk, IsErrOf, IfOk, IfErr, OnOk, OnErr, is_ok, option_map, string_bytes, string_capacity};
+ghost use Rattle.std.specs.Prelude.{◌≡◌, ◌↔◌, ◌≤◌, ℕ, List, [], Some, IsTrue, IsNone, IsOk, IsErrOf, IfOk};
+ghost use Rattle.std.specs.Prelude.{IfErr, OnOk, OnErr, is_ok, option_map, string_bytes, string_capacity};
 ghost use Rattle.langtag_scan.specs.Prelude.{string_vec, SameBlock};
 ghost use Rattle.langtag_text.specs.RecommendedCase.{recommended_record, recommended_text};
 ghost use Rattle.langtag_scan.specs.Grammar.{IsSpelledAlike, Alike, IsFoundOf, EachRecord, spell, IsNormal, IsTag};
@@ -8,7 +9,9 @@ ghost use Rattle.langtag_place.specs.Text.{script_text, region_text, variants_te
 ghost use Rattle.langtag_extension.specs.Text.{extensions_text};
 ghost use Rattle.langtag_private.specs.Text.{private_use_text};
 ghost use Rattle.langtag.specs.Recognised.{finding_of};
-ghost use Rattle.langtag.specs.Edit.{ComesBack, with_language, with_script, with_region, with_variants, with_extensions, with_private_use, SetsLanguage, SetsScript, SetsRegion, SetsVariants, SetsExtensions, SetsPrivateUse};
+ghost use Rattle.langtag.specs.Edit.{ComesBack, with_language, with_script, with_region, with_variants};
+ghost use Rattle.langtag.specs.Edit.{with_extensions, with_private_use, SetsLanguage, SetsScript};
+ghost use Rattle.langtag.specs.Edit.{SetsRegion, SetsVariants, SetsExtensions, SetsPrivateUse};
 
 use crate::edit::set_part;
 use crate::lang_tag::{InvalidLangTag, LangTag};
@@ -48,7 +51,8 @@ pub struct LangTagBuf {
 impl LangTagBuf {
     ghost use Rattle.langtag.specs.Compared.{LangTagBufsCompareByCase};
     ghost use Rattle.langtag.specs.Kinds.{AreOfOneKind};
-    ghost use Rattle.langtag.specs.Text.{lang_tag_text, lang_tag_buf_string, lang_tag_buf_text, normal_lang_tag_buf_string, normal_lang_tag_buf_text};
+    ghost use Rattle.langtag.specs.Text.{lang_tag_text, lang_tag_buf_string, lang_tag_buf_text};
+    ghost use Rattle.langtag.specs.Text.{normal_lang_tag_buf_string, normal_lang_tag_buf_text};
 
     /// Parses a `String` as a language tag and keeps it, without copying.
     ///
@@ -156,7 +160,8 @@ impl LangTagBuf {
     pub fn make_recommended_case(&mut self)
         ensures case { lang_tag_buf_text self.new ≡ recommended_text (lang_tag_buf_text self.old) }
         ensures same_block { SameBlock (string_vec (lang_tag_buf_string self.old)) (string_vec (lang_tag_buf_string self.new)) }
-        ensures record { EachRecord (lang_tag_buf_text self.old) (λ r. lang_tag_buf_text self.new ≡ spell (recommended_record r)) }
+        ensures record { EachRecord (lang_tag_buf_text self.old)
+            (λ r. lang_tag_buf_text self.new ≡ spell (recommended_record r)) }
         ensures alike { Alike (lang_tag_buf_text self.old) (lang_tag_buf_text self.new) }
         // law: equal texts, ignoring case, are of the same kind
         ensures same_kind { AreOfOneKind (lang_tag_buf_text self.old) (lang_tag_buf_text self.new) }
@@ -189,10 +194,12 @@ impl LangTagBuf {
     /// tag.as_str(); // "zh-yue-IT"
     /// ```
     pub fn set_language(&mut self, alloc: Global, language: Language<'_>) -> Result<(), EditError>
-        ensures set { OnOk result (SetsLanguage (language_text language.entry) (lang_tag_buf_text self.old) (lang_tag_buf_text self.new)) }
+        ensures set { OnOk result (SetsLanguage (language_text language.entry) (lang_tag_buf_text self.old)
+            (lang_tag_buf_text self.new)) }
         ensures not_normal { IsErrOf result EditError.NotNormal ↔ (IsNormal (lang_tag_buf_text self.old) → ⊥) }
         ensures unchanged { OnErr result (self.new ≡ self.old) }
-        ensures comes_back { OnOk result (ComesBack (λ new old. with_language new old.primary old.extended) (lang_tag_buf_text self.old) (lang_tag_buf_text self.new)) }
+        ensures comes_back { OnOk result (ComesBack (λ new old. with_language new old.primary old.extended)
+            (lang_tag_buf_text self.old) (lang_tag_buf_text self.new)) }
 
         ensures cloned { (error copy : EditError) → ⟦<EditError as Clone>⟧.is_clone error copy → copy ≡ error }
         ensures clone_succeeds { (error : EditError) → ⟦<EditError as Clone>⟧.is_infallible error }
@@ -215,15 +222,18 @@ impl LangTagBuf {
     /// tag.as_str(); // "sl-Latn-IT"
     /// ```
     pub fn set_script(&mut self, alloc: Global, script: Option<Script<'_>>) -> Result<(), EditError>
-        ensures set { OnOk result (SetsScript (option_map script_text script.entry) (lang_tag_buf_text self.old) (lang_tag_buf_text self.new)) }
+        ensures set { OnOk result (SetsScript (option_map script_text script.entry) (lang_tag_buf_text self.old)
+            (lang_tag_buf_text self.new)) }
         // law: this error is returned if and only if the tag is not normal
         ensures not_normal { IsErrOf result EditError.NotNormal ↔ (IsNormal (lang_tag_buf_text self.old) → ⊥) }
         // law: after an error the tag is as it was
         ensures unchanged { OnErr result (self.new ≡ self.old) }
-        ensures comes_back { OnOk result (ComesBack (λ new old. with_script new old.script) (lang_tag_buf_text self.old) (lang_tag_buf_text self.new)) }
+        ensures comes_back { OnOk result (ComesBack (λ new old. with_script new old.script) (lang_tag_buf_text self.old)
+            (lang_tag_buf_text self.new)) }
         // law: removing a part of a normal tag is Ok
         ensures taken_out { IsNone script.entry → IsNormal (lang_tag_buf_text self.old) → IsOk result }
-        ensures room_kept { IsNone script.entry → string_capacity (lang_tag_buf_string self.old) ≤ string_capacity (lang_tag_buf_string self.new) }
+        ensures room_kept { IsNone script.entry → string_capacity (lang_tag_buf_string self.old)
+            ≤ string_capacity (lang_tag_buf_string self.new) }
     {
         self.put(alloc, Part::Script(script))
     }
@@ -244,12 +254,15 @@ impl LangTagBuf {
     /// tag.as_str(); // "de-AT-1996"
     /// ```
     pub fn set_region(&mut self, alloc: Global, region: Option<Region<'_>>) -> Result<(), EditError>
-        ensures set { OnOk result (SetsRegion (option_map region_text region.entry) (lang_tag_buf_text self.old) (lang_tag_buf_text self.new)) }
+        ensures set { OnOk result (SetsRegion (option_map region_text region.entry) (lang_tag_buf_text self.old)
+            (lang_tag_buf_text self.new)) }
         ensures not_normal { IsErrOf result EditError.NotNormal ↔ (IsNormal (lang_tag_buf_text self.old) → ⊥) }
         ensures unchanged { OnErr result (self.new ≡ self.old) }
-        ensures comes_back { OnOk result (ComesBack (λ new old. with_region new old.region) (lang_tag_buf_text self.old) (lang_tag_buf_text self.new)) }
+        ensures comes_back { OnOk result (ComesBack (λ new old. with_region new old.region) (lang_tag_buf_text self.old)
+            (lang_tag_buf_text self.new)) }
         ensures taken_out { IsNone region.entry → IsNormal (lang_tag_buf_text self.old) → IsOk result }
-        ensures room_kept { IsNone region.entry → string_capacity (lang_tag_buf_string self.old) ≤ string_capacity (lang_tag_buf_string self.new) }
+        ensures room_kept { IsNone region.entry → string_capacity (lang_tag_buf_string self.old)
+            ≤ string_capacity (lang_tag_buf_string self.new) }
     {
         self.put(alloc, Part::Region(region))
     }
@@ -270,12 +283,15 @@ impl LangTagBuf {
     /// tag.as_str(); // "de-AT-1996"
     /// ```
     pub fn set_variants(&mut self, alloc: Global, variants: Variants<'_>) -> Result<(), EditError>
-        ensures set { OnOk result (SetsVariants (variants_text variants.entry) (lang_tag_buf_text self.old) (lang_tag_buf_text self.new)) }
+        ensures set { OnOk result (SetsVariants (variants_text variants.entry) (lang_tag_buf_text self.old)
+            (lang_tag_buf_text self.new)) }
         ensures not_normal { IsErrOf result EditError.NotNormal ↔ (IsNormal (lang_tag_buf_text self.old) → ⊥) }
         ensures unchanged { OnErr result (self.new ≡ self.old) }
-        ensures comes_back { OnOk result (ComesBack (λ new old. with_variants new old.variants) (lang_tag_buf_text self.old) (lang_tag_buf_text self.new)) }
+        ensures comes_back { OnOk result (ComesBack (λ new old. with_variants new old.variants) (lang_tag_buf_text self.old)
+            (lang_tag_buf_text self.new)) }
         ensures taken_out { variants_text variants.entry ≡ [] → IsNormal (lang_tag_buf_text self.old) → IsOk result }
-        ensures room_kept { variants_text variants.entry ≡ [] → string_capacity (lang_tag_buf_string self.old) ≤ string_capacity (lang_tag_buf_string self.new) }
+        ensures room_kept { variants_text variants.entry ≡ []
+            → string_capacity (lang_tag_buf_string self.old) ≤ string_capacity (lang_tag_buf_string self.new) }
     {
         self.put(alloc, Part::Variants(variants))
     }
@@ -300,12 +316,15 @@ impl LangTagBuf {
         alloc: Global,
         extensions: Extensions<'_>,
     ) -> Result<(), EditError>
-        ensures set { OnOk result (SetsExtensions (extensions_text extensions.entry) (lang_tag_buf_text self.old) (lang_tag_buf_text self.new)) }
+        ensures set { OnOk result (SetsExtensions (extensions_text extensions.entry) (lang_tag_buf_text self.old)
+            (lang_tag_buf_text self.new)) }
         ensures not_normal { IsErrOf result EditError.NotNormal ↔ (IsNormal (lang_tag_buf_text self.old) → ⊥) }
         ensures unchanged { OnErr result (self.new ≡ self.old) }
-        ensures comes_back { OnOk result (ComesBack (λ new old. with_extensions new old.extensions) (lang_tag_buf_text self.old) (lang_tag_buf_text self.new)) }
+        ensures comes_back { OnOk result (ComesBack (λ new old. with_extensions new old.extensions) (lang_tag_buf_text self.old)
+            (lang_tag_buf_text self.new)) }
         ensures taken_out { extensions_text extensions.entry ≡ [] → IsNormal (lang_tag_buf_text self.old) → IsOk result }
-        ensures room_kept { extensions_text extensions.entry ≡ [] → string_capacity (lang_tag_buf_string self.old) ≤ string_capacity (lang_tag_buf_string self.new) }
+        ensures room_kept { extensions_text extensions.entry ≡ []
+            → string_capacity (lang_tag_buf_string self.old) ≤ string_capacity (lang_tag_buf_string self.new) }
     {
         self.put(alloc, Part::Extensions(extensions))
     }
@@ -330,12 +349,15 @@ impl LangTagBuf {
         alloc: Global,
         private_use: Option<PrivateUse<'_>>,
     ) -> Result<(), EditError>
-        ensures set { OnOk result (SetsPrivateUse (option_map private_use_text private_use.entry) (lang_tag_buf_text self.old) (lang_tag_buf_text self.new)) }
+        ensures set { OnOk result (SetsPrivateUse (option_map private_use_text private_use.entry) (lang_tag_buf_text self.old)
+            (lang_tag_buf_text self.new)) }
         ensures not_normal { IsErrOf result EditError.NotNormal ↔ (IsNormal (lang_tag_buf_text self.old) → ⊥) }
         ensures unchanged { OnErr result (self.new ≡ self.old) }
-        ensures comes_back { OnOk result (ComesBack (λ new old. with_private_use new old.private_use) (lang_tag_buf_text self.old) (lang_tag_buf_text self.new)) }
+        ensures comes_back { OnOk result (ComesBack (λ new old. with_private_use new old.private_use) (lang_tag_buf_text self.old)
+            (lang_tag_buf_text self.new)) }
         ensures taken_out { IsNone private_use.entry → IsNormal (lang_tag_buf_text self.old) → IsOk result }
-        ensures room_kept { IsNone private_use.entry → string_capacity (lang_tag_buf_string self.old) ≤ string_capacity (lang_tag_buf_string self.new) }
+        ensures room_kept { IsNone private_use.entry
+            → string_capacity (lang_tag_buf_string self.old) ≤ string_capacity (lang_tag_buf_string self.new) }
     {
         self.put(alloc, Part::PrivateUse(private_use))
     }
@@ -349,11 +371,13 @@ impl LangTagBuf {
     /// Sets a part of a normal tag, or removes it.
     fn put(&mut self, alloc: Global, part: Part<'_>) -> Result<(), EditError>
         ensures set { OnOk result (SetsPart part.entry (lang_tag_buf_text self.old) (lang_tag_buf_text self.new)) }
-        ensures comes_back { OnOk result (ComesBack (with_old_part part.entry) (lang_tag_buf_text self.old) (lang_tag_buf_text self.new)) }
+        ensures comes_back { OnOk result (ComesBack (with_old_part part.entry) (lang_tag_buf_text self.old)
+            (lang_tag_buf_text self.new)) }
         ensures not_normal { IsErrOf result EditError.NotNormal ↔ (IsNormal (lang_tag_buf_text self.old) → ⊥) }
         ensures unchanged { OnErr result (self.new ≡ self.old) }
         ensures taken_out { part_text part.entry ≡ [] → IsNormal (lang_tag_buf_text self.old) → IsOk result }
-        ensures room_kept { part_text part.entry ≡ [] → string_capacity (lang_tag_buf_string self.old) ≤ string_capacity (lang_tag_buf_string self.new) }
+        ensures room_kept { part_text part.entry ≡ []
+            → string_capacity (lang_tag_buf_string self.old) ≤ string_capacity (lang_tag_buf_string self.new) }
     {
         let Some(ends) = self.found.ends() else {
             return Err(EditError::NotNormal);

@@ -36,6 +36,7 @@
 #![tactic(auto)]
 
 mod edit;
+mod fields;
 mod grandfathered;
 mod kind;
 mod lang_tag;
@@ -93,7 +94,8 @@ pub use private_use_lang_tag::{PrivateUseLangTag, PrivateUseLangTagBuf};
 pub use refusal::{Refusal, RefusalKind};
 pub use typed_lang_tag::TypedLangTag;
 
-// For the crates above that write or make tags.
+// For this repository.
+pub use fields::{region_field, script_field};
 pub use part::write_part;
 pub use push::push_private_use;
 pub use written::tag_of;

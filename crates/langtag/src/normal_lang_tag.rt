@@ -1,8 +1,12 @@
 //! Normal tags, which are made of parts: rule `langtag` of RFC 5646 section 2.1.
-ghost use Rattle.std.specs.Prelude.{◌≡◌, ◌↔◌, ◌<◌, ◌≤◌, ◌^◌, ℕ, List, [], Some, IsTrue, IfOk, IfErr, is_ok, length, take, map, unwrap_or, option_map};
+ghost use Rattle.std.specs.Prelude.{◌≡◌, ◌↔◌, ◌<◌, ◌≤◌, ◌^◌, ℕ, List, [], Some, IsTrue, IfOk};
+ghost use Rattle.std.specs.Prelude.{IfErr, is_ok, length, take, map, unwrap_or, option_map};
 ghost use Rattle.langtag_text.specs.RecommendedCase.{recommended_text};
 ghost use Rattle.langtag_text.specs.Text.{in_recommended_case_text};
-ghost use Rattle.langtag_scan.specs.Grammar.{IsSpelledAlike, EndsFirst, are_alike, case_cmp, ends_of, HasEnds, language_part, variants_part, extensions_part, private_use_part, private_use_subtags, parts, text_between, Record, EachRecord, IsWellFormed, flat, spell, join, subtags, IsNormal};
+ghost use Rattle.langtag_scan.specs.Grammar.{IsSpelledAlike, EndsFirst, are_alike, case_cmp, ends_of, HasEnds};
+ghost use Rattle.langtag_scan.specs.Grammar.{language_part, variants_part, extensions_part, private_use_part};
+ghost use Rattle.langtag_scan.specs.Grammar.{private_use_subtags, parts, text_between, Record, EachRecord};
+ghost use Rattle.langtag_scan.specs.Grammar.{IsWellFormed, flat, spell, join, subtags, IsNormal};
 ghost use Rattle.langtag.specs.Edit.{base_record};
 ghost use Rattle.langtag.specs.Offsets.{PartsStandIn};
 ghost use Rattle.langtag_place.specs.Repeat.{repeat, repeat_index, IsFirstRepeat, IsFirstRepeatAt, are_alike_bytes};
@@ -381,7 +385,8 @@ impl<'a> NormalLangTag<'a> {
     /// ```
     #[tactic(auto, using(langtag_place::proofs::RepeatLaws::repeat_laws, langtag_scan::proofs::SpelledTexts::offsets_kept))]
     pub fn repeated_variant(&self) -> Option<Variant<'a>>
-        ensures repeated { EachRecord (normal_lang_tag_text self.now) (λ r. option_map variant_text result ≡ repeat are_alike r.variants) }
+        ensures repeated { EachRecord (normal_lang_tag_text self.now)
+            (λ r. option_map variant_text result ≡ repeat are_alike r.variants) }
         // law: `repeat` finds the first element that equals an earlier one
         ensures first { (variants : List (List ℕ)) → IsFirstRepeat are_alike variants (repeat are_alike variants) }
     {
@@ -441,7 +446,8 @@ impl<'a> NormalLangTag<'a> {
         ensures repeated { EachRecord (normal_lang_tag_text self.now) (λ r.
             result ≡ repeat_index are_alike_bytes (map (λ e. e.singleton) r.extensions)) }
         // law: `repeat` finds the first element that equals an earlier one
-        ensures first { (singletons : List ℕ) → IsFirstRepeatAt are_alike_bytes singletons (repeat_index are_alike_bytes singletons) }
+        ensures first { (singletons : List ℕ)
+            → IsFirstRepeatAt are_alike_bytes singletons (repeat_index are_alike_bytes singletons) }
     {
         first_repeated_singleton(self.extensions())
     }

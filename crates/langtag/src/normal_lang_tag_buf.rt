@@ -1,15 +1,19 @@
 //! Normal tags that own their text.
-ghost use Rattle.std.specs.Prelude.{◌≡◌, ◌↔◌, ◌≤◌, ℕ, List, [], Option, Some, IsTrue, IsNone, IsOk, IfOk, IfErr, OnOk, OnErr, is_ok, option_map, string_bytes, string_capacity};
+ghost use Rattle.std.specs.Prelude.{◌≡◌, ◌↔◌, ◌≤◌, ℕ, List, [], Option, Some, IsTrue, IsNone, IsOk, IfOk};
+ghost use Rattle.std.specs.Prelude.{IfErr, OnOk, OnErr, is_ok, option_map, string_bytes, string_capacity};
 ghost use Rattle.langtag_scan.specs.Prelude.{string_vec, SameBlock};
 ghost use Rattle.langtag_text.specs.RecommendedCase.{recommended_record, recommended_text};
-ghost use Rattle.langtag_scan.specs.Grammar.{IsSpelledAlike, Alike, HasEnds, language_part, variants_part, extensions_part, private_use_part, EachRecord, Extension, Spells, spell, IsNormal};
+ghost use Rattle.langtag_scan.specs.Grammar.{IsSpelledAlike, Alike, HasEnds, language_part, variants_part, extensions_part};
+ghost use Rattle.langtag_scan.specs.Grammar.{private_use_part, EachRecord, Extension, Spells, spell, IsNormal};
 ghost use Rattle.langtag_scan.specs.Record as model;
 ghost use Rattle.langtag_language.specs.Language.{EachLanguageSpelling};
 ghost use Rattle.langtag_language.specs.Text.{language_text};
 ghost use Rattle.langtag_place.specs.Text.{script_text, region_text, variants_text};
 ghost use Rattle.langtag_extension.specs.Text.{extensions_text};
 ghost use Rattle.langtag_private.specs.Text.{private_use_text};
-ghost use Rattle.langtag.specs.Edit.{GivesBack, ComesBack, of_parts, with_language, with_script, with_region, with_variants, with_extensions, with_private_use, SetsLanguage, SetsScript, SetsRegion, SetsVariants, SetsExtensions, SetsPrivateUse};
+ghost use Rattle.langtag.specs.Edit.{GivesBack, ComesBack, of_parts, with_language, with_script, with_region};
+ghost use Rattle.langtag.specs.Edit.{with_variants, with_extensions, with_private_use, SetsLanguage, SetsScript};
+ghost use Rattle.langtag.specs.Edit.{SetsRegion, SetsVariants, SetsExtensions, SetsPrivateUse};
 
 use crate::edit::set_part;
 use crate::lang_tag_buf::LangTagBuf;
@@ -49,7 +53,8 @@ pub struct NormalLangTagBuf {
 #[tactic(auto, using(langtag_scan::proofs::SpelledTexts::offsets_kept))]
 impl NormalLangTagBuf {
     ghost use Rattle.langtag.specs.Compared.{NormalLangTagBufsCompareByCase};
-    ghost use Rattle.langtag.specs.Text.{normal_lang_tag_text, normal_lang_tag_buf_string, normal_lang_tag_buf_text, lang_tag_buf_string, lang_tag_buf_text};
+    ghost use Rattle.langtag.specs.Text.{normal_lang_tag_text, normal_lang_tag_buf_string};
+    ghost use Rattle.langtag.specs.Text.{normal_lang_tag_buf_text, lang_tag_buf_string, lang_tag_buf_text};
 
     /// Parses a `String` as a normal tag and keeps it, without copying.
     ///
@@ -185,11 +190,14 @@ impl NormalLangTagBuf {
     /// ```
     pub fn make_recommended_case(&mut self)
         ensures case { normal_lang_tag_buf_text self.new ≡ recommended_text (normal_lang_tag_buf_text self.old) }
-        ensures same_block { SameBlock (string_vec (normal_lang_tag_buf_string self.old)) (string_vec (normal_lang_tag_buf_string self.new)) }
-        ensures record { EachRecord (normal_lang_tag_buf_text self.old) (λ r. normal_lang_tag_buf_text self.new ≡ spell (recommended_record r)) }
+        ensures same_block { SameBlock (string_vec (normal_lang_tag_buf_string self.old))
+            (string_vec (normal_lang_tag_buf_string self.new)) }
+        ensures record { EachRecord (normal_lang_tag_buf_text self.old)
+            (λ r. normal_lang_tag_buf_text self.new ≡ spell (recommended_record r)) }
         ensures alike { Alike (normal_lang_tag_buf_text self.old) (normal_lang_tag_buf_text self.new) }
         // law: equal texts, ignoring case, have equal parts at the same offsets
-        ensures alike_parts { EachRecord (normal_lang_tag_buf_text self.old) (λ r. IsSpelledAlike r (normal_lang_tag_buf_text self.new)) }
+        ensures alike_parts { EachRecord (normal_lang_tag_buf_text self.old)
+            (λ r. IsSpelledAlike r (normal_lang_tag_buf_text self.new)) }
     {
         put_recommended_case(&mut self.text.0);
     }
@@ -211,10 +219,13 @@ impl NormalLangTagBuf {
     /// tag.as_str(); // "zh-yue-IT"
     /// ```
     pub fn set_language(&mut self, alloc: Global, language: Language<'_>) -> Result<(), AllocError>
-        ensures set { OnOk result (SetsLanguage (language_text language.entry) (normal_lang_tag_buf_text self.old) (normal_lang_tag_buf_text self.new)) }
+        ensures set { OnOk result (SetsLanguage (language_text language.entry) (normal_lang_tag_buf_text self.old)
+            (normal_lang_tag_buf_text self.new)) }
         ensures unchanged { OnErr result (self.new ≡ self.old) }
-        ensures comes_back { OnOk result (ComesBack (λ new old. with_language new old.primary old.extended) (normal_lang_tag_buf_text self.old) (normal_lang_tag_buf_text self.new)) }
-        ensures set_back { GivesBack (List ℕ × List (List ℕ)) (λ r m. with_language r m.0 m.1) (λ r. SetsLanguage (language_part r)) }
+        ensures comes_back { OnOk result (ComesBack (λ new old. with_language new old.primary old.extended)
+            (normal_lang_tag_buf_text self.old) (normal_lang_tag_buf_text self.new)) }
+        ensures set_back { GivesBack (List ℕ × List (List ℕ)) (λ r m. with_language r m.0 m.1)
+            (λ r. SetsLanguage (language_part r)) }
     {
         self.put(alloc, Part::Language(language))
     }
@@ -241,13 +252,16 @@ impl NormalLangTagBuf {
         alloc: Global,
         script: Option<Script<'_>>,
     ) -> Result<(), AllocError>
-        ensures set { OnOk result (SetsScript (option_map script_text script.entry) (normal_lang_tag_buf_text self.old) (normal_lang_tag_buf_text self.new)) }
+        ensures set { OnOk result (SetsScript (option_map script_text script.entry) (normal_lang_tag_buf_text self.old)
+            (normal_lang_tag_buf_text self.new)) }
         // law: after an error the tag is as it was
         ensures unchanged { OnErr result (self.new ≡ self.old) }
-        ensures comes_back { OnOk result (ComesBack (λ new old. with_script new old.script) (normal_lang_tag_buf_text self.old) (normal_lang_tag_buf_text self.new)) }
+        ensures comes_back { OnOk result (ComesBack (λ new old. with_script new old.script) (normal_lang_tag_buf_text self.old)
+            (normal_lang_tag_buf_text self.new)) }
         // law: removing a part of a normal tag is Ok
         ensures taken_out { IsNone script.entry → IsOk result }
-        ensures room_kept { IsNone script.entry → string_capacity (normal_lang_tag_buf_string self.old) ≤ string_capacity (normal_lang_tag_buf_string self.new) }
+        ensures room_kept { IsNone script.entry → string_capacity (normal_lang_tag_buf_string self.old)
+            ≤ string_capacity (normal_lang_tag_buf_string self.new) }
         // law: setting the old part again restores the old text
         ensures set_back { GivesBack (Option (List ℕ)) with_script (λ r. SetsScript r.script) }
     {
@@ -275,11 +289,14 @@ impl NormalLangTagBuf {
         alloc: Global,
         region: Option<Region<'_>>,
     ) -> Result<(), AllocError>
-        ensures set { OnOk result (SetsRegion (option_map region_text region.entry) (normal_lang_tag_buf_text self.old) (normal_lang_tag_buf_text self.new)) }
+        ensures set { OnOk result (SetsRegion (option_map region_text region.entry) (normal_lang_tag_buf_text self.old)
+            (normal_lang_tag_buf_text self.new)) }
         ensures unchanged { OnErr result (self.new ≡ self.old) }
-        ensures comes_back { OnOk result (ComesBack (λ new old. with_region new old.region) (normal_lang_tag_buf_text self.old) (normal_lang_tag_buf_text self.new)) }
+        ensures comes_back { OnOk result (ComesBack (λ new old. with_region new old.region) (normal_lang_tag_buf_text self.old)
+            (normal_lang_tag_buf_text self.new)) }
         ensures taken_out { IsNone region.entry → IsOk result }
-        ensures room_kept { IsNone region.entry → string_capacity (normal_lang_tag_buf_string self.old) ≤ string_capacity (normal_lang_tag_buf_string self.new) }
+        ensures room_kept { IsNone region.entry → string_capacity (normal_lang_tag_buf_string self.old)
+            ≤ string_capacity (normal_lang_tag_buf_string self.new) }
         ensures set_back { GivesBack (Option (List ℕ)) with_region (λ r. SetsRegion r.region) }
     {
         self.put(alloc, Part::Region(region))
@@ -302,11 +319,14 @@ impl NormalLangTagBuf {
     /// tag.as_str(); // "de-AT-1996"
     /// ```
     pub fn set_variants(&mut self, alloc: Global, variants: Variants<'_>) -> Result<(), AllocError>
-        ensures set { OnOk result (SetsVariants (variants_text variants.entry) (normal_lang_tag_buf_text self.old) (normal_lang_tag_buf_text self.new)) }
+        ensures set { OnOk result (SetsVariants (variants_text variants.entry) (normal_lang_tag_buf_text self.old)
+            (normal_lang_tag_buf_text self.new)) }
         ensures unchanged { OnErr result (self.new ≡ self.old) }
-        ensures comes_back { OnOk result (ComesBack (λ new old. with_variants new old.variants) (normal_lang_tag_buf_text self.old) (normal_lang_tag_buf_text self.new)) }
+        ensures comes_back { OnOk result (ComesBack (λ new old. with_variants new old.variants)
+            (normal_lang_tag_buf_text self.old) (normal_lang_tag_buf_text self.new)) }
         ensures taken_out { variants_text variants.entry ≡ [] → IsOk result }
-        ensures room_kept { variants_text variants.entry ≡ [] → string_capacity (normal_lang_tag_buf_string self.old) ≤ string_capacity (normal_lang_tag_buf_string self.new) }
+        ensures room_kept { variants_text variants.entry ≡ []
+            → string_capacity (normal_lang_tag_buf_string self.old) ≤ string_capacity (normal_lang_tag_buf_string self.new) }
         ensures set_back { GivesBack (List (List ℕ)) with_variants (λ r. SetsVariants (variants_part r)) }
     {
         self.put(alloc, Part::Variants(variants))
@@ -333,11 +353,14 @@ impl NormalLangTagBuf {
         alloc: Global,
         extensions: Extensions<'_>,
     ) -> Result<(), AllocError>
-        ensures set { OnOk result (SetsExtensions (extensions_text extensions.entry) (normal_lang_tag_buf_text self.old) (normal_lang_tag_buf_text self.new)) }
+        ensures set { OnOk result (SetsExtensions (extensions_text extensions.entry) (normal_lang_tag_buf_text self.old)
+            (normal_lang_tag_buf_text self.new)) }
         ensures unchanged { OnErr result (self.new ≡ self.old) }
-        ensures comes_back { OnOk result (ComesBack (λ new old. with_extensions new old.extensions) (normal_lang_tag_buf_text self.old) (normal_lang_tag_buf_text self.new)) }
+        ensures comes_back { OnOk result (ComesBack (λ new old. with_extensions new old.extensions)
+            (normal_lang_tag_buf_text self.old) (normal_lang_tag_buf_text self.new)) }
         ensures taken_out { extensions_text extensions.entry ≡ [] → IsOk result }
-        ensures room_kept { extensions_text extensions.entry ≡ [] → string_capacity (normal_lang_tag_buf_string self.old) ≤ string_capacity (normal_lang_tag_buf_string self.new) }
+        ensures room_kept { extensions_text extensions.entry ≡ []
+            → string_capacity (normal_lang_tag_buf_string self.old) ≤ string_capacity (normal_lang_tag_buf_string self.new) }
         ensures set_back { GivesBack (List Extension) with_extensions (λ r. SetsExtensions (extensions_part r)) }
     {
         self.put(alloc, Part::Extensions(extensions))
@@ -364,11 +387,14 @@ impl NormalLangTagBuf {
         alloc: Global,
         private_use: Option<PrivateUse<'_>>,
     ) -> Result<(), AllocError>
-        ensures set { OnOk result (SetsPrivateUse (option_map private_use_text private_use.entry) (normal_lang_tag_buf_text self.old) (normal_lang_tag_buf_text self.new)) }
+        ensures set { OnOk result (SetsPrivateUse (option_map private_use_text private_use.entry)
+            (normal_lang_tag_buf_text self.old) (normal_lang_tag_buf_text self.new)) }
         ensures unchanged { OnErr result (self.new ≡ self.old) }
-        ensures comes_back { OnOk result (ComesBack (λ new old. with_private_use new old.private_use) (normal_lang_tag_buf_text self.old) (normal_lang_tag_buf_text self.new)) }
+        ensures comes_back { OnOk result (ComesBack (λ new old. with_private_use new old.private_use)
+            (normal_lang_tag_buf_text self.old) (normal_lang_tag_buf_text self.new)) }
         ensures taken_out { IsNone private_use.entry → IsOk result }
-        ensures room_kept { IsNone private_use.entry → string_capacity (normal_lang_tag_buf_string self.old) ≤ string_capacity (normal_lang_tag_buf_string self.new) }
+        ensures room_kept { IsNone private_use.entry
+            → string_capacity (normal_lang_tag_buf_string self.old) ≤ string_capacity (normal_lang_tag_buf_string self.new) }
         ensures set_back { GivesBack (Option model.PrivateUse) with_private_use (λ r. SetsPrivateUse (private_use_part r)) }
     {
         self.put(alloc, Part::PrivateUse(private_use))
@@ -383,10 +409,12 @@ impl NormalLangTagBuf {
     /// Sets a part of the tag, or removes it.
     fn put(&mut self, alloc: Global, part: Part<'_>) -> Result<(), AllocError>
         ensures set { OnOk result (SetsPart part.entry (normal_lang_tag_buf_text self.old) (normal_lang_tag_buf_text self.new)) }
-        ensures comes_back { OnOk result (ComesBack (with_old_part part.entry) (normal_lang_tag_buf_text self.old) (normal_lang_tag_buf_text self.new)) }
+        ensures comes_back { OnOk result (ComesBack (with_old_part part.entry) (normal_lang_tag_buf_text self.old)
+            (normal_lang_tag_buf_text self.new)) }
         ensures unchanged { OnErr result (self.new ≡ self.old) }
         ensures taken_out { part_text part.entry ≡ [] → IsOk result }
-        ensures room_kept { part_text part.entry ≡ [] → string_capacity (normal_lang_tag_buf_string self.old) ≤ string_capacity (normal_lang_tag_buf_string self.new) }
+        ensures room_kept { part_text part.entry ≡ []
+            → string_capacity (normal_lang_tag_buf_string self.old) ≤ string_capacity (normal_lang_tag_buf_string self.new) }
     {
         self.ends = set_part(&mut self.text.0, self.ends, alloc, part)?;
         Ok(())

@@ -73,7 +73,8 @@ pub fn put_part<'a>(tag: NormalLangTag<'_>, part: Part<'a>) -> Replacement<'a>
 /// in bytes. If the buffer is too short, it stays unchanged, and the length says how much room is needed. The function
 /// does not allocate.
 pub fn write_part<'a>(tag: NormalLangTag<'a>, part: Part<'a>, buffer: &mut [u8]) -> usize
-    ensures set { Writes (λ new. SetsPart part.entry (normal_lang_tag_text tag.entry) new × IsNormal new) buffer.old buffer.new result }
+    ensures set { Writes (λ new. SetsPart part.entry (normal_lang_tag_text tag.entry) new × IsNormal new) buffer.old buffer.new
+        result }
     ensures bounded { result ≤ length (normal_lang_tag_text tag.entry) + length (part_text part.entry) + 1 }
 {
     let text = tag.as_str().as_bytes();

@@ -65,9 +65,11 @@ impl Refusal {
         ensures none { IsNone result ↔ IsTag bytes.now }
         ensures end { IfSome result (λ it. (it.kind ≡ kind.End) ↔ EndsTooSoon bytes.now) }
         ensures subtag { IfSome result (λ it. (it.kind ≡ kind.End → ⊥) → IsRefusedSubtag bytes.now it.start it.end) }
-        ensures whole { IfSome result (λ it. it.kind ≡ kind.Subtag → AlphanumericWithin bytes.now it.start it.end × (it.offset ≡ it.start)) }
+        ensures whole { IfSome result (λ it. it.kind ≡ kind.Subtag
+            → AlphanumericWithin bytes.now it.start it.end × (it.offset ≡ it.start)) }
         ensures byte { IfSome result (λ it. it.kind ≡ kind.Byte → IsFirstOther bytes.now it.start it.end it.offset) }
-        ensures nothing { IfSome result (λ it. it.kind ≡ kind.End → (it.start ≡ length bytes.now) × (it.end ≡ length bytes.now) × (it.offset ≡ length bytes.now)) }
+        ensures nothing { IfSome result (λ it. it.kind ≡ kind.End
+            → (it.start ≡ length bytes.now) × (it.end ≡ length bytes.now) × (it.offset ≡ length bytes.now)) }
 
         ensures compared { (a b : Refusal) → IsTrue (⟦<Refusal as PartialEq>⟧.eq a b) ↔ (a ≡ b) }
         ensures kinds_compared { (a b : RefusalKind) → IsTrue (⟦<RefusalKind as PartialEq>⟧.eq a b) ↔ (a ≡ b) }

@@ -36,7 +36,8 @@ pub fn answer_lines<A: Answerer, R: Read, W: Write>(
     input: &mut R,
     output: &mut W,
 ) -> Result<(), RunError>
-    ensures report { HasRun A.is_answer (IsWanting (λ held more. ⊤) A.takes_memory) result (R.remaining input.old) (R.remaining input.new) (W.contents output.old) (W.contents output.new) }
+    ensures report { HasRun A.is_answer (IsWanting (λ held more. ⊤) A.takes_memory) result (R.remaining input.old)
+        (R.remaining input.new) (W.contents output.old) (W.contents output.new) }
 
     ensures cut { (i : List ℕ) → IsCutInto i (complete_lines i) (rest_of i) }
     ensures one_cut { (i : List ℕ) (lines others : List (List ℕ)) (rest other : List ℕ) →
@@ -60,7 +61,8 @@ pub fn answer_lines_in<A: Answerer, L: GatheredLine + Drop, R: Read, W: Write>(
     input: &mut R,
     output: &mut W,
 ) -> Result<(), RunError>
-    ensures report { HasRun A.is_answer (IsWanting L.refuses A.takes_memory) result (R.remaining input.old) (R.remaining input.new) (W.contents output.old) (W.contents output.new) }
+    ensures report { HasRun A.is_answer (IsWanting L.refuses A.takes_memory) result (R.remaining input.old)
+        (R.remaining input.new) (W.contents output.old) (W.contents output.new) }
 {
     line.clear();
     let mut page = Page::new();
@@ -89,11 +91,13 @@ fn take_bytes<A: Answerer, L: GatheredLine, W: Write>(
 ) -> Result<(), RunError>
     requires free { NoLineFeed (L.bytes line.old) }
     requires written { page.old ≡ [] }
-    ensures ok { OnOk result (AnswersBy A.is_answer (W.contents output.old) (W.contents output.new) (complete_lines (L.bytes line.old ++ bytes.now))) }
+    ensures ok { OnOk result (AnswersBy A.is_answer (W.contents output.old) (W.contents output.new)
+        (complete_lines (L.bytes line.old ++ bytes.now))) }
     ensures rest { OnOk result (L.bytes line.new ≡ rest_of (L.bytes line.old ++ bytes.now)) }
     ensures empty { OnOk result (page.new ≡ []) }
     ensures memory { IsErrOf result RunError.Memory →
-        HasStopped A.is_answer (IsWanting L.refuses A.takes_memory) (W.contents output.old) (W.contents output.new) (L.bytes line.old) bytes.now }
+        HasStopped A.is_answer (IsWanting L.refuses A.takes_memory) (W.contents output.old) (W.contents output.new)
+        (L.bytes line.old) bytes.now }
     ensures other { IfErr result (λ e. e ≢ RunError.Read) }
 {
     let mut left = bytes;

@@ -32,7 +32,8 @@ pub fn conclude<W: Write>(outcome: Result<(), RunError>, errors: &mut W) -> Exit
 /// Writes bytes until a write fails or accepts nothing, and tries an interrupted write again. Returns whether all bytes
 /// are written. The contract of `write_all` does not say what is written before an error.
 fn write_front<W: Write>(bytes: &[u8], writer: &mut W) -> bool
-    ensures front { (k : ℕ) × (k ≤ length bytes.now) × Appends (W.contents writer.old) (W.contents writer.new) (take k bytes.now) }
+    ensures front { (k : ℕ) × (k ≤ length bytes.now) × Appends (W.contents writer.old) (W.contents writer.new)
+        (take k bytes.now) }
     ensures whole { IsTrue result → Appends (W.contents writer.old) (W.contents writer.new) bytes.now }
 {
     let mut count = 0;

@@ -20,7 +20,8 @@ pub use crate::run_error::RunError as ShowError;
 /// interruption, and if the input has not ended after 2^64 - 1 reads. Returns `Write` if `write_all` or the flush
 /// fails.
 pub fn run<R: Read, W: Write>(alloc: Global, input: &mut R, output: &mut W) -> Result<(), ShowError>
-    ensures report { HasRun IsShowAnswer (IsWanting (λ held more. ⊤) (λ line. ⊥)) result (R.remaining input.old) (R.remaining input.new) (W.contents output.old) (W.contents output.new) }
+    ensures report { HasRun IsShowAnswer (IsWanting (λ held more. ⊤) (λ line. ⊥)) result (R.remaining input.old)
+        (R.remaining input.new) (W.contents output.old) (W.contents output.new) }
 {
     answer_lines(alloc, &Show, input, output)
 }

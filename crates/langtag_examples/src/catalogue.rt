@@ -56,13 +56,16 @@ impl Catalogue {
     pub fn rename(&mut self, tag: &LangTagBuf, new: LangTagBuf) -> Result<bool, AllocError>
         ensures found { IfOk result (λ found. found ≡ is_some (text_for self.old (lang_tag_buf_text tag.now))) }
         ensures moved { OnOk result ((other : LangTagBuf) → IsTrue (are_alike (lang_tag_buf_text new) (lang_tag_buf_text other)) →
-            text_for self.new (lang_tag_buf_text other) ≡ option_or (text_for self.old (lang_tag_buf_text tag.now)) (text_for self.old (lang_tag_buf_text other))) }
+            text_for self.new (lang_tag_buf_text other)
+            ≡ option_or (text_for self.old (lang_tag_buf_text tag.now)) (text_for self.old (lang_tag_buf_text other))) }
         ensures gone { OnOk result ((other : LangTagBuf) → IsTrue (are_alike (lang_tag_buf_text tag.now) (lang_tag_buf_text other)) →
-            are_alike (lang_tag_buf_text new) (lang_tag_buf_text other) ≡ false → text_for self.new (lang_tag_buf_text other) ≡ None) }
+            are_alike (lang_tag_buf_text new) (lang_tag_buf_text other) ≡ false
+            → text_for self.new (lang_tag_buf_text other) ≡ None) }
         ensures others { OnOk result ((other : LangTagBuf) → are_alike (lang_tag_buf_text tag.now) (lang_tag_buf_text other) ≡ false →
             are_alike (lang_tag_buf_text new) (lang_tag_buf_text other) ≡ false →
             text_for self.new (lang_tag_buf_text other) ≡ text_for self.old (lang_tag_buf_text other)) }
-        ensures unchanged { OnErr result ((other : LangTagBuf) → text_for self.new (lang_tag_buf_text other) ≡ text_for self.old (lang_tag_buf_text other)) }
+        ensures unchanged { OnErr result ((other : LangTagBuf)
+            → text_for self.new (lang_tag_buf_text other) ≡ text_for self.old (lang_tag_buf_text other)) }
     {
         self.texts.reserve(1)?;
         let Some(text) = self.texts.remove(tag) else {

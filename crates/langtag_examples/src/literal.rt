@@ -20,7 +20,8 @@ impl<'a> Literal<'a> {
     /// Returns whether two literals are the same: `color` in `en-US` is the same as `color` in `EN-us`, but not as
     /// `Color` in `en-US` or `color` in `en-GB`.
     pub fn is_same(&self, other: &Literal<'_>) -> bool
-        ensures same { IsTrue result ↔ (self.now.text.now ≡ other.now.text.now) × IsTrue (are_alike (lang_tag_text self.now.language) (lang_tag_text other.now.language)) }
+        ensures same { IsTrue result ↔ (self.now.text.now ≡ other.now.text.now) × IsTrue
+            (are_alike (lang_tag_text self.now.language) (lang_tag_text other.now.language)) }
 
         ensures cloned { (literal copy : Literal) → ⟦<Literal<'a> as Clone>⟧.is_clone literal copy → copy ≡ literal }
         ensures clone_succeeds { (literal : Literal) → ⟦<Literal<'a> as Clone>⟧.is_infallible literal }

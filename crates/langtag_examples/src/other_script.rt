@@ -1,7 +1,8 @@
 //! The same tag in another script.
 ghost use Rattle.std.specs.Prelude.{◌≡◌, ◌⊎◌, None, Some, IfOk, OnOk, OnErr};
 ghost use Rattle.std.specs.Option.{option_map, option_or};
-ghost use Rattle.langtag.specs.Definitions.{EachRecord, Spells, spell, script_text, script_buf_text, with_script, normal_lang_tag_buf_text};
+ghost use Rattle.langtag.specs.Definitions.{EachRecord, Spells, spell, script_text, script_buf_text};
+ghost use Rattle.langtag.specs.Definitions.{with_script, normal_lang_tag_buf_text};
 ghost use Rattle.langtag_examples.specs.Catalogue.{text_for};
 
 use crate::catalogue::Catalogue;
@@ -22,7 +23,8 @@ pub fn replace_script(
 ) -> Result<Option<ScriptBuf>, AllocError>
     ensures set { OnOk result (EachRecord (normal_lang_tag_buf_text tag.old) (λ r.
         Spells (with_script r (option_map script_text script.entry)) (normal_lang_tag_buf_text tag.new))) }
-    ensures old { IfOk result (λ old. EachRecord (normal_lang_tag_buf_text tag.old) (λ r. option_map script_buf_text old ≡ r.script)) }
+    ensures old { IfOk result (λ old. EachRecord (normal_lang_tag_buf_text tag.old)
+        (λ r. option_map script_buf_text old ≡ r.script)) }
     ensures unchanged { OnErr result (tag.new ≡ tag.old) }
 {
     let old = match tag.as_normal_lang_tag().script() {
@@ -50,10 +52,13 @@ pub fn find_in_scripts<'a>(
     script: Script<'_>,
 ) -> Result<Option<&'a str>, AllocError>
     ensures found { IfOk result (λ text. EachRecord (normal_lang_tag_buf_text tag.old) (λ r.
-        option_map (λ text. text.now) text ≡ option_or (text_for catalogue.now (spell r)) (text_for catalogue.now (spell (with_script r (Some (script_text script.entry))))))) }
+        option_map (λ text. text.now) text
+        ≡ option_or (text_for catalogue.now (spell r))
+        (text_for catalogue.now (spell (with_script r (Some (script_text script.entry))))))) }
     ensures set_back { OnOk result (normal_lang_tag_buf_text tag.new ≡ normal_lang_tag_buf_text tag.old) }
     ensures not_lost { OnErr result ((normal_lang_tag_buf_text tag.new ≡ normal_lang_tag_buf_text tag.old) ⊎
-        EachRecord (normal_lang_tag_buf_text tag.old) (λ r. Spells (with_script r (Some (script_text script.entry))) (normal_lang_tag_buf_text tag.new))) }
+        EachRecord (normal_lang_tag_buf_text tag.old)
+        (λ r. Spells (with_script r (Some (script_text script.entry))) (normal_lang_tag_buf_text tag.new))) }
     ensures without_script { OnErr result (EachRecord (normal_lang_tag_buf_text tag.old) (λ r.
         r.script ≡ None → normal_lang_tag_buf_text tag.new ≡ normal_lang_tag_buf_text tag.old)) }
 {

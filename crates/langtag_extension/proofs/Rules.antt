@@ -1,5 +1,5 @@
 -- The one list that spells a text is found again in it, and the tests of its subtags say whether there is one.
-use Rattle.langtag_scan.proofs.Prelude.{◌≡◌, ◌↔◌, ℕ, Bool, true, IsTrue, List, [], ◌∷◌, drop, ◌==◌, refl, ap, ◌∙◌, arith, map, rules, list_all, AllByRecursion, flat_map, and_parts, common_steps, nat_tests}
+use Rattle.langtag_scan.proofs.Prelude.{◌≡◌, ◌↔◌, ℕ, Bool, true, IsTrue, List, [], ◌∷◌, drop, refl, ap, ◌∙◌, arith, map, rules, list_all, AllByRecursion, flat_map, and_parts, common_steps, nat_tests}
 use Rattle.langtag_scan.specs.Grammar.{fold_text, are_alike, is_singleton, is_extension_subtag, Extension, IsWellFormedExtension, extension_flat, join, subtags}
 use Rattle.langtag_scan.proofs.Laws.{each_test-fold, subtags_test-fold, alike_subtags_test, classes-fold, length-fold, join-fold, IsSubtag, of_one, of_extension_subtag, singleton_alphanumeric, each_from_test, test_from_each, each_subtag, subtags-joined, join-subtags, length-after_first, each-append}
 use Rattle.langtag_scan.proofs.BoolFacts.{between_true}
@@ -129,12 +129,10 @@ IsExtensions-decided text answer tested = grind (arith, common_steps, IsExtensio
 
 -- extensions in another case are cut at the same subtags
 opens-fold : (group : List (List ℕ)) → opens (map fold_text group) ≡ opens group
-opens-fold [] = refl
-opens-fold (s ∷ group) = ap (λ n. n == 1) (length-fold s)
+opens-fold group = grind (arith, common_steps, length-fold)
 
 put_first-fold : (s : List ℕ) (gs : List (List (List ℕ))) → put_first (fold_text s) (map (map fold_text) gs) ≡ map (map fold_text) (put_first s gs)
-put_first-fold s [] = refl
-put_first-fold s (group ∷ gs) = grind (arith, common_steps, opens-fold group)
+put_first-fold s gs = grind (arith, common_steps, opens-fold)
 
 groups-fold : (ss : List (List ℕ)) → groups (map fold_text ss) ≡ map (map fold_text) (groups ss)
 groups-fold [] = refl

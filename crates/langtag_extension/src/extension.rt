@@ -130,7 +130,8 @@ impl<'a> Extension<'a> {
     /// ```
     pub fn singleton(&self) -> Singleton
         ensures first_byte { singleton_byte result ≡ slice_index (extension_text self.now) 0 }
-        ensures member { (e : model.Extension) → SpellsExtension e (extension_text self.now) → singleton_byte result ≡ e.singleton }
+        ensures member { (e : model.Extension) → SpellsExtension e (extension_text self.now)
+            → singleton_byte result ≡ e.singleton }
     {
         Singleton::from_checked(self.as_bytes()[0])
     }
@@ -153,9 +154,11 @@ impl<'a> Extension<'a> {
     /// ```
     #[tactic(auto, using(crate::proofs::Rules::subtags_spelled))]
     pub fn iter(&self) -> ExtensionIter<'a>
-        ensures list { (e : model.Extension) → SpellsExtension e (extension_text self.now) → extension_subtags_left result ≡ e.subtags }
+        ensures list { (e : model.Extension) → SpellsExtension e (extension_text self.now)
+            → extension_subtags_left result ≡ e.subtags }
 
-        ensures cloned { (walk copy : ExtensionIter) → ⟦<ExtensionIter<'a> as Clone>⟧.is_clone walk copy → extension_subtags_left copy ≡ extension_subtags_left walk }
+        ensures cloned { (walk copy : ExtensionIter) → ⟦<ExtensionIter<'a> as Clone>⟧.is_clone walk copy
+            → extension_subtags_left copy ≡ extension_subtags_left walk }
         ensures clone_succeeds { (walk : ExtensionIter) → ⟦<ExtensionIter<'a> as Clone>⟧.is_infallible walk }
     {
         ExtensionIter::new(self.as_str())

@@ -1,6 +1,7 @@
 //! A subtag of an extension (RFC 5646 section 2.2.6).
 ghost use Rattle.std.specs.Prelude.{◌≡◌, ◌&&◌, ◌||◌, Some, IsTrue, IfOk, IfErr, is_ok, length, string_bytes};
-ghost use Rattle.langtag_scan.specs.Grammar.{is_ascii_alphabetic, is_ascii_digit, is_in_range, list_all, are_alike, is_extension_subtag};
+ghost use Rattle.langtag_scan.specs.Grammar.{is_ascii_alphabetic, is_ascii_digit, is_in_range};
+ghost use Rattle.langtag_scan.specs.Grammar.{list_all, are_alike, is_extension_subtag};
 
 use langtag_scan::{Caseless, is_extension_subtag};
 use std::alloc::{AllocError, Global};

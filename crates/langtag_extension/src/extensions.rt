@@ -143,7 +143,8 @@ impl<'a> Extensions<'a> {
         ensures list { (es : List model.Extension) → SpellsExtensions es (extensions_text self.now)
             → extensions_left result ≡ map extension_spelling es }
 
-        ensures cloned { (walk copy : ExtensionsIter) → ⟦<ExtensionsIter<'a> as Clone>⟧.is_clone walk copy → extensions_left copy ≡ extensions_left walk }
+        ensures cloned { (walk copy : ExtensionsIter) → ⟦<ExtensionsIter<'a> as Clone>⟧.is_clone walk copy
+            → extensions_left copy ≡ extensions_left walk }
         ensures clone_succeeds { (walk : ExtensionsIter) → ⟦<ExtensionsIter<'a> as Clone>⟧.is_infallible walk }
     {
         ExtensionsIter::new(self.as_str())

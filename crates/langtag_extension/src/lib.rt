@@ -26,5 +26,5 @@ pub use extensions::{Extensions, ExtensionsBuf, InvalidExtensions};
 pub use extensions_iter::ExtensionsIter;
 pub use singleton::{InvalidSingleton, Singleton};
 
-// For langtag_canonical and langtag_locale.
+// For this repository.
 pub use noted::{SINGLETONS, folded_singleton, singletons_of};

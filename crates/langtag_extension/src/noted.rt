@@ -14,7 +14,8 @@ pub const SINGLETONS: [u8; 35] = *b"0123456789abcdefghijklmnopqrstuvwyz";
 
 /// Returns, for each byte, whether it is the lowercase singleton of one of the extensions.
 pub fn singletons_of(extensions: Extensions<'_>) -> [bool; 256]
-    ensures { (es : List model.Extension) → SpellsExtensions es (extensions_text extensions.entry) → AreNoted result (map extension_spelling es) }
+    ensures { (es : List model.Extension) → SpellsExtensions es (extensions_text extensions.entry)
+        → AreNoted result (map extension_spelling es) }
 {
     let mut present = [false; 256];
     for extension in extensions.iter() {

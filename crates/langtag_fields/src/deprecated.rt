@@ -1,7 +1,8 @@
 //! Deprecated subtags and tags (RFC 5646 section 3.1.6). They stay valid.
 ghost use Rattle.std.specs.Prelude.{◌≡◌};
 ghost use Rattle.langtag_scan.specs.Grammar.{list_any, are_alike};
-ghost use Rattle.langtag.specs.Definitions.{lang_tag_text, primary_language_text, extended_lang_tag_text, region_text, variant_text};
+ghost use Rattle.langtag.specs.Definitions.{lang_tag_text, primary_language_text};
+ghost use Rattle.langtag.specs.Definitions.{extended_lang_tag_text, region_text, variant_text};
 ghost use Rattle.langtag_fields.specs.Fields as field;
 
 use crate::table::is_among;

@@ -23,7 +23,8 @@ pub(crate) fn value_of(
 ) -> Option<&'static str>
     requires subtag { IsSubtag text.now }
     requires beside { IsTrue (length keys.now == length values.now) }
-    ensures { (list : List Entry) → IsTableOf keys.now (map (λ text. text.now) values.now) list → option_map (λ text. text.now) result ≡ value_for list text.now }
+    ensures { (list : List Entry) → IsTableOf keys.now (map (λ text. text.now) values.now) list
+        → option_map (λ text. text.now) result ≡ value_for list text.now }
 {
     match keys.binary_search(&folded_number(text)) {
         Ok(index) => Some(values[index]),

@@ -3,7 +3,7 @@ use Rattle.langtag_scan.proofs.Prelude.{◌≡◌, ◌↔◌, ℕ, true, Bool, I
 use Rattle.langtag_scan.specs.Grammar.{fold_text, are_alike, is_extended, join, subtags}
 use Rattle.langtag_scan.proofs.Laws.{each_test-fold, alike_subtags_test, classes-fold, length-fold, of_primary, of_extended, each_from_test, test_from_each, each_subtag, subtags-joined, join-subtags}
 use Rattle.langtag_language.specs.Language.{SpellsLanguageExtension, IsLanguageExtension, SpellsLanguage, IsLanguage}
-use Rattle.langtag_language.specs.Decided.{are_extended, are_extended_within, extended_room, are_language_extension, are_language, is_language_extension, is_language}
+use Rattle.langtag_language.specs.Decided.{are_extended, are_extended_within, are_language_extension, are_language, is_language_extension, is_language}
 
 -- ---- extlang
 
@@ -74,9 +74,7 @@ IsLanguage-decided text answer same = (λ h. IsLanguage-from_test text (sym same
 
 -- a language in another case is a language
 alike_language_lists : (texts : List (List ℕ)) → are_language (map fold_text texts) ≡ are_language texts
-alike_language_lists [] = refl
-alike_language_lists (primary ∷ extended) =
-    rw (ap (λ c. c.primary) (classes-fold primary), length-fold primary, alike_extended (extended_room primary) extended) refl
+alike_language_lists texts = grind (arith, common_steps, classes-fold, length-fold, alike_extended)
 
 pub alike_language : (t u : List ℕ) → IsTrue (are_alike t u) → IsTrue (is_language t) → IsLanguage u
 alike_language t u alike is = IsLanguage-from_test u (alike_subtags_test are_language alike_language_lists t u alike is)

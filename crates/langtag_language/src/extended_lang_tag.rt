@@ -144,7 +144,8 @@ pub struct ExtendedLangTagBuf {
 
 impl ExtendedLangTagBuf {
     ghost use Rattle.langtag_language.specs.Compared.{ExtendedLangTagBufsCompareByCase};
-    ghost use Rattle.langtag_language.specs.Text.{extended_lang_tag_text, extended_lang_tag_buf_text, extended_lang_tag_buf_string};
+    ghost use Rattle.langtag_language.specs.Text.{extended_lang_tag_text, extended_lang_tag_buf_text};
+    ghost use Rattle.langtag_language.specs.Text.{extended_lang_tag_buf_string};
 
     /// Parses a `String` as a subtag and keeps it, without copying.
     ///

@@ -1,5 +1,6 @@
 //! The language of a tag (RFC 5646 sections 2.2.1 and 2.2.2).
-ghost use Rattle.std.specs.Prelude.{◌≡◌, ◌↔◌, ◌∷◌, [], Some, IsTrue, is_ok, drop, slice_get, IsNone, IfSome, IfOk, IfErr, string_bytes};
+ghost use Rattle.std.specs.Prelude.{◌≡◌, ◌↔◌, ◌∷◌, [], Some, IsTrue, is_ok, drop, slice_get};
+ghost use Rattle.std.specs.Prelude.{IsNone, IfSome, IfOk, IfErr, string_bytes};
 ghost use Rattle.langtag_scan.specs.Grammar.{are_alike, subtags};
 ghost use Rattle.langtag_language.specs.Language.{IsLanguage, EachLanguageSpelling, SpellsLanguageExtension};
 ghost use Rattle.langtag_language.specs.Decided as test;
@@ -125,7 +126,8 @@ impl<'a> Language<'a> {
     #[tactic(auto, using(crate::proofs::Members::members_spelled))]
     pub fn primary(&self) -> PrimaryLanguage<'a>
         ensures list { slice_get (subtags (language_text self.now)) 0 ≡ Some (primary_language_text result) }
-        ensures member { EachLanguageSpelling (language_text self.now) (λ primary extended. primary_language_text result ≡ primary) }
+        ensures member { EachLanguageSpelling (language_text self.now)
+            (λ primary extended. primary_language_text result ≡ primary) }
     {
         self.split().0
     }
@@ -158,7 +160,8 @@ impl<'a> Language<'a> {
     /// ```
     pub fn extension_subtags(&self) -> LanguageExtensionIter<'a>
         ensures list { extended_subtags_left result ≡ drop 1 (subtags (language_text self.now)) }
-        ensures members { EachLanguageSpelling (language_text self.now) (λ primary extended. extended_subtags_left result ≡ extended) }
+        ensures members { EachLanguageSpelling (language_text self.now)
+            (λ primary extended. extended_subtags_left result ≡ extended) }
     {
         let (_, extension) = self.split();
         match extension {

@@ -99,7 +99,8 @@ impl<'a> LanguageExtension<'a> {
         ensures in_class { IsTrue result → IsLanguageExtension other.now }
 
         ensures compared { LanguageExtensionsCompareByCase }
-        ensures cloned { (copy : LanguageExtension) → ⟦<LanguageExtension<'a> as Clone>⟧.is_clone self.now copy → copy ≡ self.now }
+        ensures cloned { (copy : LanguageExtension) → ⟦<LanguageExtension<'a> as Clone>⟧.is_clone self.now copy
+            → copy ≡ self.now }
         ensures clone_succeeds { ⟦<LanguageExtension<'a> as Clone>⟧.is_infallible self.now }
     {
         self.text == Caseless(other)
@@ -133,7 +134,8 @@ impl<'a> LanguageExtension<'a> {
         ensures list { extended_subtags_left result ≡ subtags (language_extension_text self.now) }
         ensures spells { SpellsLanguageExtension (extended_subtags_left result) (language_extension_text self.now) }
 
-        ensures cloned { (walk copy : LanguageExtensionIter) → ⟦<LanguageExtensionIter<'a> as Clone>⟧.is_clone walk copy → extended_subtags_left copy ≡ extended_subtags_left walk }
+        ensures cloned { (walk copy : LanguageExtensionIter) → ⟦<LanguageExtensionIter<'a> as Clone>⟧.is_clone walk copy
+            → extended_subtags_left copy ≡ extended_subtags_left walk }
         ensures clone_succeeds { (walk : LanguageExtensionIter) → ⟦<LanguageExtensionIter<'a> as Clone>⟧.is_infallible walk }
     {
         LanguageExtensionIter::new(self.as_str())
@@ -175,7 +177,8 @@ pub struct LanguageExtensionBuf {
 #[tactic(auto, using(crate::proofs::Rules::extension_rules))]
 impl LanguageExtensionBuf {
     ghost use Rattle.langtag_language.specs.Compared.{LanguageExtensionBufsCompareByCase};
-    ghost use Rattle.langtag_language.specs.Text.{language_extension_text, language_extension_buf_text, language_extension_buf_string};
+    ghost use Rattle.langtag_language.specs.Text.{language_extension_text, language_extension_buf_text};
+    ghost use Rattle.langtag_language.specs.Text.{language_extension_buf_string};
 
     /// Parses a `String` as a language extension and keeps it, without copying.
     ///

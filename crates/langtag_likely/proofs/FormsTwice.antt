@@ -114,11 +114,6 @@ language_put p es l there all not_und = grind (arith, or_other_there, last_there
 put_twice : (r : Record) (a b : Fields) → a.language ≡ b.language → put_fields (put_fields r a) b ≡ put_fields r b
 put_twice r a b same = grind arith
 
-fields_put :
-    (r : Record) (n : Fields) (l : List ℕ) → IsWellFormed r → n.language ≡ or_other (fields_of r).language l → are_alike (codes "und") l ≡ false →
-    fields_of (put_fields r n) ≡ known_fields n
-fields_put r n l fits same not_und = grind (arith, language_put, primary_length)
-
 -- ---- a record, and what likely subtags are added to it
 
 fields_known : (r : Record) → AreKnown (fields_of r)
@@ -170,7 +165,7 @@ read_forms r fits read = some_value (add_likely_subtags (fields_of r)) (λ is. i
       max_is = max_of r m read is;
       min_is = min_of r m read is;
       again = h.again;
-      fields = λ n same. fields_put r n h.to.language fits (same ∙ ap (λ x. x.language) (sym h.filled_is)) h.language;
+      fields = λ n same. grind (arith, language_put, primary_length);
     }))
 
 forms_of : (r : Record) → IsWellFormed r → HasNone r ⊎ HasMost r

@@ -67,15 +67,12 @@ likely_added-good f good =
 
 -- ---- and removed
 
-known_fields-good : (f : Fields) → AreGood f → AreGood (known_fields f)
-known_fields-good f good = grind arith
-
 few-good :
     (a b c : Bool) (few most : Fields) → AreGood few → AreGood most → AreGood (cond a (language_alone few) (cond b (without_script few) (cond c (without_region few) most)))
 few-good a b c few most small good = grind arith
 
 least-good : (most : Fields) → AreGood most → AreGood (least most)
-least-good most good = few-good _ _ _ (known_fields most) most (known_fields-good most good) good
+least-good most good = few-good _ _ _ (known_fields most) most (grind arith) good
 
 -- ---- the fields of a tag
 

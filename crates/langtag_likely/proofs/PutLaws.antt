@@ -1,6 +1,6 @@
 -- A tag with other fields, piece by piece.
-use Rattle.langtag_scan.proofs.Prelude.{◌≡◌, ℕ, ◌+◌, ◌≤◌, true, List, [], ◌∷◌, ◌++◌, length, drop, refl, ap, IsTrue, arith, append_assoc, rules, codes, flat_map, length-append, append-nil, common_steps, nat_tests}
-use Rattle.langtag_scan.specs.Grammar.{AllByRecursion, Spells, is_extended, is_primary, are_alike, ends_of, Record, one_flat, extension_flat, private_part_flat, spell, join}
+use Rattle.langtag_scan.proofs.Prelude.{◌≡◌, ℕ, ◌+◌, ◌≤◌, true, List, [], ◌∷◌, ◌++◌, length, drop, arith, append_assoc, rules, codes, flat_map, length-append, append-nil, common_steps, nat_tests}
+use Rattle.langtag_scan.specs.Grammar.{Spells, are_alike, ends_of, Record, one_flat, extension_flat, private_part_flat, spell, join}
 use Rattle.langtag_scan.specs.declared.ends.Ends.{Ends}
 use Rattle.langtag_scan.proofs.Laws.{extended_three, length-join, region_two_three, hyphenated, hyphenated-append, join-append, drop-join, ends_in_order, length-spell}
 use Rattle.langtag_text.specs.Fields.{Fields, subtag_of}
@@ -18,14 +18,9 @@ pub und_alone :
     or_other other text ≡ join (put_language primary extended other ∷ extended)
 und_alone primary extended text other spells und = grind (arith, common_steps, primary_length, extended_primary, length-append)
 
--- a language of three bytes has no extended subtags
-no_room : (primary : List ℕ) (extended : List (List ℕ)) → is_primary primary ≡ true → AllByRecursion (λ s. IsTrue (is_extended s)) extended → length (join (primary ∷ extended)) ≤ 3 → true ≡ is_read primary extended
-no_room primary [] first others short = refl
-no_room primary (e ∷ es) first others short =
-    absurd (omega (arith, short, length-join primary (e ∷ es), primary_length primary first, length-append e (hyphenated es), (extended_three e others.0).0))
-
 pub short_read : (r : Record) (text : List ℕ) (ends : Ends) → Spells r text → ends ≡ ends_of r → ends.language ≤ 3 → true ≡ is_read r.primary r.extended
-short_read r text ends spells is short = no_room r.primary r.extended spells.0.primary spells.0.extended (omega (arith, short, ap (λ e. e.language) is))
+short_read r text ends spells is short =
+    grind (arith, nat_tests, common_steps, length-join, primary_length, length-append, hyphenated, extended_three)
 
 -- ---- the whole text
 

@@ -1,16 +1,15 @@
 //! The fields of a tag that likely subtags fill in: its language, its script and its region.
-ghost use Rattle.std.specs.Prelude.{◌≡◌, IsTrue, [], codes, unwrap_or, option_map};
+ghost use Rattle.std.specs.Prelude.{◌≡◌, IsTrue};
 ghost use Rattle.langtag_scan.specs.Grammar.{EachRecord};
-ghost use Rattle.langtag.specs.Definitions.{EachLanguageSpelling, language_text, script_text, region_text, normal_lang_tag_text};
-ghost use Rattle.langtag_text.specs.FieldClasses.{is_language_field, is_script_field, is_region_field};
-ghost use Rattle.langtag_cldr.specs.Definitions.{known, field_texts};
+ghost use Rattle.langtag.specs.Definitions.{EachLanguageSpelling, language_text, normal_lang_tag_text};
+ghost use Rattle.langtag_text.specs.FieldClasses.{is_language_field};
+ghost use Rattle.langtag_cldr.specs.Definitions.{field_texts};
 ghost use Rattle.langtag_likely.specs.Maximal.{fields_of, is_read, language_field};
 
-use langtag::NormalLangTag;
+use langtag::{NormalLangTag, region_field, script_field};
 use langtag_cldr::{TagFields, known};
 use langtag_fields::is_prefix_of;
 use langtag_language::Language;
-use langtag_place::{Region, Script};
 
 /// Returns the fields of a normal tag. A field is empty if it is absent or unknown.
 pub fn fields_of(tag: NormalLangTag<'_>) -> TagFields<'_>
@@ -18,8 +17,8 @@ pub fn fields_of(tag: NormalLangTag<'_>) -> TagFields<'_>
 {
     TagFields {
         language: language_field(tag.language()),
-        script: script_field(tag.script()),
-        region: region_field(tag.region()),
+        script: known(b"Zzzz", script_field(tag.script())),
+        region: known(b"ZZ", region_field(tag.region())),
     }
 }
 
@@ -56,7 +55,8 @@ fn is_language_read(language: Language<'_>) -> bool
 /// Returns the last extended subtag, or the primary subtag if there is none. Returns the empty string for `und`.
 #[tactic(auto, using(langtag_cldr::proofs::FieldClasses::from_extended))]
 fn language_field<'a>(language: Language<'a>) -> &'a [u8]
-    ensures field { EachLanguageSpelling (language_text language.entry) (λ primary extended. result.now ≡ language_field primary extended) }
+    ensures field { EachLanguageSpelling (language_text language.entry)
+        (λ primary extended. result.now ≡ language_field primary extended) }
     ensures in_class { IsTrue (is_language_field result.now) }
 {
     let mut extlangs = language.extension_subtags();
@@ -69,27 +69,5 @@ fn language_field<'a>(language: Language<'a>) -> &'a [u8]
     match extlangs.next() {
         Some(third) => third.as_bytes(),
         None => second.as_bytes(),
-    }
-}
-
-/// Returns the string of a script, or the empty string if there is none or it is `Zzzz`.
-fn script_field<'a>(script: Option<Script<'a>>) -> &'a [u8]
-    ensures field { result.now ≡ known (codes "Zzzz") (unwrap_or (option_map script_text script.entry) []) }
-    ensures in_class { IsTrue (is_script_field result.now) }
-{
-    match script {
-        Some(script) => known(b"Zzzz", script.as_bytes()),
-        None => b"",
-    }
-}
-
-/// Returns the string of a region, or the empty string if there is none or it is `ZZ`.
-fn region_field<'a>(region: Option<Region<'a>>) -> &'a [u8]
-    ensures field { result.now ≡ known (codes "ZZ") (unwrap_or (option_map region_text region.entry) []) }
-    ensures in_class { IsTrue (is_region_field result.now) }
-{
-    match region {
-        Some(region) => known(b"ZZ", region.as_bytes()),
-        None => b"",
     }
 }

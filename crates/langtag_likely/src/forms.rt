@@ -3,7 +3,8 @@
 //! should change none. `minimized` keeps a deprecated region such as `SU`, because `maximized` could not restore it.
 ghost use Rattle.std.specs.Prelude.{◌≡◌, ◌+◌, ◌-◌, ◌^◌, ◌≤◌, flat_map, length, min, IfOk, option_map};
 ghost use Rattle.langtag_scan.specs.Grammar.{EachRecord, IsTag};
-ghost use Rattle.langtag.specs.Definitions.{lang_tag_text, lang_tag_buf_text, normal_lang_tag_text, Writes, IsOnlyForm, IsAlikeForm};
+ghost use Rattle.langtag.specs.Definitions.{lang_tag_text, lang_tag_buf_text, normal_lang_tag_text};
+ghost use Rattle.langtag.specs.Definitions.{Writes, IsOnlyForm, IsAlikeForm};
 ghost use Rattle.langtag_cldr.specs.Definitions.{add_likely_subtags, remove_likely_subtags, field_texts};
 ghost use Rattle.langtag_likely.specs.Maximal.{IsMaximalForm, IsMinimalForm, fields_of, if_read, maximal_record, minimal_record};
 ghost use Rattle.langtag_likely.specs.MaximalLaws.{KeepsOthers, TellsAsMaximal, UndoesMaximal, UndoesMinimal};
@@ -119,7 +120,8 @@ pub fn write_minimized(tag: LangTag<'_>, buffer: &mut [u8]) -> usize
 /// is not registered.
 #[inline(always)]
 fn most_fields(tag: NormalLangTag<'_>) -> Option<TagFields<'_>>
-    ensures { EachRecord (normal_lang_tag_text tag.entry) (λ r. option_map field_texts result ≡ if_read r (add_likely_subtags (fields_of r))) }
+    ensures { EachRecord (normal_lang_tag_text tag.entry)
+        (λ r. option_map field_texts result ≡ if_read r (add_likely_subtags (fields_of r))) }
 {
     if !is_read(tag) {
         return None;
@@ -131,7 +133,8 @@ fn most_fields(tag: NormalLangTag<'_>) -> Option<TagFields<'_>>
 /// tag is not registered.
 #[inline(always)]
 fn fewest_fields(tag: NormalLangTag<'_>) -> Option<TagFields<'_>>
-    ensures { EachRecord (normal_lang_tag_text tag.entry) (λ r. option_map field_texts result ≡ if_read r (remove_likely_subtags (fields_of r))) }
+    ensures { EachRecord (normal_lang_tag_text tag.entry)
+        (λ r. option_map field_texts result ≡ if_read r (remove_likely_subtags (fields_of r))) }
 {
     if !is_read(tag) {
         return None;

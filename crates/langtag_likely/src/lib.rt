@@ -20,5 +20,5 @@ pub use direction::is_right_to_left;
 pub use forms::{maximized, minimized, write_maximized, write_minimized};
 pub use langtag_cldr::{CLDR_VERSION, suggested_language, suggested_region};
 
-// For langtag_posix.
+// For this repository.
 pub use fields::fields_of;

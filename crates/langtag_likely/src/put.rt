@@ -14,8 +14,10 @@ use langtag_language::Language;
 #[inline(always)]
 pub(crate) fn changed<'a>(tag: NormalLangTag<'a>, fields: Option<TagFields<'a>>) -> [&'a [u8]; 6]
     ensures whole { EachRecord (normal_lang_tag_text tag.entry)
-        (λ r. flat_map (λ piece. piece.now) result ≡ spell (option_map_or (put_fields r) (option_map field_texts fields.entry) r)) }
-    ensures short { EachRecord (normal_lang_tag_text tag.entry) (λ r. length (flat_map (λ piece. piece.now) result) ≤ length (normal_lang_tag_text tag.entry) + 17) }
+        (λ r. flat_map (λ piece. piece.now) result
+        ≡ spell (option_map_or (put_fields r) (option_map field_texts fields.entry) r)) }
+    ensures short { EachRecord (normal_lang_tag_text tag.entry)
+        (λ r. length (flat_map (λ piece. piece.now) result) ≤ length (normal_lang_tag_text tag.entry) + 17) }
 {
     match fields {
         Some(fields) => pieces(tag, fields),
@@ -33,8 +35,10 @@ pub(crate) fn whole(text: &[u8]) -> [&[u8]; 6]
 /// Returns the pieces of a tag with these fields. It is inlined, so that the pieces are not copied.
 #[inline(always)]
 fn pieces<'a>(tag: NormalLangTag<'a>, fields: TagFields<'a>) -> [&'a [u8]; 6]
-    ensures whole { EachRecord (normal_lang_tag_text tag.entry) (λ r. flat_map (λ piece. piece.now) result ≡ spell (put_fields r (field_texts fields.entry))) }
-    ensures short { EachRecord (normal_lang_tag_text tag.entry) (λ r. length (flat_map (λ piece. piece.now) result) ≤ length (normal_lang_tag_text tag.entry) + 17) }
+    ensures whole { EachRecord (normal_lang_tag_text tag.entry)
+        (λ r. flat_map (λ piece. piece.now) result ≡ spell (put_fields r (field_texts fields.entry))) }
+    ensures short { EachRecord (normal_lang_tag_text tag.entry)
+        (λ r. length (flat_map (λ piece. piece.now) result) ≤ length (normal_lang_tag_text tag.entry) + 17) }
 {
     [
         put_language(tag.language(), fields.language),

@@ -85,7 +85,8 @@ impl<'a> AcceptLanguage<'a> {
 
     /// Leaves out the elements of weight 0, and sorts the other elements by descending weight.
     fn by_weight(elements: Vec<WeightedRange<'a>>) -> Result<AcceptLanguage<'a>, AllocError>
-        ensures { IfOk result (λ accepted. spec.IsByWeight (spec.acceptable (map spec.reading elements.entry.items)) (map spec.reading (accept_language_ranges accepted))) }
+        ensures { IfOk result (λ accepted. spec.IsByWeight (spec.acceptable (map spec.reading elements.entry.items))
+            (map spec.reading (accept_language_ranges accepted))) }
     {
         let mut ranges = elements;
         ranges.retain(|weighted| weighted.weight > 0);
@@ -106,7 +107,8 @@ impl<'a> AcceptLanguage<'a> {
         ensures list { result.now ≡ accept_language_ranges self.now }
 
         ensures compared { WeightedRangesCompareByBoth }
-        ensures cloned { (weighted copy : WeightedRange) → ⟦<WeightedRange<'a> as Clone>⟧.is_clone weighted copy → copy ≡ weighted }
+        ensures cloned { (weighted copy : WeightedRange) → ⟦<WeightedRange<'a> as Clone>⟧.is_clone weighted copy
+            → copy ≡ weighted }
         ensures clone_succeeds { (weighted : WeightedRange) → ⟦<WeightedRange<'a> as Clone>⟧.is_infallible weighted }
     {
         self.ranges.as_slice()

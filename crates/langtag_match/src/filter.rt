@@ -38,7 +38,8 @@ pub fn filter_basic<'a, 't>(
 
     // law: a permutation of the tags that some range matches
     ensures found_once { spec.AreFoundOnce test_basic ranges.now tags.now (filtered_left result) }
-    ensures cloned { (walk copy : Filtered) → ⟦<Filtered<'a, 't> as Clone>⟧.is_clone walk copy → filtered_left copy ≡ filtered_left walk }
+    ensures cloned { (walk copy : Filtered) → ⟦<Filtered<'a, 't> as Clone>⟧.is_clone walk copy
+        → filtered_left copy ≡ filtered_left walk }
     ensures clone_succeeds { (walk : Filtered) → ⟦<Filtered<'a, 't> as Clone>⟧.is_infallible walk }
 {
     Filtered::new(FilterRule::Basic, ranges, tags)

@@ -2,7 +2,8 @@
 ghost use Rattle.std.specs.Prelude.{◌≡◌, ◌<◌, ◌^◌, ◌↔◌, Some, IsTrue, IfOk, IfErr, is_ok, length, string_bytes};
 ghost use Rattle.langtag_scan.specs.Grammar.{are_alike};
 ghost use Rattle.langtag.specs.Definitions.{lang_tag_text};
-ghost use Rattle.langtag_range.specs.Definitions.{MatchesBasic, test_basic, MatchesExtended, test_extended, fallbacks, is_basic_range, is_language_range};
+ghost use Rattle.langtag_range.specs.Definitions.{MatchesBasic, test_basic, MatchesExtended, test_extended};
+ghost use Rattle.langtag_range.specs.Definitions.{fallbacks, is_basic_range, is_language_range};
 
 use crate::fallbacks::Fallbacks;
 use langtag::LangTag;
@@ -166,7 +167,8 @@ impl<'a> LanguageRange<'a> {
         ensures list { fallbacks_left result ≡ fallbacks (language_range_text self.now) }
         ensures few { length (fallbacks_left result) < 2 ^ 64 }
 
-        ensures cloned { (walk copy : Fallbacks) → ⟦<Fallbacks<'a> as Clone>⟧.is_clone walk copy → fallbacks_left copy ≡ fallbacks_left walk }
+        ensures cloned { (walk copy : Fallbacks) → ⟦<Fallbacks<'a> as Clone>⟧.is_clone walk copy
+            → fallbacks_left copy ≡ fallbacks_left walk }
         ensures clone_succeeds { (walk : Fallbacks) → ⟦<Fallbacks<'a> as Clone>⟧.is_infallible walk }
     {
         Fallbacks::new(*self)

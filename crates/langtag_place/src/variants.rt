@@ -1,5 +1,6 @@
 //! The variants of a tag as one string (RFC 5646 section 2.2.5).
-ghost use Rattle.std.specs.Prelude.{◌≡◌, ◌↔◌, ◌-◌, ℕ, List, [], Some, IsTrue, IfOk, IfErr, is_ok, length, slice_get, option_map, string_bytes};
+ghost use Rattle.std.specs.Prelude.{◌≡◌, ◌↔◌, ◌-◌, ℕ, List, [], Some, IsTrue, IfOk, IfErr};
+ghost use Rattle.std.specs.Prelude.{is_ok, length, slice_get, option_map, string_bytes};
 ghost use Rattle.langtag_scan.specs.Grammar.{are_alike, subtags};
 ghost use Rattle.langtag_place.specs.Decided.{is_variants};
 ghost use Rattle.langtag_place.specs.Variants.{IsVariants, SpellsVariants};
@@ -136,7 +137,8 @@ impl<'a> Variants<'a> {
         ensures list { variants_left result ≡ subtags (variants_text self.now) }
         ensures spells { SpellsVariants (variants_left result) (variants_text self.now) }
 
-        ensures cloned { (walk copy : VariantsIter) → ⟦<VariantsIter<'a> as Clone>⟧.is_clone walk copy → variants_left copy ≡ variants_left walk }
+        ensures cloned { (walk copy : VariantsIter) → ⟦<VariantsIter<'a> as Clone>⟧.is_clone walk copy
+            → variants_left copy ≡ variants_left walk }
         ensures clone_succeeds { (walk : VariantsIter) → ⟦<VariantsIter<'a> as Clone>⟧.is_infallible walk }
     {
         VariantsIter::new(self.as_str())

@@ -41,9 +41,7 @@ pub ruleset private_rules = (IsPrivate-from_test, is_private_use-from_rule, IsPr
 
 -- a private use part in another case is one
 alike_mark : (s : List ℕ) → is_mark_alone (fold_text s) ≡ is_mark_alone s
-alike_mark [] = refl
-alike_mark (b ∷ []) = is_mark-fold b
-alike_mark (b ∷ c ∷ s) = refl
+alike_mark s = grind (arith, common_steps, is_mark-fold)
 
 alike_lists : (texts : List (List ℕ)) → are_private_use (map fold_text texts) ≡ are_private_use texts
 alike_lists [] = refl

@@ -131,9 +131,11 @@ impl<'a> PrivateUse<'a> {
     #[tactic(auto, using(crate::proofs::Rules::others_spelled))]
     pub fn iter(&self) -> PrivateUseIter<'a>
         ensures list { private_use_subtags_left result ≡ drop 1 (subtags (private_use_text self.now)) }
-        ensures members { EachPrivateUseSpelling (private_use_text self.now) (λ members. private_use_subtags_left result ≡ members) }
+        ensures members { EachPrivateUseSpelling (private_use_text self.now)
+            (λ members. private_use_subtags_left result ≡ members) }
 
-        ensures cloned { (walk copy : PrivateUseIter) → ⟦<PrivateUseIter<'a> as Clone>⟧.is_clone walk copy → private_use_subtags_left copy ≡ private_use_subtags_left walk }
+        ensures cloned { (walk copy : PrivateUseIter) → ⟦<PrivateUseIter<'a> as Clone>⟧.is_clone walk copy
+            → private_use_subtags_left copy ≡ private_use_subtags_left walk }
         ensures clone_succeeds { (walk : PrivateUseIter) → ⟦<PrivateUseIter<'a> as Clone>⟧.is_infallible walk }
     {
         PrivateUseIter::new(self.as_str())

@@ -1,6 +1,7 @@
 //! A subtag of a private use part (RFC 5646 section 2.2.7).
 ghost use Rattle.std.specs.Prelude.{◌≡◌, ◌&&◌, ◌||◌, length, Some, IsTrue, IfOk, IfErr, is_ok, string_bytes};
-ghost use Rattle.langtag_scan.specs.Grammar.{is_ascii_alphabetic, is_ascii_digit, is_in_range, list_all, are_alike, is_private_subtag};
+ghost use Rattle.langtag_scan.specs.Grammar.{is_ascii_alphabetic, is_ascii_digit, is_in_range};
+ghost use Rattle.langtag_scan.specs.Grammar.{list_all, are_alike, is_private_subtag};
 
 use langtag_scan::{Caseless, is_private_subtag};
 use std::alloc::{AllocError, Global};
@@ -146,7 +147,8 @@ pub struct PrivateUseSubtagBuf {
 
 impl PrivateUseSubtagBuf {
     ghost use Rattle.langtag_private.specs.Compared.{PrivateUseSubtagBufsCompareByCase};
-    ghost use Rattle.langtag_private.specs.Text.{private_use_subtag_text, private_use_subtag_buf_text, private_use_subtag_buf_string};
+    ghost use Rattle.langtag_private.specs.Text.{private_use_subtag_text, private_use_subtag_buf_text};
+    ghost use Rattle.langtag_private.specs.Text.{private_use_subtag_buf_string};
 
     /// Parses a `String` as a subtag and keeps it, without copying.
     ///

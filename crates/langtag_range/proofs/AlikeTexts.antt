@@ -1,8 +1,8 @@
 -- The case of letters changes no mark, no digit and no range in a text; so alike headers have alike elements.
 use Rattle.langtag_scan.proofs.Prelude.{◌≡◌, ℕ, ◌+◌, Bool, List, [], ◌∷◌, map, reverse, refl, arith, ◌<◌, eqb, ap, true, cond, Option, None, Some, option_map, sym, ◌∙◌, list_any, slice_split, before_first, after_first, position_or_len, list_all, take-map, drop-map, map-append, reverse-append, length-map, common_steps, nat_tests, eqb_tells, and_parts}
-use Rattle.langtag_scan.specs.Grammar.{fold_byte, fold_text, is_letter, is_private_subtag, are_digits, is_digit, subtags, Classes}
+use Rattle.langtag_scan.specs.Grammar.{fold_byte, fold_text, is_private_subtag, are_digits, is_digit, subtags, Classes}
 use Rattle.langtag_scan.proofs.CaseLaw.{all-fold, is_letter-fold, length-fold, classes-fold, is_digit-fold, subtags-fold}
-use Rattle.langtag_range.specs.Definitions.{from_first, trimmed, Element, is_comma, is_semicolon, items, is_star, is_first_subtag, is_basic_range, hyphened, wanted_text, number_weight, value_weight, is_equals, is_q_name, is_q_parameter, wanted_weight, parameters, written, digits_behind, written_items, written_elements, hyphened_element, wanted_elements, folded, ElementsIgnoreCase, ends_locale, front_of, is_hash, place_before, locale_place, without_mark}
+use Rattle.langtag_range.specs.Definitions.{from_first, trimmed, Element, is_semicolon, items, is_star, is_basic_range, hyphened, wanted_text, number_weight, value_weight, is_equals, is_q_name, is_q_parameter, wanted_weight, parameters, written, digits_behind, written_items, hyphened_element, wanted_elements, folded, ElementsIgnoreCase, is_hash, place_before, without_mark}
 use Rattle.std.proofs.Math.ListN.{get_or-map}
 
 module _ (p : ℕ → Bool) (same : (b : ℕ) → p (fold_byte b) ≡ p b) where
@@ -60,20 +60,15 @@ is_star-fold [] = refl
 is_star-fold (b ∷ []) = rw (mark-fold 42 (omega arith) b) refl
 is_star-fold (b ∷ c ∷ range) = rw (mark-fold 42 (omega arith) b) refl
 
-is_first_subtag-fold : (subtag : List ℕ) → is_first_subtag (fold_text subtag) ≡ is_first_subtag subtag
-is_first_subtag-fold subtag = rw (length-fold subtag, all-fold is_letter is_letter-fold subtag) refl
-
 are_private-fold : (subtags : List (List ℕ)) → list_all is_private_subtag (map fold_text subtags) ≡ list_all is_private_subtag subtags
 are_private-fold [] = refl
 are_private-fold (subtag ∷ subtags) = rw (ap (λ (c : Classes). c.private_subtag) (classes-fold subtag), are_private-fold subtags) refl
 
 pub is_basic_range-fold : (text : List ℕ) → is_basic_range (fold_text text) ≡ is_basic_range text
-is_basic_range-fold text = grind (arith, common_steps, is_star-fold text, subtags-fold text, is_first_subtag-fold, are_private-fold)
+is_basic_range-fold text =
+    grind (arith, common_steps, is_star-fold text, subtags-fold text, length-fold, all-fold, is_letter-fold, are_private-fold)
 
 -- ---- where an item is cut
-
-ends_locale-fold : (b : ℕ) → ends_locale (fold_byte b) ≡ ends_locale b
-ends_locale-fold b = rw (mark-fold 46 (omega arith) b, mark-fold 64 (omega arith) b) refl
 
 without_mark-fold : (text : List ℕ) → without_mark (fold_text text) ≡ fold_text (without_mark text)
 unfolding fold_byte
@@ -82,12 +77,9 @@ without_mark-fold text = grind (arith, common_steps, length-map, get_or-map, und
 place_before-fold : (front : List ℕ) → place_before (fold_text front) ≡ fold_text (place_before front)
 place_before-fold front = grind (arith, nat_tests, list_any-fold is_hash, mark-fold 35, before_first-fold is_hash, without_mark-fold)
 
-locale_place-fold : (name : List ℕ) → locale_place (fold_text name) ≡ fold_text (locale_place name)
-locale_place-fold name = rw (before_first-fold ends_locale ends_locale-fold name) (place_before-fold (front_of name))
-
 -- what is to be the range of an item
 wanted_text-fold : (item : List ℕ) → wanted_text (fold_text item) ≡ fold_text (wanted_text item)
-wanted_text-fold item = grind (arith, common_steps, before_first-fold, mark-fold, trimmed-fold, locale_place-fold)
+wanted_text-fold item = grind (arith, common_steps, before_first-fold, mark-fold, trimmed-fold, place_before-fold)
 
 parameters-fold : (item : List ℕ) → parameters (fold_text item) ≡ map fold_text (parameters item)
 parameters-fold item = grind (arith, nat_tests, after_first-fold is_semicolon, mark-fold 59, slice_split-fold is_semicolon)
@@ -136,16 +128,12 @@ written_items-fold : (items : List (List ℕ)) → written_items (map fold_text 
 written_items-fold [] = refl
 written_items-fold (item ∷ items) = grind (arith, common_steps, written-fold item (digits_behind items), written_items-fold items, all-fold is_digit is_digit-fold)
 
--- those of a header in small letters are those of the header, in small letters
-written_elements-fold : (header : List ℕ) → written_elements (fold_text header) ≡ map folded (written_elements header)
-written_elements-fold header = ap written_items (slice_split-fold is_comma (mark-fold 44 (omega arith)) header) ∙ written_items-fold (items header)
-
 hyphened_elements-fold : (elements : List Element) → map hyphened_element (map folded elements) ≡ map folded (map hyphened_element elements)
 hyphened_elements-fold [] = refl
 hyphened_elements-fold (element ∷ elements) = grind (arith, common_steps, hyphened-fold element.range, hyphened_elements-fold elements)
 
 wanted_elements-fold : (header : List ℕ) → wanted_elements (fold_text header) ≡ map folded (wanted_elements header)
-wanted_elements-fold header = ap (map hyphened_element) (written_elements-fold header) ∙ hyphened_elements-fold (written_elements header)
+wanted_elements-fold header = grind (arith, common_steps, slice_split-fold, mark-fold, written_items-fold, hyphened_elements-fold)
 
 pub alike_headers : (header : List ℕ) → ElementsIgnoreCase header (wanted_elements header)
 alike_headers header other alike = sym (wanted_elements-fold other) ∙ ap wanted_elements (sym alike) ∙ wanted_elements-fold header

@@ -173,20 +173,15 @@ begins_shown range tag h = grind (arith, common_steps, length-alike, take_all, l
 
 -- ---- the same as a test
 
-ends_subtag-hyphen : (rest : List ℕ) → ends_subtag rest ≡ true → 0 < length rest → get_or rest 0 0 ≡ 45
-ends_subtag-hyphen rest ends some = grind (arith, common_steps, eqb-true)
-
-ends_subtag-from_hyphen : (rest : List ℕ) → (0 < length rest → get_or rest 0 0 ≡ 45) → ends_subtag rest ≡ true
-ends_subtag-from_hyphen rest hyphen = grind (arith, common_steps, eq-eqb)
-
 first-drop : (n : ℕ) (text : List ℕ) → get_or (drop n text) 0 0 ≡ get_or text n 0
 first-drop n text = grind (arith, common_steps, get_or-drop n text 0 0)
 
 begins_from_test : (range tag : List ℕ) → are_alike range (take (length range) tag) ≡ true → ends_subtag (drop (length range) tag) ≡ true → BeginsWithRange range tag
-begins_from_test range tag alike ends = search (rules, cases_lt, ends_subtag-hyphen, length-drop, begins_before, first-drop, take_all)
+begins_from_test range tag alike ends =
+    grind (arith, common_steps, rules, cases_lt, eqb-true, length-drop, begins_before, first-drop, take_all)
 
 test_from_begins : (range tag : List ℕ) → BeginsWithRange range tag → (are_alike range (take (length range) tag) && ends_subtag (drop (length range) tag)) ≡ true
-test_from_begins range tag begins = search (rules, begins_shown, ends_subtag-from_hyphen, first-drop, length-drop)
+test_from_begins range tag begins = grind (arith, common_steps, rules, begins_shown, eq-eqb, first-drop, length-drop)
 
 pub test_basic-decides : (range tag : List ℕ) → IsTrue (test_basic range tag) ↔ MatchesBasic range tag
 test_basic-decides range tag = grind (arith, common_steps, or_cases, and_parts, begins_from_test, or_right, test_from_begins)

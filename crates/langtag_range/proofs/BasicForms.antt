@@ -19,12 +19,9 @@ pub ruleset basic_ranges = (is_language_range-from_basic)
 abbrev pub is_range_byte : ℕ → Bool
 is_range_byte b = is_alphanumeric b || (eqb b 42 || eqb b 45)
 
-range_byte : (b : ℕ) → is_alphanumeric b ≡ true → is_range_byte b ≡ true
-range_byte b is = rw is refl
-
 subtag_bytes : (s : List ℕ) → is_range_subtag s ≡ true → list_all is_range_byte s ≡ true
 unfolding is_private_subtag
-subtag_bytes s is = grind (arith, common_steps, or_cases, bytes_eq-Decides s (42 ∷ []), and_parts, list_all-weaker, range_byte)
+subtag_bytes s is = grind (arith, common_steps, or_cases, bytes_eq-Decides s (42 ∷ []), and_parts, list_all-weaker)
 
 segment_bytes : (text : List ℕ) → list_all (list_all is_range_byte) (segments text) ≡ true → list_all is_range_byte text ≡ true
 segment_bytes [] all = refl

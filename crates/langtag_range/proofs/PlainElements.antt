@@ -38,8 +38,7 @@ reads_on is_first len (b ∷ text) =
 
 no_separator : (is_first : Bool) (b : ℕ) → is_in_subtag is_first b ≡ true → is_separator b ≡ false
 unfolding is_letter is_digit
-no_separator true b is = grind (arith, nat_tests)
-no_separator false b is = grind (arith, nat_tests)
+no_separator is_first b is = grind (arith, nat_tests, common_steps)
 
 -- the rest of a subtag, and the other subtags
 abbrev goes_on : Bool → ℕ → List ℕ → Bool
@@ -130,9 +129,7 @@ module _ (range : List ℕ) (is : is_basic_range (hyphened range) ≡ true) wher
     last_with = grind (arith, common_steps, elements_at (range ++ tail), whole_before is_comma, after_none, free, element_with [], nothing_written)
 
     next_with : (rest : List ℕ) → written_elements (range ++ tail ++ 44 ∷ rest) ≡ record { range = range; weight = wanted_weight (slice_split is_semicolon (after_first is_semicolon tail)) (digits_behind (items rest)) } ∷ written_elements rest
-    next_with rest =
-        elements_at ((range ++ tail) ++ 44 ∷ rest)
-        ∙ rw (before_rest is_comma (range ++ tail) (44 ∷ rest) free, after_rest is_comma (range ++ tail) (44 ∷ rest) free, append-nil (range ++ tail), element_with (digits_behind (items rest))) refl
+    next_with rest = grind (arith, common_steps, elements_at, before_rest, free, after_rest, append-nil, element_with)
 
   -- the text after the range has no weight
   pub read_unweighted :

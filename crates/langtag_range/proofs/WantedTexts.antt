@@ -3,7 +3,7 @@ use Rattle.langtag_scan.proofs.Prelude.{◌≡◌, ℕ, ◌+◌, ◌-◌, ◌<�
 use Rattle.std.proofs.lemmas.List.{reverse-reverse}
 use Rattle.langtag_range.specs.Definitions.{from_first, is_ows, is_space, items, is_comma, is_semicolon, trimmed, is_hash, is_star, is_first_subtag, is_range_subtag, are_basic_range, are_extended_range, are_range_subtags, is_basic_range, is_language_range, hyphened, is_separator, is_q_name, is_q_parameter, is_equals, is_point, number_weight, value_weight, wanted_weight, written, digits_behind, written_items, written_elements}
 use Rattle.langtag_range.specs.Weight.{is_qvalue, thousandths}
-use Rattle.langtag_scan.specs.Grammar.{has_length, are_digits, are_letters, is_private_subtag, segments, subtags}
+use Rattle.langtag_scan.specs.Grammar.{are_digits, is_private_subtag, segments, subtags}
 use Rattle.langtag_scan.proofs.SubtagFacts.{letters_alphanumeric}
 use Rattle.langtag_range.proofs.Places.{any_at_first, none_at_length}
 
@@ -68,13 +68,10 @@ is_star-read [] = refl
 is_star-read (b ∷ []) = grind (arith, common_steps, eqb_tells b 95)
 is_star-read (b ∷ c ∷ text) = grind (arith, common_steps, eqb_tells b 95)
 
-first_private : (text : List ℕ) → is_first_subtag text ≡ true → is_private_subtag text ≡ true
-unfolding is_private_subtag
-first_private text is = grind (arith, common_steps, and_parts (has_length 1 8 text) (are_letters text) is, letters_alphanumeric text)
-
 -- each first subtag of a range may stand elsewhere
 pub first_in_range : (text : List ℕ) → (is_star text || is_first_subtag text) ≡ true → is_range_subtag text ≡ true
-first_in_range text is = grind (arith, common_steps, or_cases, or_right, first_private)
+unfolding is_private_subtag
+first_in_range text is = grind (arith, common_steps, or_cases, or_right, and_parts, letters_alphanumeric)
 
 pub extended_parts :
     (first : List ℕ) (others : List (List ℕ)) →

@@ -40,7 +40,8 @@ fn stand_among(wanted: Subtags<'_>, mut subtags: Subtags<'_>) -> bool
 /// Reads subtags until one equals `wanted`, ignoring case, and then returns `true`. Returns `false` if it reads another
 /// single-character subtag first, or if no subtags are left.
 fn pass(subtags: &mut Subtags<'_>, wanted: &str) -> bool
-    ensures found { result ≡ true → (more : List (List ℕ)) → spec.StandAmong more subtags.new ↔ spec.StandAmong (wanted.now ∷ more) subtags.old }
+    ensures found { result ≡ true → (more : List (List ℕ)) → spec.StandAmong more subtags.new
+        ↔ spec.StandAmong (wanted.now ∷ more) subtags.old }
     ensures missed { result ≡ false → (more : List (List ℕ)) → spec.StandAmong (wanted.now ∷ more) subtags.old → ⊥ }
 {
     while let Some(subtag) = subtags.next() {

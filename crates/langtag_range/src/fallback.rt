@@ -11,7 +11,8 @@ use langtag_scan::segment_start;
 pub fn shortened_len(range: &[u8]) -> Option<usize>
     ensures shorter { IfSome result (λ len. len < length range.now) }
     ensures same { spec.fallbacks range.now ≡ range.now ∷ option_map_or (λ len. spec.fallbacks (take len range.now)) result [] }
-    ensures in_class { IfSome result (λ len. IsTrue (is_language_range range.now) → IsTrue (is_language_range (take len range.now))) }
+    ensures in_class { IfSome result (λ len. IsTrue (is_language_range range.now)
+        → IsTrue (is_language_range (take len range.now))) }
 {
     let mut left = range;
     while let Some(len) = len_without_last(left) {
@@ -26,8 +27,10 @@ pub fn shortened_len(range: &[u8]) -> Option<usize>
 /// Returns the number of bytes before the last hyphen.
 fn len_without_last(range: &[u8]) -> Option<usize>
     ensures shorter { IfSome result (λ len. len < length range.now) }
-    ensures cut { spec.before_hyphens range.now ≡ option_map_or (λ len. take len range.now ∷ spec.before_hyphens (take len range.now)) result [] }
-    ensures in_class { IfSome result (λ len. IsTrue (is_language_range range.now) → IsTrue (is_language_range (take len range.now))) }
+    ensures cut { spec.before_hyphens range.now
+        ≡ option_map_or (λ len. take len range.now ∷ spec.before_hyphens (take len range.now)) result [] }
+    ensures in_class { IfSome result (λ len. IsTrue (is_language_range range.now)
+        → IsTrue (is_language_range (take len range.now))) }
 {
     let start = segment_start(range, range.len());
     if start == 0 {

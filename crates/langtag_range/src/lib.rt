@@ -30,7 +30,7 @@ pub use wanted::{WantedRange, WantedRanges, split_wanted, wanted_ranges};
 pub use weight::weight_of;
 pub use white_space::is_empty_element;
 
-// For the crates above that read ranges, lists and names.
+// For this repository.
 pub use basic::matches_basic;
 pub use basic_form::is_range;
 pub use extended::matches_extended;

@@ -11,7 +11,8 @@ use crate::wanted_element::is_wanted_range;
 /// range, and perhaps a weight such as `;q=0.5`. Returns `None` for any other element, such as `de_CH.UTF-8`.
 #[tactic(auto, using(std::proofs::lemmas::List::take_rest))]
 pub(crate) fn plain_element(header: &[u8]) -> Option<(WantedRange<'_>, &[u8])>
-    ensures first { IfSome result (λ found. spec.written_elements header.now ≡ spec.written_element found.0 ∷ spec.written_elements found.1.now) }
+    ensures first { IfSome result (λ found. spec.written_elements header.now
+        ≡ spec.written_element found.0 ∷ spec.written_elements found.1.now) }
     ensures basic { IfSome result (λ found. IsTrue (is_basic_range (spec.hyphened found.0.bytes.now))) }
 {
     let text = without_space(header);
@@ -39,7 +40,8 @@ fn without_space(header: &[u8]) -> &[u8]
 /// unless the weight is missing or has one decimal place, as in `;q=0.5`.
 fn plain_weight(text: &[u8]) -> Option<(u32, &[u8])>
     ensures { IfSome result (λ found. (range : List ℕ) → IsTrue (is_basic_range (spec.hyphened range)) →
-        spec.written_elements (range ++ text.now) ≡ record { range = range; weight = found.0 } ∷ spec.written_elements found.1.now) }
+        spec.written_elements (range ++ text.now)
+        ≡ record { range = range; weight = found.0 } ∷ spec.written_elements found.1.now) }
 {
     match text {
         [

@@ -58,7 +58,8 @@ pub fn misplaced_variant<'a>(tag: NormalLangTag<'a>) -> Option<Variant<'a>>
 /// misplaced_extlang(NormalLangTag::new("de-yue")?).map(|extended| extended.as_str()); // Some("yue")
 /// ```
 pub fn misplaced_extlang<'a>(tag: NormalLangTag<'a>) -> Option<ExtendedLangTag<'a>>
-    ensures { EachRecord (normal_lang_tag_text tag.entry) (λ r. option_map extended_lang_tag_text result ≡ spec.misplaced_extlang r.primary r.extended) }
+    ensures { EachRecord (normal_lang_tag_text tag.entry)
+        (λ r. option_map extended_lang_tag_text result ≡ spec.misplaced_extlang r.primary r.extended) }
 {
     let language = tag.language();
     let mut extlangs = language.extension_subtags();

@@ -1,9 +1,12 @@
 //! Valid tags (RFC 5646 section 2.2.9).
 ghost use Rattle.std.specs.Prelude.{◌≡◌, ◌↔◌, [], IsNone, Some, IfSome, IfErr, is_ok, map, true, slice_get, option_map};
 ghost use Rattle.langtag_scan.specs.Grammar.{Record, EachRecord, subtags};
-ghost use Rattle.langtag.specs.Definitions.{singleton_byte, EachLanguageSpelling, language_text, script_text, region_text, variants_text, are_alike_bytes, repeat, repeat_index, lang_tag_text, normal_lang_tag_text};
+ghost use Rattle.langtag.specs.Definitions.{singleton_byte, EachLanguageSpelling, language_text};
+ghost use Rattle.langtag.specs.Definitions.{script_text, region_text, variants_text, are_alike_bytes};
+ghost use Rattle.langtag.specs.Definitions.{repeat, repeat_index, lang_tag_text, normal_lang_tag_text};
 ghost use Rattle.langtag_registry.specs.Compared.{FaultsCompareByKind};
-ghost use Rattle.langtag_registry.specs.Fault.{told, faults, fault_index, language_faults, script_faults, region_faults, variant_faults};
+ghost use Rattle.langtag_registry.specs.Fault.{told, faults, fault_index, language_faults};
+ghost use Rattle.langtag_registry.specs.Fault.{script_faults, region_faults, variant_faults};
 ghost use Rattle.langtag_fields.specs.Valid.{IsValid};
 ghost use Rattle.langtag_registry.specs.declared.invalid_subtag.InvalidSubtag.{InvalidSubtag};
 
@@ -65,9 +68,11 @@ pub fn validate<'a>(tag: LangTag<'a>) -> Result<(), InvalidSubtag<'a>>
 pub fn fault_at<'a>(tag: LangTag<'a>) -> Option<(InvalidSubtag<'a>, usize)>
     ensures valid { IsNone result ↔ IsValid (lang_tag_text tag.entry) }
     // law: the first fault
-    ensures first { IfSome result (λ fault. EachRecord (lang_tag_text tag.entry) (λ r. slice_get (faults r) 0 ≡ Some (told fault.0))) }
+    ensures first { IfSome result (λ fault. EachRecord (lang_tag_text tag.entry)
+        (λ r. slice_get (faults r) 0 ≡ Some (told fault.0))) }
     // law: the index of the variant or extension of the first fault
-    ensures index { IfSome result (λ fault. EachRecord (lang_tag_text tag.entry) (λ r. fault_index r (told fault.0) ≡ Some fault.1)) }
+    ensures index { IfSome result (λ fault. EachRecord (lang_tag_text tag.entry)
+        (λ r. fault_index r (told fault.0) ≡ Some fault.1)) }
 {
     let normal = tag.as_normal()?;
     let fault = find_fault_of_normal(normal)?;
@@ -80,8 +85,10 @@ pub fn fault_at<'a>(tag: LangTag<'a>) -> Option<(InvalidSubtag<'a>, usize)>
 /// Returns the first fault of a normal tag. It does not check whether the tag is grandfathered.
 #[tactic(auto, using(crate::proofs::FaultLaws::first_fault, langtag::proofs::PartRules::language_spelled, langtag::proofs::PartRules::variants_listed, crate::proofs::FaultLaws::first_singleton))]
 fn find_fault_of_normal<'a>(tag: NormalLangTag<'a>) -> Option<(InvalidSubtag<'a>, usize)>
-    ensures first { EachRecord (normal_lang_tag_text tag.entry) (λ r. option_map (λ fault. told fault.0) result ≡ slice_get (faults r) 0) }
-    ensures index { IfSome result (λ fault. EachRecord (normal_lang_tag_text tag.entry) (λ r. fault_index r (told fault.0) ≡ Some fault.1)) }
+    ensures first { EachRecord (normal_lang_tag_text tag.entry)
+        (λ r. option_map (λ fault. told fault.0) result ≡ slice_get (faults r) 0) }
+    ensures index { IfSome result (λ fault. EachRecord (normal_lang_tag_text tag.entry)
+        (λ r. fault_index r (told fault.0) ≡ Some fault.1)) }
 {
     if let Some(fault) = find_language_fault(tag.language()) {
         return Some((fault, 0));
@@ -146,7 +153,8 @@ fn find_region_fault<'a>(region: Option<Region<'a>>) -> Option<InvalidSubtag<'a>
 // Each variant is compared with the variants before it. The earlier variants are registered and all different, so they
 // are few.
 fn find_variant_fault<'a>(variants: Variants<'a>) -> Option<(InvalidSubtag<'a>, usize)>
-    ensures first { option_map (λ fault. told fault.0) result ≡ slice_get (variant_faults [] (subtags (variants_text variants.entry))) 0 }
+    ensures first { option_map (λ fault. told fault.0) result
+        ≡ slice_get (variant_faults [] (subtags (variants_text variants.entry))) 0 }
     ensures index { IfSome result (λ fault. (r : Record) → r.variants ≡ subtags (variants_text variants.entry)
         → fault_index r (told fault.0) ≡ Some fault.1) }
 {

@@ -1,7 +1,8 @@
 //! The case of ASCII letters, which tags ignore (RFC 5646 section 2.1.1). Strings are compared and hashed by their
 //! folded bytes, in which each ASCII letter is lowercase. Nothing else is folded, so `[` and `{` differ.
 ghost use Rattle.std.specs.Prelude.{◌≡◌, ◌↔◌, ◌≤◌, ℕ, List, ◌==◌, IsTrue, fold, length};
-ghost use Rattle.langtag_scan.specs.Grammar.{fold_byte, Alike, are_alike, case_cmp, EndsFirst, case_writes, folded_number, are_alphanumeric};
+ghost use Rattle.langtag_scan.specs.Grammar.{fold_byte, Alike, are_alike, case_cmp, EndsFirst};
+ghost use Rattle.langtag_scan.specs.Grammar.{case_writes, folded_number, are_alphanumeric};
 
 use std::cmp::Ordering;
 use std::hash::Hasher;

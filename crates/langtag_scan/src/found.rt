@@ -1,6 +1,7 @@
 //! What a recogniser found.
 ghost use Rattle.std.specs.Prelude.{◌≡◌, ◌↔◌, IsTrue, map};
-ghost use Rattle.langtag_scan.specs.Grammar.{finding, is_normal, is_private_use, irregular_index, normal_ends, IsOfOneKind, grandfathered_tags};
+ghost use Rattle.langtag_scan.specs.Grammar.{finding, is_normal, is_private_use, irregular_index};
+ghost use Rattle.langtag_scan.specs.Grammar.{normal_ends, IsOfOneKind, grandfathered_tags};
 ghost use Rattle.langtag_scan.specs.declared.grandfathered.TheConstants.{GRANDFATHERED_TEXTS};
 
 use crate::ends::Ends;

@@ -4,8 +4,11 @@
 //! returns the same as before, so again there are n reads, but the stop of the new text is right after its `!`, which
 //! is before n. This is an argument and not a proof, because it is about what a function that is generic over its
 //! source can know.
-ghost use Rattle.std.specs.Prelude.{◌≡◌, ◌↔◌, ◌⊎◌, ℕ, ◌≤◌, ◌+◌, ◌^◌, max, List, length, IsTrue, MatchOption, MatchResult, is_some};
-ghost use Rattle.langtag_scan.specs.Grammar.{Record, IsWellFormed, spell, IsNormal, IsPrivate, IsIrregularAt, IsIrregular, IsTag, IsStop, IsViable, IsViableLength, IsIrregularPrefix, fill, finding, IsFoundOf, is_normal};
+ghost use Rattle.std.specs.Prelude.{◌≡◌, ◌↔◌, ◌⊎◌, ℕ, ◌≤◌, ◌+◌, ◌^◌, max, List, length};
+ghost use Rattle.std.specs.Prelude.{IsTrue, MatchOption, MatchResult, is_some};
+ghost use Rattle.langtag_scan.specs.Grammar.{Record, IsWellFormed, spell, IsNormal, IsPrivate, IsIrregularAt};
+ghost use Rattle.langtag_scan.specs.Grammar.{IsIrregular, IsTag, IsStop, IsViable, IsViableLength};
+ghost use Rattle.langtag_scan.specs.Grammar.{IsIrregularPrefix, fill, finding, IsFoundOf, is_normal};
 
 use crate::ends::Marks;
 use crate::finding::Finding;
@@ -30,7 +33,8 @@ use crate::state::{Ending, State};
 pub fn recognise<S: ByteSource>(source: &mut S) -> Option<Found>
     requires { S.reads source.old ≤ 2 ^ 126 }
     ensures accepts { IsTrue (is_some result) ↔ IsTag (S.bytes source.old) }
-    ensures found { MatchOption result (IsTag (S.bytes source.old) → ⊥) (λ found. IsFoundOf (S.bytes source.old) (finding found)) }
+    ensures found { MatchOption result (IsTag (S.bytes source.old) → ⊥)
+        (λ found. IsFoundOf (S.bytes source.old) (finding found)) }
     ensures bytes { S.bytes source.new ≡ S.bytes source.old }
     // law: the number of further reads is the stop, and no byte beyond it is read
     ensures reads { (n : ℕ) × IsStop (S.bytes source.old) n ×
@@ -61,8 +65,10 @@ pub fn recognise<S: ByteSource>(source: &mut S) -> Option<Found>
 #[tactic(auto, using(crate::proofs::PositionLaws::whole_stop, crate::proofs::PositionLaws::viable_nothing))]
 pub(crate) fn read<S: ByteSource>(source: &mut S) -> Result<Found, usize>
     requires { S.reads source.old ≤ 2 ^ 126 }
-    ensures found { MatchResult result (λ found. IsFoundOf (S.bytes source.old) (finding found)) (λ viable. IsTag (S.bytes source.old) → ⊥) }
-    ensures viable { MatchResult result (λ found. IsViableLength (S.bytes source.old) (length (S.bytes source.old))) (IsViableLength (S.bytes source.old)) }
+    ensures found { MatchResult result (λ found. IsFoundOf (S.bytes source.old) (finding found))
+        (λ viable. IsTag (S.bytes source.old) → ⊥) }
+    ensures viable { MatchResult result (λ found. IsViableLength (S.bytes source.old) (length (S.bytes source.old)))
+        (IsViableLength (S.bytes source.old)) }
     ensures bytes { S.bytes source.new ≡ S.bytes source.old }
     ensures reads { (n : ℕ) × IsStop (S.bytes source.old) n ×
         (S.reads source.new ≡ S.reads source.old + n) × (S.reach source.new ≡ max (S.reach source.old) n) }

@@ -1,6 +1,7 @@
 //! An iterator over the subtags of a string (RFC 5646 section 2.1), which works from both ends and copies nothing.
 ghost use Rattle.std.specs.Prelude.{◌≡◌, ◌++◌, ◌∷◌, List, ℕ, [], Some, All, MatchOption, ⊤};
-ghost use Rattle.langtag_scan.specs.Grammar.{YieldsFirstRef, YieldsLastRef, item_count, join, subtags, segments_left, IsHyphenFree};
+ghost use Rattle.langtag_scan.specs.Grammar.{YieldsFirstRef, YieldsLastRef, item_count};
+ghost use Rattle.langtag_scan.specs.Grammar.{join, subtags, segments_left, IsHyphenFree};
 
 use crate::segment::{segment_end, segment_start};
 use std::alloc::AllocError;

@@ -33,7 +33,8 @@ impl<'a> InRecommendedCase<'a> {
         ensures shown { in_recommended_case_text result ≡ recommended_text text.now }
 
         ensures clone_succeeds { (shown : InRecommendedCase) → ⟦<InRecommendedCase<'a> as Clone>⟧.is_infallible shown }
-        ensures cloned { (shown copy : InRecommendedCase) → ⟦<InRecommendedCase<'a> as Clone>⟧.is_clone shown copy → copy ≡ shown }
+        ensures cloned { (shown copy : InRecommendedCase) → ⟦<InRecommendedCase<'a> as Clone>⟧.is_clone shown copy
+            → copy ≡ shown }
     {
         InRecommendedCase { text }
     }

@@ -32,7 +32,8 @@ impl Piece {
     /// Returns the piece at the start of `text`, which is the rest of a longer string after a hyphen. No subtag before
     /// that hyphen may have a single byte.
     pub(crate) fn later(text: &[u8]) -> Piece
-        ensures { BeginsWith text.now result.len result.capitals (later_text text.now) × BeginsWith text.now result.len 0 (recommended_text text.now) }
+        ensures { BeginsWith text.now result.len result.capitals (later_text text.now) × BeginsWith text.now result.len 0
+            (recommended_text text.now) }
     {
         match segment_end(text, 0) {
             1 => Piece {

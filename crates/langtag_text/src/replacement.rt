@@ -35,7 +35,8 @@ pub fn replace(text: &mut String, alloc: Global, new: Replacement<'_>) -> Result
     requires ascii { IsAscii (string_bytes text.old) }
     requires one { length new.hyphen.now ≤ 1 }
     requires empty { new.part.now ≡ [] → new.hyphen.now ≡ [] }
-    ensures replaced { OnOk result (string_bytes text.new ≡ replace_range (string_bytes text.old) new.entry.start new.entry.end (new.entry.hyphen.now ++ new.entry.part.now)) }
+    ensures replaced { OnOk result (string_bytes text.new
+        ≡ replace_range (string_bytes text.old) new.entry.start new.entry.end (new.entry.hyphen.now ++ new.entry.part.now)) }
     ensures unchanged { OnErr result (text.new ≡ text.old) }
     ensures taken_out { new.entry.hyphen.now ++ new.entry.part.now ≡ [] → IsOk result }
     ensures room_kept { new.entry.hyphen.now ++ new.entry.part.now ≡ [] → string_capacity text.old ≤ string_capacity text.new }
@@ -53,7 +54,8 @@ fn join(alloc: Global, text: &str, new: Replacement<'_>) -> Result<String, Alloc
     requires within { new.end ≤ length text.now }
     requires ascii { IsAscii text.now }
     requires one { length new.hyphen.now ≤ 1 }
-    ensures { IfOk result (λ whole. string_bytes whole ≡ replace_range text.now new.entry.start new.entry.end (new.entry.hyphen.now ++ new.entry.part.now)) }
+    ensures { IfOk result (λ whole. string_bytes whole
+        ≡ replace_range text.now new.entry.start new.entry.end (new.entry.hyphen.now ++ new.entry.part.now)) }
 {
     let len = new.start + new.hyphen.len() + new.part.len() + (text.len() - new.end);
     let mut whole = String::with_capacity(alloc, len)?;

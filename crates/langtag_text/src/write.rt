@@ -13,7 +13,8 @@ use crate::output::Output;
 pub fn write_pieces(pieces: &[&[u8]], buffer: &mut [u8]) -> usize
     ensures written { let text = flat_map (λ piece. piece.now) pieces.now in
         length text < 2 ^ 64 → Writes (λ new. new ≡ text) buffer.old buffer.new result }
-    ensures too_long { 2 ^ 64 ≤ length (flat_map (λ piece. piece.now) pieces.now) → (result ≡ 2 ^ 64 - 1) × (buffer.new ≡ buffer.old) }
+    ensures too_long { 2 ^ 64 ≤ length (flat_map (λ piece. piece.now) pieces.now)
+        → (result ≡ 2 ^ 64 - 1) × (buffer.new ≡ buffer.old) }
 {
     let len = put_pieces(pieces, &mut []);
     if len <= buffer.len() {
