@@ -4,29 +4,10 @@ import re
 
 from words import group_end, skip_to, starts, words_of
 
-CRATES = {
-    "langtag_scan": "scan",
-    "langtag_text": "text",
-    "langtag_language": "language",
-    "langtag_place": "place",
-    "langtag_extension": "extension",
-    "langtag_private": "private",
-    "langtag": "tag",
-    "langtag_range": "range",
-    "langtag_match": "matching",
-    "langtag_fields": "fields",
-    "langtag_canonical": "canonical",
-    "langtag_registry": "registry",
-    "langtag_cldr": "cldr",
-    "langtag_likely": "likely",
-    "langtag_posix": "posix",
-    "langtag_parent": "parent",
-    "langtag_choice": "choice",
-    "langtag_keyword": "keyword",
-    "langtag_unicode": "unicode",
-    "langtag_locale": "locale",
-    "langtag_c": "calls",
-}
+# The module of each crate.
+CRATES = {f"langtag_{name}": name for name in """
+    scan text language place extension private range fields canonical registry cldr likely posix parent choice keyword unicode locale
+""".split()} | {"langtag": "tag", "langtag_match": "matching", "langtag_c": "calls"}
 # Where the modules are that are made from crates, and the crates whose modules are elsewhere. The C library has these modules and those below src.
 MADE = "erased"
 ELSEWHERE = {"langtag_c": "../c/src"}

@@ -8,35 +8,14 @@ GROWING = {
 }
 
 # Derives of types that a neighbour has, too. A derived comparison compares the fields as their own types do.
-DERIVED = {
-    "AcceptLanguage": "Clone, PartialEq, Eq, Hash",
-    "AcceptLanguageError": "Clone, PartialEq, Eq, Hash",
-    "AttributesIter": "Clone",
-    "BestMatch": "PartialEq, Eq, Hash",
-    "EditError": "Hash",
-    "ElementPart": "Clone, Copy, PartialEq, Eq, Hash",
-    "Ends": "Hash",
-    "ExtensionIter": "Clone",
-    "ExtensionTexts": "Clone",
-    "ExtensionsIter": "Clone",
-    "InRecommendedCase": "PartialEq, Eq, Hash",
-    "KeyValue": "PartialEq, Eq, Hash",
-    "KeywordError": "Hash",
-    "KeywordsIter": "Clone",
-    "LanguageExtensionIter": "Clone",
-    "PosixError": "Clone, PartialEq, Eq, Hash",
-    "PrivateUseIter": "Clone",
-    "Refusal": "Hash",
-    "RefusalKind": "Hash",
-    "SetKeywordError": "Hash",
-    "Subtags": "Clone",
-    "Transformation": "PartialEq, Eq, Hash",
-    "TypedLangTag": "Hash",
-    "VariantsIter": "Clone",
-    "WantedRange": "PartialEq, Eq, Hash",
-    "WantedRanges": "Clone",
-    "WeightedRange": "Hash",
-}
+DERIVED = {name: derived for derived, names in {
+    "Clone": "AttributesIter ExtensionIter ExtensionTexts ExtensionsIter KeywordsIter LanguageExtensionIter PrivateUseIter Subtags VariantsIter "
+             "WantedRanges",
+    "Hash": "EditError Ends KeywordError Refusal RefusalKind SetKeywordError TypedLangTag WeightedRange",
+    "PartialEq, Eq, Hash": "BestMatch InRecommendedCase KeyValue Transformation WantedRange",
+    "Clone, PartialEq, Eq, Hash": "AcceptLanguage AcceptLanguageError PosixError",
+    "Clone, Copy, PartialEq, Eq, Hash": "ElementPart",
+}.items() for name in names.split()}
 
 # Those of the errors that contain only the refused text.
 REFUSING = "Clone, Copy, PartialEq, Eq, Hash"

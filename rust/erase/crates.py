@@ -8,31 +8,19 @@ class Module(NamedTuple):
     path: str  # how code names it: `crate::place`
 
 
-# Each crate comes after the crates on which it depends. Another Rust crate would get its own lines, with its own folders.
-MODULES = [
-    Module("langtag_scan", "src/erased/scan", "crate::erased::scan"),
-    Module("langtag_text", "src/erased/text", "crate::erased::text"),
-    Module("langtag_language", "src/erased/language", "crate::erased::language"),
-    Module("langtag_place", "src/erased/place", "crate::erased::place"),
-    Module("langtag_extension", "src/erased/extension", "crate::erased::extension"),
-    Module("langtag_private", "src/erased/private", "crate::erased::private"),
-    Module("langtag", "src/erased/tag", "crate::erased::tag"),
-    Module("langtag_range", "src/erased/range", "crate::erased::range"),
-    Module("langtag_match", "src/erased/matching", "crate::erased::matching"),
-    Module("langtag_fields", "src/erased/fields", "crate::erased::fields"),
-    Module("langtag_canonical", "src/erased/canonical", "crate::erased::canonical"),
-    Module("langtag_registry", "src/erased/registry", "crate::erased::registry"),
-    Module("langtag_cldr", "src/erased/cldr", "crate::erased::cldr"),
-    Module("langtag_likely", "src/erased/likely", "crate::erased::likely"),
-    Module("langtag_posix", "src/erased/posix", "crate::erased::posix"),
-    Module("langtag_parent", "src/erased/parent", "crate::erased::parent"),
-    Module("langtag_choice", "src/erased/choice", "crate::erased::choice"),
-    Module("langtag_keyword", "src/erased/keyword", "crate::erased::keyword"),
-    Module("langtag_unicode", "src/erased/unicode", "crate::erased::unicode"),
-    Module("langtag_locale", "src/erased/locale", "crate::erased::locale"),
-    # The C library is a separate crate, rust/c, which also has the modules above.
-    Module("langtag_c", "c/src/calls", "crate::calls"),
-]
+# The modules, each after those on which it depends, and the crates of which the names differ. Another Rust crate would get its own
+# modules, with its own folders.
+NAMES = """
+    scan text language place extension private tag range matching fields canonical registry cldr likely posix parent choice keyword unicode
+    locale
+""".split()
+CRATES = {"tag": "langtag", "matching": "langtag_match"}
+MODULES = [Module(CRATES.get(name, f"langtag_{name}"), f"src/erased/{name}", f"crate::erased::{name}") for name in NAMES]
+# The crates whose modules need the feature `data`. In a module of another crate every function is inlined.
+WITH_DATA = {module.crate for module in MODULES[NAMES.index("fields"):]}
+# The C library is a separate crate, rust/c, which also has the modules above.
+OF_C = {"langtag_c"}
+MODULES.append(Module("langtag_c", "c/src/calls", "crate::calls"))
 
 # The modules whose items users find in a module of the same name. The items of other modules are at the root, if src/lib.rs exports
 # them.
@@ -45,14 +33,6 @@ EXPORTED_BY = {
     "langtag_keyword": "langtag_unicode", "langtag_text": "langtag_scan", "langtag_fields": "langtag_registry",
     "langtag_canonical": "langtag_registry", "langtag_cldr": "langtag_likely",
 }
-
-# The crates whose modules need the feature `data`, and those of the C library. In a module of another crate every function is inlined.
-WITH_DATA = {
-    "langtag_fields", "langtag_canonical", "langtag_registry", "langtag_cldr", "langtag_likely", "langtag_posix", "langtag_parent", "langtag_choice",
-    "langtag_keyword", "langtag_unicode", "langtag_locale",
-}
-OF_C = {"langtag_c"}
-
 
 # The functions that users call in another form: for example, `langtag::registry::canonical` takes more types than the proved
 # function, and returns a tag instead of a Result. And the items that users do not have. An example that uses one of them names it in

@@ -4,7 +4,7 @@ import re
 
 
 def lent_by(root):
-    """Returns the names below the line `// For CRATE..` of a lib.rt, which are `pub` only for these crates."""
+    """Returns the names below the line `// For this repository.` of a lib.rt, which are `pub` only for its other crates."""
     _, _, uses = root.read_text(encoding="utf-8").partition("\n// For ")
     return set(re.findall(r"(\w+)[,;}]", uses))
 

@@ -17,7 +17,6 @@ def erase_ghosts(code):
     drop_clauses(code, "requires", lambda place: conditional.update(restrict(code, place)))
     drop_attributes(code)
     drop_models(code)
-    code.rewrite("prove!(", "assert!(")
     return conditional
 
 

@@ -4,14 +4,12 @@ return a Result."""
 FORMS = [
     ("alloc: Global,", ""),
     (", alloc: Global", ""),
-    ("alloc: Global", ""),
     ("String::from_str(alloc,", "try_string("),
     ("String::with_capacity(alloc,", "try_string_with_capacity("),
     ("String::new(*text.allocator())", "String::new()"),
     ("Vec::new(alloc)", "Vec::new()"),
     ("vec![in alloc; $item; $len]", "try_vec($item, $len)"),
     ("alloc,", ""),
-    (", alloc", ""),
     ("(alloc)", "()"),
 ]
 METHODS = ["push", "push_str", "replace_range", "sort_by_key"]

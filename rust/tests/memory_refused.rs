@@ -122,11 +122,12 @@ fn tags_in_another_form() {
     const TEXTS: &str = "iw-BU zh-yue-hk sl-rozaj-1994-u-co-phonebk-x-mine x-a i-klingon yue zh";
     for text in TEXTS.split(' ') {
         let tag = LangTag::new(text).unwrap();
-        refuse_each("canonical", || is_memory(try_canonical(tag)));
-        refuse_each("extlang_form", || is_memory(try_extlang_form(tag)));
-        refuse_each("maximized", || is_memory(try_maximized(tag)));
-        refuse_each("minimized", || is_memory(try_minimized(tag)));
-        refuse_each("form of extensions", || is_memory(try_extensions_form(tag)));
+        macro_rules! refused {
+            ($($form:ident)+) => {$(
+                refuse_each(stringify!($form), || is_memory($form(tag)));
+            )+};
+        }
+        refused! { try_canonical try_extlang_form try_maximized try_minimized try_extensions_form }
         // A tag without a form, such as x-a, requests no memory.
         if try_locale_form(tag).unwrap().is_some() {
             refuse_each("form as a locale", || is_memory(try_locale_form(tag)));

@@ -1,12 +1,11 @@
-//! The choice for a reader: a prepared site chooses as the calls over its tags do, and all suitable tags are those that a program gets
-//! which removes each tag that was chosen, and asks again.
+//! The choice for a reader: all suitable tags are those that a program gets which removes each tag that was chosen, and asks again. The
+//! rows show that a prepared site chooses as the calls over its tags do.
 #![cfg(all(feature = "alloc", feature = "data"))]
 use crate::numbers::Numbers;
 use langtag::choice::{
-    best_for_accept_language, best_for_header, best_for_ranges, match_for_header, suitable_among,
-    suitable_for_header, suitable_for_ranges, write_suitable, Site, TagList,
+    best_for_header, best_for_ranges, match_for_header, suitable_for_header, suitable_for_ranges,
+    write_suitable, Site, TagList,
 };
-use langtag::matching::AcceptLanguage;
 use langtag::LangTag;
 use std::cell::Cell;
 
@@ -32,62 +31,19 @@ fn element(numbers: &mut Numbers) -> String {
 }
 
 #[test]
-fn random_headers_choose_alike() {
-    let mut numbers = Numbers(7);
-    for _ in 0..20_000 {
-        let header = numbers.list(6, element).join(",");
-        // Some entries, such as `fr_FR`, are not tags.
-        let tags = numbers.list(8, piece);
-        let site = Site::new(&tags[..]);
-        let tag = |index: Option<usize>| index.map(|index| &tags[index]);
-        let best = best_for_header(&header, &tags);
-        assert_eq!(best_for_header(&header, &site), best);
-        let found = site.best_for_header(&header);
-        assert_eq!(found, tag(best), "{header} {tags:?}");
-        let found = match_for_header(&header, &tags);
-        assert_eq!(site.match_for_header(&header), found, "{header} {tags:?}");
-        let accepted = AcceptLanguage::lenient(&header);
-        let best = best_for_accept_language(&accepted, &tags);
-        assert_eq!(site.best_for_accept_language(&accepted), tag(best));
-        let wishes = numbers.list(4, piece);
-        let best = best_for_ranges(&wishes, &tags);
-        let found = site.best_for_ranges(&wishes);
-        assert_eq!(found, tag(best), "{wishes:?} {tags:?}");
-    }
-}
-
-#[test]
 fn sites_of_each_kind_of_entry() {
     let texts = ["en", "zh-Hant"];
     let borrowed = texts.map(|text| LangTag::new(text).unwrap());
-    let owned = borrowed.map(|tag| tag.to_owned());
     let strings = texts.map(String::from);
     let site = Site::new(&borrowed[..]);
     assert_eq!(site.best_for_header("zh-TW"), Some(&borrowed[1]));
-    let site = Site::new(&owned[..]);
-    assert_eq!(site.best_for_header("zh-TW"), Some(&owned[1]));
+    assert_eq!(site.tags(), borrowed);
     let site = Site::new(&strings[..]);
     assert_eq!(site.best_for_header(b"zh-TW"), Some(&strings[1]));
     let none: [&str; 0] = [];
     assert_eq!(Site::new(&none[..]).best_for_header("en"), None);
     assert_eq!(Site::new(["not a tag"]).best_for_header("en"), None);
-    assert_eq!(Site::new(&borrowed[..]).tags(), borrowed);
     assert_eq!(format!("{:?}", Site::new(["en"])), "Site([\"en\"])");
-}
-
-#[test]
-fn threads_share_a_site() {
-    let tags = ["en", "de", "zh-Hant"];
-    let site = Site::new(&tags[..]);
-    std::thread::scope(|scope| {
-        for _ in 0..4 {
-            scope.spawn(|| {
-                for (header, tag) in [("gsw", "de"), ("zh-TW", "zh-Hant"), ("en-AU", "en")] {
-                    assert_eq!(site.best_for_header(header), Some(&tag));
-                }
-            });
-        }
-    });
 }
 
 /// Removes each tag that is chosen, and asks again. Returns the indices in the whole list.
@@ -117,6 +73,10 @@ fn random_tags_in_turn() {
         assert_eq!(some[..written], found[..most.min(found.len())]);
         assert!(some[written..].iter().all(|index| *index == usize::MAX));
         let site = Site::new(&tags[..]);
+        let best = found.first().map(|index| &tags[*index]);
+        assert_eq!(site.best_for_header(&header), best, "{header} {tags:?}");
+        let found_match = match_for_header(&header, &tags);
+        assert_eq!(site.match_for_header(&header), found_match);
         let names: Vec<&&str> = found.iter().map(|index| &tags[*index]).collect();
         assert_eq!(site.suitable_for_header(&header), names);
         let ranges = numbers.list(4, piece);
@@ -124,6 +84,7 @@ fn random_tags_in_turn() {
         let suitable = suitable_for_ranges(&ranges, &tags);
         assert_eq!(suitable, found, "{ranges:?} {tags:?}");
         let names: Vec<&&str> = found.iter().map(|index| &tags[*index]).collect();
+        assert_eq!(site.best_for_ranges(&ranges), names.first().copied());
         assert_eq!(site.suitable_for_ranges(&ranges), names);
     }
 }
@@ -134,13 +95,6 @@ fn the_best_come_last() {
     tags.extend(["en", "en"]);
     let found = [64, 65].into_iter().chain(0..64).collect::<Vec<_>>();
     assert_eq!(suitable_for_header("de;q=0.5,en", &tags), found);
-}
-
-#[test]
-fn a_parsed_header() {
-    let accepted = AcceptLanguage::lenient("nn;q=0.5, de");
-    let found = suitable_among(accepted.ranges(), &["nb", "en", "de"]);
-    assert_eq!(found, [2, 0]);
 }
 
 /// Tags that count how often one of them is read.

@@ -1,4 +1,4 @@
-//! All tests but those of rows, of each length, and of refused memory, in one program, so that cargo links one.
+//! All tests but those of rows and of refused memory, in one program, so that cargo links one.
 mod choice;
 mod display;
 mod guesses;

@@ -43,18 +43,10 @@ fn methods_return_what_functions_return() {
             [tag.validate(), validate(&tag), validate(&owned)],
             [valid; 3]
         );
-        assert_eq!(
-            [tag.is_valid(), owned.is_valid()],
-            [valid.is_ok(); 2],
-            "{text}"
-        );
+        assert_eq!([tag.is_valid(), owned.is_valid()], [valid.is_ok(); 2]);
         assert_eq!(owned.validate(), valid.map_err(Into::into));
-        let found = [
-            tag.keyword("CA"),
-            owned.keyword("ca"),
-            keyword(&owned, "ca"),
-        ];
-        assert_eq!(found, [keyword(tag, "ca"); 3]);
+        let found = [tag.keyword("CA"), owned.keyword("ca")];
+        assert_eq!(found, [keyword(&owned, "ca"); 2]);
         assert!(tag.keywords().eq(keywords(&owned)) && owned.keywords().eq(keywords(tag)));
         assert!(tag.attributes().eq(attributes(&owned)) && owned.attributes().eq(attributes(tag)));
         assert_eq!(is_canonical(&owned), tag == canonical(tag));
@@ -75,7 +67,7 @@ fn valid_and_matching() {
     assert!(tag("de-CH-1996").is_valid() && !tag("qt").is_valid());
     let range = |text| LanguageRange::new(text).unwrap();
     assert!(tag("de-Latn-DE").matches(range("de-DE")) && tag("de-Latn-DE").matches(tag("de-DE")));
-    assert!(!tag("de-x-DE").to_owned().matches(range("de-DE")));
+    assert!(!tag("de-x-DE").to_owned().matches(range("de-DE")) && !tag("de").matches("d*"));
     let kinds = [Kind::Normal, Kind::PrivateUse, Kind::Grandfathered].map(|kind| kind.to_string());
     assert_eq!(kinds, ["normal", "private-use", "grandfathered"]);
 }
@@ -98,17 +90,6 @@ fn conversions() {
     assert_eq!(UND.as_str(), "und");
     assert_eq!(UND.as_typed(), LangTag::new("und").unwrap().as_typed());
     assert_eq!(LangTag::default(), UND);
-}
-
-/// `for` goes over a list, borrowed or owned.
-#[test]
-fn lists_are_walked() {
-    let variants = Variants::new("rozaj-1994").unwrap();
-    let mut found = Vec::new();
-    for (lent, owned) in variants.into_iter().zip(&variants.to_owned()) {
-        found.push((lent.to_string(), owned.to_string()));
-    }
-    assert_eq!(found, ["rozaj", "1994"].map(|it| (it.into(), it.into())));
 }
 
 /// Entries that are not tags are never chosen, and strings that are not ranges are skipped.

@@ -23,18 +23,6 @@ fn parts() {
     assert!(tag.private_use_subtags().eq(["a", "b"]));
 }
 
-/// The `x` of private use may be uppercase.
-#[test]
-fn private_use_in_capitals() {
-    for text in ["X-a", "x-A", "X-a-b"] {
-        let tag = LanguageTag::parse(text).unwrap();
-        assert_eq!(tag.private_use(), Some(text));
-        assert!(tag.private_use_subtags().eq(text[2..].split('-')));
-    }
-    let tag = LanguageTag::parse("de-X-a").unwrap();
-    assert_eq!((tag.private_use(), tag.extension()), (Some("X-a"), None));
-}
-
 /// A grandfathered tag has no parts. A private-use tag is only a private-use part.
 #[test]
 fn whole_tags() {

@@ -1,21 +1,11 @@
 //! Variants that occur twice among many (RFC 5646 sections 2.2.5 and 2.2.9). The rows ask for other repeats.
 use langtag::NormalLangTag;
 
-fn normal(text: &str) -> NormalLangTag<'_> {
-    NormalLangTag::new(text).unwrap()
-}
-
-/// Returns the first variant that repeats an earlier variant, in its own case, or the empty text if there is none.
-fn repeated_variant<'a>(tag: &NormalLangTag<'a>) -> &'a str {
-    tag.repeated_variant()
-        .map_or("", |variant| variant.as_str())
-}
-
 /// The number of variants, the variants that replace a numbered variant at an index, and the repeated variant.
 type Variants = (u16, &'static [(u16, &'static str)], &'static str);
 
-/// Tags with at most 143 bytes of variants, and with more.
-const FEW: [Variants; 10] = [
+/// Tags with at most 143 bytes of variants, and with more; and then tags with at most one block of 1,152 variants, and with more.
+const CASES: [Variants; 24] = [
     (1, &[], ""),
     (24, &[], ""),
     (24, &[(23, "A0000")], "A0000"),
@@ -26,10 +16,6 @@ const FEW: [Variants; 10] = [
     (40, &[(39, "a0020")], "a0020"),
     (40, &[(38, "A0037"), (39, "A0020")], "A0037"),
     (40, &[(39, "b0020")], ""),
-];
-
-/// Tags with at most one block of 1,152 variants, and with more.
-const MANY: [Variants; 14] = [
     (1_152, &[], ""),
     (1_152, &[(1_151, "A0000")], "A0000"),
     (1_153, &[(1_152, "A0000")], "A0000"),
@@ -63,21 +49,15 @@ fn with_variants(count: u16, others: &[(u16, &str)]) -> String {
     text
 }
 
-fn are_repeated(cases: &[Variants]) {
-    for (count, others, repeated) in cases {
-        let text = with_variants(*count, others);
-        let tag = normal(&text);
-        assert_eq!(tag.variants().iter().count(), usize::from(*count));
-        assert_eq!(repeated_variant(&tag), *repeated, "{count}");
+#[test]
+fn a_repeat_among_few_or_many_variants() {
+    for (count, others, repeated) in CASES {
+        let text = with_variants(count, others);
+        let tag = NormalLangTag::new(&text).unwrap();
+        assert_eq!(tag.variants().iter().count(), usize::from(count));
+        let found = tag
+            .repeated_variant()
+            .map_or("", |variant| variant.as_str());
+        assert_eq!(found, repeated, "{count}");
     }
-}
-
-#[test]
-fn a_repeat_among_few_variants() {
-    are_repeated(&FEW);
-}
-
-#[test]
-fn a_repeat_among_many_variants() {
-    are_repeated(&MANY);
 }

@@ -82,52 +82,6 @@ fn a_source_that_was_read_before() {
 }
 
 #[test]
-fn metered_counts_each_read() {
-    let mut source = Metered::new("fr-é");
-    assert_eq!((source.len(), source.reads(), source.reach()), (5, 0, 0));
-    assert_eq!(source.byte(2), b'-');
-    assert_eq!((source.reads(), source.reach()), (1, 3));
-    assert_eq!(source.byte(0), b'f');
-    assert_eq!((source.reads(), source.reach()), (2, 3));
-    assert_eq!(source.byte(4), 0xa9);
-    assert_eq!((source.len(), source.reads(), source.reach()), (5, 3, 5));
-}
-
-#[test]
-fn ends_are_shown() {
-    let found = recognise(&mut Metered::new("fr-abc-nice-bz-e-foo")).unwrap();
-    let wanted =
-        "Ends { language: 6, script: 11, region: 14, variants: 14, extensions: 20, whole: 20 }";
-    assert_eq!(format!("{:?}", found.ends().unwrap()), wanted);
-}
-
-#[test]
-fn ends_differ_where_one_of_them_does() {
-    let ends = Ends {
-        language: 2,
-        script: 7,
-        region: 10,
-        variants: 16,
-        extensions: 21,
-        whole: 25,
-    };
-    let others: [fn(&mut Ends); 6] = [
-        |ends| ends.language = 3,
-        |ends| ends.script = 6,
-        |ends| ends.region = 7,
-        |ends| ends.variants = 10,
-        |ends| ends.extensions = 16,
-        |ends| ends.whole = 21,
-    ];
-    for change in others {
-        let mut other = ends;
-        assert_eq!(other, ends);
-        change(&mut other);
-        assert_ne!(other, ends);
-    }
-}
-
-#[test]
 fn letters_alone_are_folded() {
     for byte in 0..=u8::MAX {
         assert_eq!(into_smallcase(byte), byte.to_ascii_lowercase());

@@ -7,27 +7,16 @@ use crate::tags::check_parts;
 macro_rules! set {
     ($tag:ident, $name:ident, $text:ident) => {{
         let list = if $text == "none" { "" } else { $text };
-        match $name {
-            "language" => $tag
-                .set_language(Language::new($text).ok()?)
-                .map_err(EditError::from),
-            "script" => $tag
-                .set_script(unless_none($text, Script::new)?)
-                .map_err(EditError::from),
-            "region" => $tag
-                .set_region(unless_none($text, Region::new)?)
-                .map_err(EditError::from),
-            "variants" => $tag
-                .set_variants(Variants::new(list).ok()?)
-                .map_err(EditError::from),
-            "extensions" => $tag
-                .set_extensions(Extensions::new(list).ok()?)
-                .map_err(EditError::from),
-            "private_use" => $tag
-                .set_private_use(unless_none($text, PrivateUse::new)?)
-                .map_err(EditError::from),
+        let set = match $name {
+            "language" => $tag.set_language(Language::new($text).ok()?),
+            "script" => $tag.set_script(unless_none($text, Script::new)?),
+            "region" => $tag.set_region(unless_none($text, Region::new)?),
+            "variants" => $tag.set_variants(Variants::new(list).ok()?),
+            "extensions" => $tag.set_extensions(Extensions::new(list).ok()?),
+            "private_use" => $tag.set_private_use(unless_none($text, PrivateUse::new)?),
             name => panic!("no part: {name}"),
-        }
+        };
+        set.map_err(EditError::from)
     }};
 }
 

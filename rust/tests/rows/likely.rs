@@ -113,6 +113,11 @@ pub fn best_accepted(header: &str, tags: &str) -> String {
     let best = best_for_accept_language(&accepted, &tags);
     let ranges: Vec<_> = accepted.ranges().iter().map(|it| it.range).collect();
     assert_eq!(best, best_for_ranges(&ranges, &tags));
+    let site = Site::new(&tags[..]);
+    let found = site.best_for_accept_language(&accepted);
+    assert_eq!(found, best.map(|index| &tags[index]));
+    let suitable = suitable_among(accepted.ranges(), &tags);
+    assert_eq!(suitable.first().copied(), best);
     shown(best, &tags)
 }
 

@@ -3,9 +3,13 @@ use langtag::registry::*;
 use langtag::*;
 
 use crate::reader::{check_buffer, length, word};
+use crate::tags::{check_twice, recommended};
 
-/// Returns the first fault of a tag, and the offset of its subtag. The proved call must find the same fault.
+/// Returns the first fault of a tag, and the offset of its subtag. The proved call must find the same fault. The rows of the oracle
+/// have each short language and region, so they show that no copy of these fails.
 pub fn validity(tag: LangTag<'_>) -> String {
+    check_twice(tag);
+    recommended(tag.as_bytes());
     let found = erased::registry::validate(tag);
     let Err(invalid) = validate(tag) else {
         assert_eq!(found, Ok(()));

@@ -141,13 +141,17 @@ pub fn check_parts(owned: &LangTagBuf, tag: LangTag<'_>) {
 }
 
 /// Checks that different calls return the same values for a tag.
-fn check_twice(tag: LangTag<'_>) {
+pub fn check_twice(tag: LangTag<'_>) {
     let (text, owned) = (tag.as_str(), tag.to_owned());
     let subtags: Vec<&str> = text.split('-').collect();
     assert!(tag.subtags().eq(subtags.iter().copied()));
     assert!(owned.subtags().rev().eq(subtags.iter().rev().copied()));
     check_parts(&owned, tag);
-    assert_eq!(tag.is_normal(), tag.kind().is_normal());
+    let kind = tag.kind();
+    let is = [Kind::Normal, Kind::PrivateUse, Kind::Grandfathered].map(|it| it == kind);
+    let said = [kind.is_normal(), kind.is_private_use()];
+    assert_eq!([said[0], said[1], kind.is_grandfathered()], is);
+    assert_eq!([tag.is_normal(), tag.is_private_use()], said);
     let normal = tag.as_normal().map(|tag| tag.as_lang_tag());
     assert_eq!(normal, tag.is_normal().then_some(tag));
     assert_eq!(hash(&tag), hash(&owned));
@@ -189,9 +193,11 @@ fn sweep(tag: &[u8], is_irregular: bool) {
     }
 }
 
-/// Returns how many bytes are read, how many prefixes are tags, the kind of the text, and the ends of its parts.
+/// Returns how many bytes are read, how many prefixes are tags, the kind of the text, and the ends of its parts. It also copies these
+/// prefixes.
 pub fn scan(bytes: &[u8]) -> String {
-    let fronts = (0..=bytes.len()).filter(|end| LangTag::from_bytes(&bytes[..*end]).is_ok());
+    let fronts = (0..=bytes.len()).filter_map(|end| LangTag::from_bytes(&bytes[..end]).ok());
+    let fronts = fronts.inspect(|tag| check_twice(*tag));
     let head = format!("{} {} {}", reads(bytes), fronts.count(), kind_of(bytes));
     let found = recognise(&mut Metered::of_bytes(bytes));
     if let Some(found) = found {

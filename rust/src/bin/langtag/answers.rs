@@ -47,14 +47,8 @@ impl Answer {
 
 /// Returns the text as a column, without tabs, which would end the column.
 fn without_tabs(text: &[u8]) -> Vec<u8> {
-    let mut column = Vec::new();
-    for byte in text {
-        match byte {
-            b'\t' => column.extend_from_slice(b"\\t"),
-            other => column.push(*other),
-        }
-    }
-    column
+    let pieces: Vec<&[u8]> = text.split(|byte| *byte == b'\t').collect();
+    pieces.join(&b"\\t"[..])
 }
 
 /// A command that answers each text on its own.

@@ -96,7 +96,7 @@ pub fn write_canonical(tag: LangTag<'_>, buffer: &mut [u8]) -> usize {
     match form_of(tag) {
         Form::Same => write_text(tag.as_bytes(), buffer),
         Form::Whole(preferred) => write_text(preferred.as_bytes(), buffer),
-        Form::Parts(normal) => write_parts(normal, buffer),
+        Form::Parts(normal) => write_canonical_parts(normal, buffer),
     }
 }
 
@@ -111,12 +111,12 @@ fn form_as_tag(tag: LangTag<'_>) -> Result<LangTagBuf, AllocError> {
     }
 }
 
-/// Returns the bytes of the canonical form of a tag, as [`write_parts`] writes them. The buffer has
-/// a guessed length. If it is too short, the bytes are written again.
+/// Returns the bytes of the canonical form of a tag, as [`write_canonical_parts`] writes them. The
+/// buffer has a guessed length. If it is too short, the bytes are written again.
 #[cfg(feature = "alloc")]
 fn bytes_of_parts(tag: LangTag<'_>, normal: NormalLangTag<'_>) -> Result<Vec<u8>, AllocError> {
     let mut bytes = try_vec(0, tag.as_bytes().len().saturating_add(SPARE))?;
-    let len = write_parts(normal, &mut bytes);
+    let len = write_canonical_parts(normal, &mut bytes);
     if len > bytes.len() {
         return counted_bytes(normal);
     }
@@ -128,14 +128,14 @@ fn bytes_of_parts(tag: LangTag<'_>, normal: NormalLangTag<'_>) -> Result<Vec<u8>
 #[cfg(feature = "alloc")]
 #[inline]
 fn counted_bytes(tag: NormalLangTag<'_>) -> Result<Vec<u8>, AllocError> {
-    let mut bytes = try_vec(0, write_parts(tag, &mut []))?;
-    write_parts(tag, &mut bytes);
+    let mut bytes = try_vec(0, write_canonical_parts(tag, &mut []))?;
+    write_canonical_parts(tag, &mut bytes);
     Ok(bytes)
 }
 
 /// Writes a tag with its parts in their canonical forms, or the Preferred-Value of the tag that
 /// these parts make up.
-fn write_parts(tag: NormalLangTag<'_>, buffer: &mut [u8]) -> usize {
+fn write_canonical_parts(tag: NormalLangTag<'_>, buffer: &mut [u8]) -> usize {
     let mut start = [0; LONGEST_REPLACED];
     let len = put_canonical_parts(tag, &mut start);
     if let Some(parts) = start.get(..len) {

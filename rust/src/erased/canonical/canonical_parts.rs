@@ -23,18 +23,18 @@ pub(crate) fn put_canonical_parts(tag: NormalLangTag<'_>, buffer: &mut [u8]) -> 
 }
 
 fn push_parts(out: &mut Output<'_>, tag: NormalLangTag<'_>) {
-    push_language(out, tag.language());
+    push_canonical_language(out, tag.language());
     push_script(out, tag.script());
     push_region(out, tag.region());
     push_variants(out, tag.variants());
-    push_extensions(out, tag.extensions());
+    push_ordered(out, tag.extensions());
     push_private_use(out, tag.private_use());
 }
 
 /// Adds the canonical form of a language. A registered extended subtag replaces the language before
 /// it, and may then be replaced as a language. If there are two or more extended subtags, nothing
 /// is replaced.
-fn push_language(out: &mut Output<'_>, language: Language<'_>) {
+fn push_canonical_language(out: &mut Output<'_>, language: Language<'_>) {
     let primary = language.primary();
     let mut extlangs = language.extension_subtags();
     let Some(extlang) = extlangs.next() else {
@@ -90,7 +90,7 @@ fn push_variants(out: &mut Output<'_>, variants: Variants<'_>) {
 
 /// Adds extensions in the order of their singletons. Extensions with the same singleton, which no
 /// valid tag has, keep their order.
-fn push_extensions(out: &mut Output<'_>, extensions: Extensions<'_>) {
+fn push_ordered(out: &mut Output<'_>, extensions: Extensions<'_>) {
     if extensions.as_str().is_empty() {
         return;
     }
@@ -102,13 +102,13 @@ fn push_extensions(out: &mut Output<'_>, extensions: Extensions<'_>) {
         if !present[usize::from(singleton)] {
             continue;
         }
-        push_extensions_of(out, extensions, singleton);
+        push_singleton(out, extensions, singleton);
     }
 }
 
 /// Adds the extensions with a singleton, which is given in lowercase.
 #[inline]
-fn push_extensions_of(out: &mut Output<'_>, extensions: Extensions<'_>, singleton: u8) {
+fn push_singleton(out: &mut Output<'_>, extensions: Extensions<'_>, singleton: u8) {
     for extension in extensions.iter() {
         if folded_singleton(extension) != singleton {
             continue;

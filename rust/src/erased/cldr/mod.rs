@@ -24,22 +24,16 @@ mod text_fields;
 pub use suggestion::{suggested_language, suggested_region};
 pub use tables::CLDR_VERSION;
 
-// For langtag_likely and langtag_posix.
+// For this repository.
+pub(crate) use aliases::language_replaced;
 pub(crate) use direction::is_right_to_left_script;
 pub(crate) use fields::{known, or_other};
-pub(crate) use likely::{add_likely_subtags, remove_likely_subtags};
-pub(crate) use names::script_codes;
-pub(crate) use tag_fields::TagFields;
-
-// For langtag_choice.
 pub(crate) use keys::index_of;
-pub(crate) use likely::suffices;
+pub(crate) use likely::{add_likely, add_likely_subtags, remove_likely_subtags, suffices};
 pub(crate) use matching::{completed, matching_form, replaced_form};
+pub(crate) use names::script_codes;
 pub(crate) use read_text::{after_common, are_alike, basic_len};
 pub(crate) use replacement::may_change_language;
 pub(crate) use rows::{key_number, language_number};
-
-// For langtag_locale and langtag_parent.
-pub(crate) use aliases::language_replaced;
-pub(crate) use likely::add_likely;
 pub(crate) use suggestion::region_replacement;
+pub(crate) use tag_fields::TagFields;

@@ -36,5 +36,5 @@ pub use extensions::{Extensions, InvalidExtensions};
 pub use extensions_iter::ExtensionsIter;
 pub use singleton::{InvalidSingleton, Singleton};
 
-// For langtag_canonical and langtag_locale.
+// For this repository.
 pub(crate) use noted::{folded_singleton, singletons_of, SINGLETONS};

@@ -39,6 +39,6 @@ pub use subtags::{
 };
 pub use tables::FILE_DATE;
 
-// For langtag_registry, langtag_canonical and langtag_cldr.
+// For this repository.
 pub(crate) use preferred::{preferred_for, preferred_tags};
 pub(crate) use prefixes::{is_prefix_of, prefix_of_language, variant_prefixes};

@@ -35,7 +35,7 @@ pub fn push_edited(out: &mut Output<'_>, extensions: Extensions<'_>, edit: Keywo
     while let Some(extension) = rest.next() {
         if is_at(place, extension) {
             push_at(out, place, extension, edit);
-            return push_extensions(out, rest);
+            return push_rest(out, rest);
         }
         out.push_subtag(extension.as_bytes());
     }
@@ -75,7 +75,7 @@ fn push_at(out: &mut Output<'_>, place: Place, extension: Extension<'_>, edit: K
 
 /// Appends the remaining extensions of an iterator.
 #[inline]
-fn push_extensions(out: &mut Output<'_>, rest: ExtensionsIter<'_>) {
+fn push_rest(out: &mut Output<'_>, rest: ExtensionsIter<'_>) {
     for extension in rest {
         out.push_subtag(extension.as_bytes());
     }

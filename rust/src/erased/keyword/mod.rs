@@ -26,7 +26,7 @@ mod transform_form;
 pub use keys::Keys;
 pub use keyword_error::KeywordError;
 
-// For langtag_unicode, langtag_locale and langtag_c.
+// For this repository.
 pub(crate) use alphabet::are_few;
 pub(crate) use extension_form::{is_of, push_extensions, push_unicode, subtags_of};
 pub(crate) use key_set::KeySet;

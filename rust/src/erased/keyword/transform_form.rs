@@ -30,13 +30,13 @@ fn is_language_or_none(text: &str) -> bool {
 #[inline]
 pub(crate) fn push_transform(out: &mut Output<'_>, text: &str) {
     out.push_subtag(b"t");
-    push_language(out, text);
+    push_transform_language(out, text);
     push_keywords(out, text, Keys::Transform);
 }
 
 /// Appends the canonical form of the language before the fields.
 #[inline]
-fn push_language(out: &mut Output<'_>, text: &str) {
+fn push_transform_language(out: &mut Output<'_>, text: &str) {
     if let Some(language) = preceding(text, Keys::Transform) {
         push_language_id(out, language);
     }

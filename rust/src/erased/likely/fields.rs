@@ -5,17 +5,15 @@
 use crate::erased::cldr::{known, TagFields};
 use crate::erased::fields::is_prefix_of;
 use crate::erased::language::Language;
-use crate::erased::place::{Region, Script};
-use crate::erased::tag::NormalLangTag;
+use crate::erased::tag::{region_field, script_field, NormalLangTag};
 
 /// Returns the fields of a normal tag. A field is empty if it is absent or unknown.
-#[inline]
 #[must_use]
 pub fn fields_of(tag: NormalLangTag<'_>) -> TagFields<'_> {
     TagFields {
         language: language_field(tag.language()),
-        script: script_field(tag.script()),
-        region: region_field(tag.region()),
+        script: known(b"Zzzz", script_field(tag.script())),
+        region: known(b"ZZ", region_field(tag.region())),
     }
 }
 
@@ -59,23 +57,5 @@ fn language_field<'a>(language: Language<'a>) -> &'a [u8] {
     match extlangs.next() {
         Some(third) => third.as_bytes(),
         None => second.as_bytes(),
-    }
-}
-
-/// Returns the string of a script, or the empty string if there is none or it is `Zzzz`.
-#[inline]
-fn script_field<'a>(script: Option<Script<'a>>) -> &'a [u8] {
-    match script {
-        Some(script) => known(b"Zzzz", script.as_bytes()),
-        None => b"",
-    }
-}
-
-/// Returns the string of a region, or the empty string if there is none or it is `ZZ`.
-#[inline]
-fn region_field<'a>(region: Option<Region<'a>>) -> &'a [u8] {
-    match region {
-        Some(region) => known(b"ZZ", region.as_bytes()),
-        None => b"",
     }
 }

@@ -30,5 +30,5 @@ pub use direction::is_right_to_left;
 pub use forms::{maximized, minimized};
 pub use forms::{write_maximized, write_minimized};
 
-// For langtag_posix.
+// For this repository.
 pub(crate) use fields::fields_of;

@@ -10,7 +10,9 @@ use crate::erased::cldr::TagFields;
 use crate::erased::keyword::nonempty;
 use crate::erased::locale::locale_extensions::{push_identifier, push_locale_extensions};
 use crate::erased::locale::locale_for::locale_for;
-use crate::erased::tag::{push_private_use, LangTag, Language, NormalLangTag, Region, Script};
+use crate::erased::tag::{
+    push_private_use, region_field, script_field, LangTag, Language, NormalLangTag,
+};
 #[cfg(feature = "alloc")]
 use crate::erased::tag::{tag_of, LangTagBuf};
 use crate::erased::text::{make_recommended_case, Output};
@@ -60,7 +62,7 @@ pub fn locale_form(tag: LangTag<'_>) -> Result<Option<LangTagBuf>, AllocError> {
 #[cfg(feature = "alloc")]
 fn form_bytes(tag: NormalLangTag<'_>) -> Result<Vec<u8>, AllocError> {
     let mut bytes = try_vec(0, tag.as_str().len().saturating_add(SPARE))?;
-    let len = write_parts(tag, &mut bytes);
+    let len = write_locale_parts(tag, &mut bytes);
     if len > bytes.len() {
         return counted_form_bytes(tag);
     }
@@ -116,12 +118,12 @@ fn counted_form_bytes(tag: NormalLangTag<'_>) -> Result<Vec<u8>, AllocError> {
 #[inline]
 pub fn write_locale_form(tag: LangTag<'_>, buffer: &mut [u8]) -> Option<usize> {
     let locale = locale_for(tag)?;
-    Some(write_parts(locale, buffer))
+    Some(write_locale_parts(locale, buffer))
 }
 
 /// Writes the form of a Unicode locale identifier.
 #[inline]
-fn write_parts(tag: NormalLangTag<'_>, buffer: &mut [u8]) -> usize {
+fn write_locale_parts(tag: NormalLangTag<'_>, buffer: &mut [u8]) -> usize {
     let len = put_parts(tag, buffer);
     if len > buffer.len() {
         return len;
@@ -153,20 +155,4 @@ fn fields_of<'a>(tag: NormalLangTag<'a>) -> TagFields<'a> {
 #[inline]
 fn primary_field<'a>(language: Language<'a>) -> &'a [u8] {
     language.primary().as_bytes()
-}
-
-#[inline]
-fn script_field<'a>(script: Option<Script<'a>>) -> &'a [u8] {
-    match script {
-        Some(script) => script.as_bytes(),
-        None => b"",
-    }
-}
-
-#[inline]
-fn region_field<'a>(region: Option<Region<'a>>) -> &'a [u8] {
-    match region {
-        Some(region) => region.as_bytes(),
-        None => b"",
-    }
 }

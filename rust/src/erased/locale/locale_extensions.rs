@@ -52,20 +52,20 @@ fn push_extension(out: &mut Output<'_>, extension: Extension<'_>) {
 #[inline]
 fn push_locale_transform(out: &mut Output<'_>, text: &str) {
     out.push_subtag(b"t");
-    push_language(out, text);
+    push_locale_language(out, text);
     push_keywords(out, text, Keys::Transform);
 }
 
 /// Appends the form of the language before the fields.
 #[inline]
-fn push_language(out: &mut Output<'_>, text: &str) {
+fn push_locale_language(out: &mut Output<'_>, text: &str) {
     if let Some(language) = preceding(text, Keys::Transform) {
-        push_language_id(out, language);
+        push_locale_language_id(out, language);
     }
 }
 
 /// Appends the form of a language identifier, given as a string.
-fn push_language_id(out: &mut Output<'_>, text: &str) {
+fn push_locale_language_id(out: &mut Output<'_>, text: &str) {
     let (language, rest) = split_first(text);
     let (script, rest) = take_script(rest);
     let (region, variants) = take_region(rest);

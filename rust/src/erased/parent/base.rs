@@ -3,8 +3,7 @@
 //! The language, the script and the region of a tag.
 
 use crate::erased::cldr::TagFields;
-use crate::erased::place::{Region, Script};
-use crate::erased::tag::NormalLangTag;
+use crate::erased::tag::{region_field, script_field, NormalLangTag};
 
 /// A language with its extended subtags, a script and a region. The script and the region are empty
 /// if they are absent.
@@ -88,23 +87,5 @@ impl<'a> Base<'a> {
             script,
             region: self.region,
         }
-    }
-}
-
-/// Returns the string of a script, or the empty string if there is none.
-#[inline]
-fn script_field<'a>(script: Option<Script<'a>>) -> &'a [u8] {
-    match script {
-        Some(script) => script.as_bytes(),
-        None => b"",
-    }
-}
-
-/// Returns the string of a region, or the empty string if there is none.
-#[inline]
-fn region_field<'a>(region: Option<Region<'a>>) -> &'a [u8] {
-    match region {
-        Some(region) => region.as_bytes(),
-        None => b"",
     }
 }

@@ -57,13 +57,13 @@ fn put_text(place: &[u8], extensions: &[u8], modifier: &[u8], buffer: &mut [u8])
 #[inline]
 fn push_text(out: &mut Output<'_>, place: &[u8], extensions: &[u8], modifier: &[u8]) {
     out.push(place);
-    push_extensions(out, extensions);
+    push_posix_extensions(out, extensions);
     push_keywords(out, modifier);
 }
 
 /// Appends extensions after a hyphen, if there are some.
 #[inline]
-fn push_extensions(out: &mut Output<'_>, extensions: &[u8]) {
+fn push_posix_extensions(out: &mut Output<'_>, extensions: &[u8]) {
     if !extensions.is_empty() {
         out.push(b"-");
         out.push(extensions);

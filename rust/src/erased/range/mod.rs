@@ -32,7 +32,7 @@ pub use wanted::{split_wanted, wanted_ranges, WantedRange, WantedRanges};
 pub use weight::weight_of;
 pub use white_space::is_empty_element;
 
-// For the crates above that read ranges, lists and names.
+// For this repository.
 pub(crate) use basic::matches_basic;
 pub(crate) use basic_form::is_range;
 pub(crate) use extended::matches_extended;

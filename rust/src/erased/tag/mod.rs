@@ -45,6 +45,7 @@
 
 #[cfg(feature = "alloc")]
 mod edit;
+mod fields;
 mod grandfathered;
 mod kind;
 mod lang_tag;
@@ -121,7 +122,8 @@ pub use private_use_lang_tag::PrivateUseLangTagBuf;
 pub use refusal::{Refusal, RefusalKind};
 pub use typed_lang_tag::TypedLangTag;
 
-// For the crates above that write or make tags.
+// For this repository.
+pub(crate) use fields::{region_field, script_field};
 pub(crate) use part::write_part;
 pub(crate) use push::push_private_use;
 #[cfg(feature = "alloc")]

@@ -30,7 +30,7 @@ pub use in_recommended_case::InRecommendedCase;
 pub use recommended_case::{is_in_recommended_case, make_recommended_case};
 pub use replacement::Replacement;
 
-// For langtag and the crates above it.
+// For this repository.
 pub(crate) use alias::{alias_for, type_alias_for};
 pub(crate) use letter_numbers::letter_number;
 pub(crate) use output::Output;

@@ -108,14 +108,14 @@ fn write_edited(
     buffer: &mut [u8],
 ) -> Result<usize, KeywordError> {
     match tag.as_normal() {
-        Some(normal) => Ok(write_parts(normal, edit, buffer)),
+        Some(normal) => Ok(write_edited_parts(normal, edit, buffer)),
         None => Err(KeywordError::NotNormal),
     }
 }
 
 /// Writes a normal tag with a keyword set or removed.
 #[inline]
-fn write_parts(tag: NormalLangTag<'_>, edit: KeywordEdit<'_>, buffer: &mut [u8]) -> usize {
+fn write_edited_parts(tag: NormalLangTag<'_>, edit: KeywordEdit<'_>, buffer: &mut [u8]) -> usize {
     let len = put_parts(tag, edit, &mut []);
     if len <= buffer.len() {
         put_parts(tag, edit, buffer);
