@@ -1,11 +1,24 @@
 """What the oracles share: the form of rows, their command line, and a comparison with the answers of a program."""
 from __future__ import annotations
 
+import functools
+import importlib.util
 import itertools
+import pathlib
 import random
 import re
 import sys
-from collections.abc import Callable, Iterable
+import types
+from collections.abc import Callable, Iterable, Iterator
+
+
+@functools.lru_cache(None)
+def registry_oracle() -> types.ModuleType:
+    """Returns the module registry/oracle.py, which has the grammar and the registry. Other folders also have a module of that name."""
+    spec = importlib.util.spec_from_file_location("registry_oracle", pathlib.Path(__file__).resolve().parent / "registry/oracle.py")
+    module = importlib.util.module_from_spec(spec)
+    spec.loader.exec_module(module)
+    return module
 
 
 def plain(word: str) -> str:
@@ -37,6 +50,16 @@ def main(words: list[str], usage: str | None, answer: Callable[[str], str] | Non
     else:
         sys.exit(usage)
     return False
+
+
+def differing(page: dict[str, list], data: dict[str, list]) -> Iterator[str]:
+    """Yields a line for each list of specs/ that differs from a second reading of the data, or that only one of the two has."""
+    for name in sorted(page.keys() ^ data.keys()):
+        yield f"{name}: {'not read a second time' if name in page else 'not on its page'}"
+    for name in sorted(page.keys() & data.keys()):
+        if sorted(page[name]) != sorted(data[name]):
+            differ = sorted(set(page[name]) ^ set(data[name])) or "an entry that stands twice"
+            yield f"{name}: differs from a second reading of the data, as in {differ[:5]}"
 
 
 def compare(rows: Iterable[str], answers: str, answer: Callable[[str], str]) -> bool:

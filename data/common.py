@@ -1,4 +1,12 @@
-"""What the generators share: their command line, data with checksums, premises, and the forms of tables and lists."""
+"""What the generators share: their command line, data with checksums, premises, and the forms of tables and lists.
+
+usage: generate.py                     writes the files from the data whose checksums are kept
+       generate.py --accept [NAME..]   writes them from newer data, and their checksums
+       generate.py --check             writes nothing, and names each fault: data with other checksums, a file that would be written
+                                       differently, a list that differs from a second reading of the data
+
+Data that break a premise of the crates are refused: the row or the record that breaks it is named, nothing is written, and the status is 1.
+"""
 from __future__ import annotations
 
 import hashlib
@@ -52,7 +60,7 @@ def run(generator: Generator, words: list[str]) -> bool:
     """Does what the words of a command line ask, prints each fault, and returns whether there is one."""
     check, accept = words == ["--check"], words[:1] == ["--accept"]
     if words and not check and not accept:
-        sys.exit(sys.modules[type(generator).__module__].__doc__)
+        sys.exit(sys.modules[type(generator).__module__].__doc__ + __doc__.partition("\n")[2])
     told: list[str] = []
     try:
         newer = bool(generator.checksums) and generator.sums() != text_of(generator.checksums)
@@ -103,6 +111,20 @@ def cldr_version(paths: Iterable[str]) -> str:
     if len(set(versions.values())) != 1 or "none" in versions.values():
         raise Refused(f"the heads of the data do not name one version of CLDR: {versions}")
     return next(iter(versions.values()))
+
+
+def write_cldr(common: pathlib.Path, version: str, source: str, folder: pathlib.Path, files: Iterable[tuple[str, str, str, Iterable[str]]]) -> None:
+    """Writes data that are made from CLDR: for each file its name, its title, the files of CLDR of which it is made, and its lines. If one
+    of them cannot be made, none is written."""
+    notice = (common / "supplemental/likelySubtags.xml").read_text(encoding="utf-8")
+    years, licence = (re.search(form, notice)[1] for form in (r"Copyright © ([0-9-]+) Unicode", r"SPDX-License-Identifier: (\S+)"))
+    texts = {name: f"""# {title}
+# From Unicode CLDR {version} (common/{of}; {source}).
+# Copyright (c) {years} Unicode, Inc. Distributed under the Terms of Use in https://www.unicode.org/copyright.html
+# SPDX-License-Identifier: {licence} (the notice: LICENSE-UNICODE)
+""" + "".join(f"{line}\n" for line in lines) for name, title, of, lines in files}
+    for name, text in texts.items():
+        (folder / f"{name}.txt").write_text(text, encoding="utf-8")
 
 
 # ---- premises

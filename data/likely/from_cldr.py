@@ -17,23 +17,16 @@ import sys
 import xml.etree.ElementTree as XML
 from collections.abc import Iterable, Iterator
 
-DATA = pathlib.Path(__file__).resolve().parent / "cldr"
+sys.path.append(str(pathlib.Path(__file__).resolve().parent.parent))
+from common import Refused, write_cldr  # noqa: E402
 
-HEAD = """# {title}
-# From Unicode CLDR {version} ({files}; {source}).
-# Copyright (c) {years} Unicode, Inc. Distributed under the Terms of Use in https://www.unicode.org/copyright.html
-# SPDX-License-Identifier: {licence} (the notice: LICENSE-UNICODE)
-"""
+DATA = pathlib.Path(__file__).resolve().parent / "cldr"
 LOCALE = re.compile(r"([a-z]{2,3})(?:_([A-Z][a-z]{3}))?(?:_([A-Z]{2}|[0-9]{3}))?")
 EMPTY = "-"
 
 # The distances of all pairs that no rule names: of languages, of languages with scripts, and with regions. specs/ states the same
 # numbers.
 OTHERWISE = [(1, "80"), (2, "50"), (3, "4")]
-
-
-class Refused(Exception):
-    """Raised if the XML has something that this program does not know."""
 
 
 def fields(locale: str) -> tuple[str, str, str]:
@@ -61,9 +54,6 @@ class Cldr:
         self.read_rules(root("languageInfo.xml").find(".//languageMatches"))
         rows = [line.split(";") for line in (common / "properties/scriptMetadata.txt").read_text(encoding="utf-8").splitlines()]
         self.right_to_left = [row[0].strip() for row in rows if len(row) > 6 and not row[0].startswith("#") and row[6].strip() == "YES"]
-        head = (common / "supplemental/likelySubtags.xml").read_text(encoding="utf-8")
-        self.years = re.search(r"Copyright © ([0-9-]+) Unicode", head)[1]
-        self.licence = re.search(r"SPDX-License-Identifier: (\S+)", head)[1]
 
     def read_aliases(self, aliases: XML.Element) -> None:
         self.languages = {row.get("type"): fields(row.get("replacement")) for row in aliases.iter("languageAlias")
@@ -100,30 +90,29 @@ class Cldr:
         if otherwise != OTHERWISE:
             raise Refused(f"the distances of all other pairs are {otherwise}, and not {OTHERWISE}")
 
-    def files(self) -> Iterator[tuple[str, str, list[str], list[str]]]:
-        """Returns for each file its name, the title of its head, the files of CLDR from which it is made, and its lines."""
-        info, metadata, data = "languageInfo.xml", "supplementalMetadata.xml", "supplementalData.xml"
+    def files(self) -> Iterator[tuple[str, str, str, list[str]]]:
+        """Returns for each file its name, its title, the files of CLDR from which it is made, and its lines."""
+        info, metadata, data = (f"supplemental/{name}.xml" for name in ("languageInfo", "supplementalMetadata", "supplementalData"))
         of_scripts = [rule for rule in self.rules if len(rule[0]) == 2 and rule[0][0] != "*"]
-        yield ("likely.txt", "Likely subtags: language script region -> language script region", ["likelySubtags.xml"],
+        yield ("likely", "Likely subtags: language script region -> language script region", "supplemental/likelySubtags.xml",
                sorted(line(old, new) for old, new in self.likely if old[0] not in self.languages))
-        yield ("language-distance.txt", "desired supported distance, `1` where it holds in this direction only (all other pairs: 80)", [info],
+        yield ("language-distance", "desired supported distance, `1` where it holds in this direction only (all other pairs: 80)", info,
                sorted(line(*rule) for rule in self.rules if len(rule[0]) == 1 and rule[0] != ["*"]))
-        yield ("script-distance.txt", "desired language, script, supported language, script, distance, `1` where in this direction only"
-               " (all other pairs: 50)", [info], sorted(line(*rule) for rule in of_scripts))
-        yield ("region-distance.txt", "in this order, the first that fits: language script region-set supported-region-set distance"
-               " (both directions; last: all)", [info], [line(desired, supported[2], far) for desired, supported, far, _ in self.rules if len(desired) == 3])
-        yield ("region-sets.txt", "the region sets of region-distance.txt: countries, and the groups that lie wholly inside", [info, data],
-               [line(name, sorted(inside)) for name, inside in sorted(self.sets.items())])
-        yield ("region-groups.txt", "each group of regions (not deprecated) and its countries", [data],
+        yield ("script-distance", "desired language, script, supported language, script, distance, `1` where in this direction only"
+               " (all other pairs: 50)", info, sorted(line(*rule) for rule in of_scripts))
+        yield ("region-distance", "in this order, the first that fits: language script region-set supported-region-set distance"
+               " (both directions; last: all)", info, [line(desired, supported[2], far) for desired, supported, far, _ in self.rules if len(desired) == 3])
+        yield ("region-sets", "the region sets of region-distance.txt: countries, and the groups that lie wholly inside",
+               f"{info}, supplementalData.xml", [line(name, sorted(inside)) for name, inside in sorted(self.sets.items())])
+        yield ("region-groups", "each group of regions (not deprecated) and its countries", data,
                [line(group, sorted(its)) for group, its in sorted(self.groups.items())])
-        yield "paradigms.txt", "paradigm tags", [info], self.paradigms
-        yield ("language-alias.txt", "a language subtag and its replacement: language script region", [metadata],
+        yield "paradigms", "paradigm tags", info, self.paradigms
+        yield ("language-alias", "a language subtag and its replacement: language script region", metadata,
                sorted(line(old, new) for old, new in self.languages.items()))
-        yield ("region-alias.txt", "a region subtag and its replacements", [metadata],
-               sorted(line(old, new) for old, new in self.regions.items()))
-        yield ("parents.txt", "each tag whose parent is not the tag without its last subtag, and its parent, or a hyphen for none", [data],
+        yield ("region-alias", "a region subtag and its replacements", metadata, sorted(line(old, new) for old, new in self.regions.items()))
+        yield ("parents", "each tag whose parent is not the tag without its last subtag, and its parent, or a hyphen for none", data,
                sorted(line(*row) for row in self.parents))
-        yield "right-to-left.txt", "The scripts that are written from right to left", ["scriptMetadata.txt"], sorted(self.right_to_left)
+        yield "right-to-left", "The scripts that are written from right to left", "properties/scriptMetadata.txt", sorted(self.right_to_left)
 
 
 def line(*words) -> str:
@@ -131,16 +120,7 @@ def line(*words) -> str:
 
 
 def write(common: pathlib.Path, version: str, source: str, folder: pathlib.Path = DATA) -> None:
-    """Writes all files, or nothing if one of them cannot be made."""
-    cldr = Cldr(common)
-    texts = {}
-    for name, title, files, lines in cldr.files():
-        place = "common/properties/" if files[0].endswith(".txt") else "common/supplemental/"
-        head = HEAD.format(title=title, version=version, files=place + ", ".join(files), source=source, years=cldr.years, licence=cldr.licence)
-        texts[name] = head + "\n".join(lines) + "\n"
-        print(f"{name}: {len(lines)} lines")
-    for name, text in texts.items():
-        (folder / name).write_text(text, encoding="utf-8")
+    write_cldr(common, version, source, folder, Cldr(common).files())
 
 
 def questions(text: str) -> Iterator[tuple[str, str]]:

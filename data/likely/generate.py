@@ -2,13 +2,7 @@
 """Writes the tables and the lists of the crates langtag_cldr, langtag_parent and langtag_choice from Unicode's CLDR. Its likely
 subtags, its parent locales and its data for language matching are in cldr/ (from_cldr.py writes them).
 
-usage: generate.py                        writes them from the data whose checksums are in cldr.sha256
-       generate.py --accept [LANGUAGE..]  writes them from newer data, and their checksums; these languages may lose their rows
-       generate.py --check                writes nothing, and names each fault: data with other checksums, a file
-                                          that would be written differently, a list that differs from oracle.py's reading
-
-Data that break a premise of the crates are refused: the row that breaks it is named, nothing is written, and the status is 1. Newer
-data in which a language has lost its row are refused, too, unless the language is one of LANGUAGE or is replaced by another
+Newer data in which a language has lost its row are refused, unless --accept names the language, or another language replaces it
 (language-alias.txt).
 """
 from __future__ import annotations
@@ -143,10 +137,20 @@ def tables(likely):
     ])
 
 
+def head_of(comment, what, form=""):
+    return head(comment, f"{what} of Unicode's CLDR {version()}{form}", "likely")
+
+
+def head_of_lists(what, names, *uses):
+    """Returns the head of a page of lists, which uses these names of the Prelude, and these pages."""
+    pages = ["Rattle.std.specs.List.{flat_map}"] * ("◌∷◌" in names) + ["Rattle.langtag_text.specs.Words.{words}", *uses]
+    return head_of("--", what) + "".join(f"use {page}\n" for page in [f"Rattle.std.specs.Prelude.{{{names}}}", *pages])
+
+
 def alias_tables(matching):
     scripts, regions = (sorted({""} | {row[i] for row in matching.aliases}, key=folded_number) for i in (2, 3))
     return "\n".join([
-        head("//!", f"The deprecated languages and regions of Unicode's CLDR {version()}, in tables", "likely"),
+        head_of("//!", "The deprecated languages and regions", ", in tables"),
         keys("ALIAS_KEYS", "The keys of the languages that are replaced, in ascending order: each key is the number whose base-26 digits are the letters.", 16, [letter_number(row[0]) for row in matching.aliases]),
         names("ALIAS_LANGUAGES", "The language that replaces each language of `ALIAS_KEYS`.", [row[1] for row in matching.aliases]),
         names("ALIAS_SCRIPT_NAMES", "An empty entry for no script, and then the scripts that come with a replacement.", scripts),
@@ -164,7 +168,7 @@ def alias_tables(matching):
 
 def matching_tables(matching):
     return "\n".join([
-        head("//!", f"The rules of language matching of Unicode's CLDR {version()}, in tables", "likely"),
+        head_of("//!", "The rules of language matching", ", in tables"),
         keys("LANGUAGE_RULE_KEYS", "The desired and the supported language of each rule, as one number, in ascending order.", 32, map(matching.language_key, matching.languages)),
         counts("LANGUAGE_RULE_DISTANCES", "The distance that each rule of `LANGUAGE_RULE_KEYS` gives.", 8, [row[2] for row in matching.languages]),
         keys("SHORT_ALIAS_KEYS", "The keys, in ascending order, of the two-letter languages that are replaced.", 16,
@@ -201,7 +205,7 @@ def fields_of(tag):
 
 def parent_tables(parents):
     return "\n".join([
-        head("//!", f"The parent locales of Unicode's CLDR {version()}, in tables", "likely"),
+        head_of("//!", "The parent locales", ", in tables"),
         keys("PARENT_KEYS", "The tags whose parent is not the tag without its last subtag, in ascending order: language, script and region as one number.", 128,
                 [parents.key(tag) for tag, _ in parents.rows]),
         counts("PARENT_INDICES", "The index of the parent of each tag of `PARENT_KEYS` in the tables below.", 8, [parents.parents.index(parent) for _, parent in parents.rows]),
@@ -213,10 +217,7 @@ def parent_tables(parents):
 
 def parent_lists(parents):
     return "\n".join([
-        head("--", f"The parent locales of Unicode's CLDR {version()}", "likely") +
-        "use Rattle.std.specs.Prelude.{[], ◌∷◌, List, codes}\nuse Rattle.std.specs.List.{flat_map}\n"
-        "use Rattle.langtag_text.specs.Words.{words}\n"
-        "use Rattle.langtag_cldr.specs.Likely.{Likely, likely_of_fields}\n",
+        head_of_lists("The parent locales", "[], ◌∷◌, List, codes", "Rattle.langtag_cldr.specs.Likely.{Likely, likely_of_fields}"),
         row_list("parent_locales", "the tags whose parent is not the tag without its last subtag: language, script and region of the tag, and then of its parent, or hyphens if it has none",
                   "Likely", "likely_of_fields", [[fields(*tag, *parent)] for tag, parent in parents.rows]),
     ])
@@ -236,10 +237,7 @@ def fields(*texts):
 
 def alias_lists(matching):
     return "\n".join([
-        head("--", f"The deprecated languages and regions of Unicode's CLDR {version()}", "likely") +
-        "use Rattle.std.specs.Prelude.{[], ◌∷◌, List, codes}\nuse Rattle.std.specs.List.{flat_map}\n"
-        "use Rattle.langtag_text.specs.Words.{words}\n"
-        "use Rattle.langtag_cldr.specs.Likely.{Likely, likely_of_fields}\n",
+        head_of_lists("The deprecated languages and regions", "[], ◌∷◌, List, codes", "Rattle.langtag_cldr.specs.Likely.{Likely, likely_of_fields}"),
         row_list("language_aliases", "the languages that are replaced, each with its replacement: language, script and region", "Likely", "likely_of_fields",
                   [[fields(row[0], "", "", *row[1:])] for row in matching.aliases]),
         row_list("region_aliases", "the regions that are replaced, including codes of three digits, each with the first of its replacements", "Likely", "likely_of_fields",
@@ -251,10 +249,8 @@ def alias_lists(matching):
 
 def matching_lists(matching):
     return "\n".join([
-        head("--", f"The rules of language matching of Unicode's CLDR {version()}", "likely") +
-        "use Rattle.std.specs.Prelude.{ℕ, [], ◌∷◌, List, codes}\nuse Rattle.std.specs.List.{flat_map}\n"
-        "use Rattle.langtag_text.specs.Words.{words}\n"
-        "use Rattle.langtag_choice.specs.Rules.{Rule, rules_of_languages, rules_of_scripts}\n",
+        head_of_lists("The rules of language matching", "ℕ, [], ◌∷◌, List, codes",
+                      "Rattle.langtag_choice.specs.Rules.{Rule, rules_of_languages, rules_of_scripts}"),
         row_list("language_rules", "the rules for languages: a desired language, a supported language, and their distance. A rule that holds in both directions is listed twice", "Rule", "rules_of_languages",
                   [[row[0], row[1], str(row[2])] for row in matching.languages]),
         row_list("script_rules", "the rules for scripts: a desired language with its script, a supported language with its script, and the distance of the scripts. A rule that holds in both directions is listed twice", "Rule",
@@ -276,10 +272,7 @@ def likely_list(name, doc, reader, rows):
 
 def likely_lists(likely):
     return "\n".join([
-        head("--", f"The likely subtags of Unicode's CLDR {version()}", "likely") +
-        "use Rattle.std.specs.Prelude.{[], ◌∷◌, ◌++◌, List, codes}\nuse Rattle.std.specs.List.{flat_map}\n"
-        "use Rattle.langtag_text.specs.Words.{words}\n"
-        "use Rattle.langtag_cldr.specs.Likely.{Likely, likely_of_languages, likely_of_fields}\n",
+        head_of_lists("The likely subtags", "[], ◌∷◌, ◌++◌, List, codes", "Rattle.langtag_cldr.specs.Likely.{Likely, likely_of_languages, likely_of_fields}"),
         likely_list("language_rows", "the rows whose left side is only a language: this language, and its likely script and region", "likely_of_languages",
                     [(row[0], row[4], row[5]) for row in likely.of_languages]),
         likely_list("other_rows", "the rows whose left side is not only a language: language, script and region of the left side, and then of the right side", "likely_of_fields", likely.others),
@@ -289,7 +282,7 @@ def likely_lists(likely):
 
 def script_list():
     return "\n".join([
-        head("--", f"The scripts of Unicode's CLDR {version()} that are written from right to left", "likely") +
+        head_of("--", "The scripts", " that are written from right to left") +
         "use Rattle.std.specs.Prelude.{ℕ, List, codes}\nuse Rattle.langtag_text.specs.Words.{words}\n",
         "-- the scripts whose field 'RTL?' in scriptMetadata is YES, and the variants of Arab (Aran) and Syrc (Syre, Syrj and Syrn), which have codes of their own in ISO 15924\n"
         f"unfoldable pub right_to_left_scripts : List (List ℕ)\nright_to_left_scripts = words ({codes(right_to_left_scripts())})\n",
@@ -297,9 +290,8 @@ def script_list():
 
 
 def code_list(likely):
-    return (head("--", f"The codes of the scripts in the likely subtags of Unicode's CLDR {version()}", "likely") +
-            "use Rattle.std.specs.Prelude.{ℕ, List, codes}\nuse Rattle.langtag_text.specs.Words.{words}\n\n"
-            f"-- the codes of the scripts on both sides of the rows, in alphabetical order\nunfoldable pub script_codes : List (List ℕ)\nscript_codes = words ({codes(likely.scripts)})\n")
+    return (head_of_lists("The codes of the scripts in the likely subtags", "ℕ, List, codes") +
+            f"\n-- the codes of the scripts on both sides of the rows, in alphabetical order\nunfoldable pub script_codes : List (List ℕ)\nscript_codes = words ({codes(likely.scripts)})\n")
 
 
 def module_version():

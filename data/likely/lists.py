@@ -75,11 +75,5 @@ def wanted() -> dict[str, list[tuple]]:
 
 
 def differences(crates: Path) -> Iterator[str]:
-    """Returns a line for each list that differs on the pages, is missing, or is extra."""
-    ours, theirs = standing(crates), wanted()
-    for name in sorted(ours.keys() ^ theirs.keys()):
-        yield f"{name}: {'not read a second time' if name in ours else 'not on its page'}"
-    for name in sorted(ours.keys() & theirs.keys()):
-        rows = [tuple(word.lower() or "-" for word in row) for row in theirs[name]]
-        if sorted(ours[name]) != sorted(rows):
-            yield f"{name}: differs from a second reading of the data, as in {sorted(set(ours[name]) ^ set(rows))[:5] or 'a row that stands twice'}"
+    """Yields a line for each list that differs on the pages, is missing, or is extra."""
+    return oracle.answers.differing(standing(crates), {name: [tuple(word.lower() or "-" for word in row) for row in rows] for name, rows in wanted().items()})

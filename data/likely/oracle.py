@@ -11,7 +11,6 @@ questions.py has lines to ask.
 """
 import decimal
 import functools
-import importlib.util
 import itertools
 import pathlib
 import re
@@ -21,15 +20,10 @@ sys.path.append(str(pathlib.Path(__file__).resolve().parent.parent))
 import answers  # noqa: E402
 
 DATA = pathlib.Path(__file__).resolve().parent / "cldr"
-TAG = re.compile(r"(?P<language>[a-z]{2,3})(?P<extended>(-[a-z]{3}){0,3})(?=-|$)(-(?P<script>[a-z]{4})(?=-|$))?(-(?P<region>[a-z]{2}|[0-9]{3})(?=-|$))?"
-                 r"(?P<variants>(-([a-z0-9]{5,8}|[0-9][a-z0-9]{3}))*)(?P<rest>(-[a-wyz0-9](-[a-z0-9]{2,8})+)*(-x(-[a-z0-9]{1,8})+)?)", re.I | re.A)
-LONG = re.compile(TAG.pattern.replace("[a-z]{2,3})", "[a-z]{4,8})", 1).replace("{0,3})(?=", "{0})(?=", 1), re.I | re.A)
-PRIVATE = re.compile(r"x(-[a-z0-9]{1,8})+", re.I | re.A)
-IRREGULAR = set("""en-gb-oed i-ami i-bnn i-default i-enochian i-hak i-klingon i-lux i-mingo i-navajo i-pwn i-tao i-tay i-tsu sgn-be-fr
-    sgn-be-nl sgn-ch-de""".split())
+GRAMMAR, registry = answers.registry_oracle().GRAMMAR, answers.registry_oracle().registry
 # a range of a header need not be a tag, so FRONT only matches its beginning
 RANGE = re.compile(r"\*|[a-z]{1,8}(-[a-z0-9]{1,8})*", re.I | re.A)
-FRONT = re.compile(r"(?P<language>[a-z]{2,8})(?P<extended>(-[a-z]{3})*)(?=-|$)(-(?P<script>[a-z]{4})(?=-|$))?(-(?P<region>[a-z]{2}|[0-9]{3})(?=-|$))?(-.*)?",
+FRONT = re.compile(r"(?P<language>[a-z]{2,8}(-[a-z]{3})*)(?=-|$)(-(?P<script>[a-z]{4})(?=-|$))?(-(?P<region>[a-z]{2}|[0-9]{3})(?=-|$))?(-.*)?",
                    re.I | re.A)
 NUMBER = re.compile(r"[0-9]+(\.[0-9]*)?|\.[0-9]+", re.A)
 
@@ -63,15 +57,15 @@ class Tag:
     """The parts of a normal tag."""
 
     def __new__(cls, text):
-        return super().__new__(cls) if TAG.fullmatch(text) or LONG.fullmatch(text) else None
+        return super().__new__(cls) if GRAMMAR.fullmatch(text) else None
 
     def __init__(self, text):
-        found = TAG.fullmatch(text) or LONG.fullmatch(text)
-        self.language = found["language"] + found["extended"]
-        self.script, self.region, self.variants, self.rest = found["script"], found["region"], found["variants"], found["rest"]
+        found = GRAMMAR.fullmatch(text)
+        self.language, self.script, self.region, self.variants = found["language"], found["script"], found["region"], found["variants"]
+        self.rest = found["extensions"] + found["private"]
         self.fields = fields_of(found)
         # nobody knows what subtags are likely after an extended language that is not registered
-        self.is_read = is_registered(found["language"], found["extended"])
+        self.is_read = is_registered(self.language)
 
     def with_fields(self, fields):
         language = (fields[0] or self.language) if self.language.lower() == "und" else self.language
@@ -82,12 +76,11 @@ def fields_of(found):
     """Returns language, script and region. The last extended language counts as the language, and a subtag that means "unknown" is
     empty."""
     empty = lambda text, unknown: "" if text is None or text.lower() == unknown else text
-    language = found["language"] + found["extended"]
-    return empty(language, "und").split("-")[-1], empty(found["script"], "zzzz"), empty(found["region"], "zz")
+    return empty(found["language"], "und").split("-")[-1], empty(found["script"], "zzzz"), empty(found["region"], "zz")
 
 
 def is_tag(text):
-    return bool(Tag(text) or PRIVATE.fullmatch(text) or text.lower() in IRREGULAR)
+    return registry().validity(text) != "none"
 
 
 def add_likely(fields):
@@ -150,15 +143,17 @@ def matching_form(text):
 def front_fields(front):
     """Returns the fields of a tag. It is read without an extended language that is not registered for the language before it. `r`
     with a region at this place is the region, as Android writes it, unless another region follows."""
-    if front["extended"] and is_registered(front["language"], front["extended"]):
+    language, hyphen, _ = front["language"].partition("-")
+    if hyphen and is_registered(front["language"]):
         return fields_of(front)
-    marked = re.match("-r([a-z]{2}|[0-9]{3})(?=-|$)", front[0][len(front["language"]):], re.I | re.A)
-    return fields_of(dict(front.groupdict(), extended="", region=front["region"] or marked and marked[1]))
+    marked = re.match("-r([a-z]{2}|[0-9]{3})(?=-|$)", front[0][len(language):], re.I | re.A)
+    return fields_of(dict(front.groupdict(), language=language, region=front["region"] or marked and marked[1]))
 
 
-def is_registered(language, extended):
+def is_registered(language):
     """Returns whether no extended language follows a language, or one for which this language is the Prefix (RFC 5646 section 2.2.2)."""
-    return not extended or registry().prefixes.get(("extlang", extended.lower().split("-")[-1])) == [language.lower()]
+    primary, *extended = language.lower().split("-")
+    return not extended or registry().prefixes.get(("extlang", extended[-1])) == [primary]
 
 
 def form_of(fields):
@@ -440,14 +435,13 @@ def posix(name):
 
 
 # The modifiers of names that are written, with the script and the variant that each says.
-WRITTEN_MODIFIERS = {("latn", ""): "latin", ("cyrl", ""): "cyrillic", ("deva", ""): "devanagari", ("", "valencia"): "valencia", ("", "tarask"): "tarask",
-                     ("", "ijekavsk"): "ijekavian", ("latn", "ijekavsk"): "ijekavianlatin", ("", "polyton"): "polyton", ("", ""): ""}
+WRITTEN_MODIFIERS = {lower(it or "" for it in modifier_says(name)): name for name in "latin cyrillic devanagari ijekavianlatin".split() + [*MODIFIER_VARIANTS, ""]}
 
 
 def posix_name(text):
     """Returns the POSIX name of a tag, or "-" if a name cannot say all of it. A likely script is left out, or said by the modifier if the
     language alone has another likely script."""
-    tag = None if text.lower() in IRREGULAR else Tag(text)
+    tag = Tag(text)
     if tag is None or not re.fullmatch("[a-z]{2,3}", tag.language, re.I | re.A) or tag.language.lower() == "und" or tag.rest.lower() not in ("", "-u-va-posix"):
         return "-"
     language, _, region = tag.fields
@@ -469,15 +463,6 @@ def unknown_modifier(name):
 # ---- the code that is meant by one that is not registered
 
 
-@functools.lru_cache(None)
-def registry():
-    """Returns what registry/oracle.py reads, which shows whether a subtag is registered."""
-    spec = importlib.util.spec_from_file_location("registry_oracle", DATA.parent.parent / "registry/oracle.py")
-    module = importlib.util.module_from_spec(spec)
-    spec.loader.exec_module(module)
-    return module.registry()
-
-
 def suggestion(text):
     """Returns the registered code that replaces the first invalid subtag of a tag, if it is a single language or region."""
     kind, code = (registry().validity(text).split()[at] for at in (0, -1))
@@ -489,7 +474,7 @@ def suggestion(text):
 
 def locale(tag):
     """Returns the language, script and region of a tag of CLDR, which are empty for no tag."""
-    found = TAG.fullmatch(tag)
+    found = GRAMMAR.fullmatch(tag)
     return (found["language"], found["script"] or "", found["region"] or "") if found else ("", "", "")
 
 
@@ -523,11 +508,11 @@ def parent(language, script, region):
 
 def parents(text):
     """Returns a tag and its parents, the nearest first, or a hyphen if the text is no tag."""
-    match = TAG.fullmatch(text) or LONG.fullmatch(text)
-    chain = [text] if is_tag(text) else ["-"]
-    if match is None or text.lower() in IRREGULAR:
-        return chain[0]
-    language, script, region = fields = match["language"] + match["extended"], match["script"] or "", match["region"] or ""
+    tag = Tag(text)
+    if tag is None:
+        return text if is_tag(text) else "-"
+    chain = [text]
+    language, script, region = fields = tag.language, tag.script or "", tag.region or ""
     usual = script if short(language, script, "")[1] == "" else ""  # the script that the tag names, if the language is usually written in it
 
     def add(fields, rest):
@@ -535,10 +520,10 @@ def parents(text):
             fields = fields[0], usual, ""
         chain.extend(tag for form in (fields, short(*fields)) if (tag := "-".join(filter(None, form)) + rest) not in chain)
 
-    add(fields, match["variants"] + match["rest"])
+    add(fields, tag.variants + tag.rest)
     fields = short(*fields)
     while fields[0]:
-        rest = match["variants"]
+        rest = tag.variants
         add(fields, rest)
         while rest:
             rest = rest.rpartition("-")[0]

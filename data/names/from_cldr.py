@@ -12,19 +12,18 @@ import sys
 import xml.etree.ElementTree as XML
 from collections.abc import Iterator
 
+sys.path.append(str(pathlib.Path(__file__).resolve().parent.parent))
+from common import write_cldr  # noqa: E402
+
 DATA = pathlib.Path(__file__).resolve().parent / "cldr"
 
-HEAD = """# {title}
-# From Unicode CLDR {version} (common/main/{files}; {source}).
-# Copyright (c) {years} Unicode, Inc. Distributed under the Terms of Use in https://www.unicode.org/copyright.html
-# SPDX-License-Identifier: Unicode-3.0 (the notice: LICENSE-UNICODE)
-"""
-
-# The elements with names, and the element around each kind.
-KINDS = {"language": "languages", "script": "scripts", "territory": "territories", "variant": "variants"}
-FILES = {"language": "english-languages", "script": "english-scripts", "territory": "english-regions", "variant": "english-variants"}
-TITLES = {"language": "each language and its English name", "script": "each script and its English name after a language",
-          "territory": "each region and its English name", "variant": "each variant and its English name"}
+# The elements with names: the element around each kind, the file, and its title.
+KINDS = {
+    "language": ("languages", "english-languages", "each language and its English name"),
+    "script": ("scripts", "english-scripts", "each script and its English name after a language"),
+    "territory": ("territories", "english-regions", "each region and its English name"),
+    "variant": ("variants", "english-variants", "each variant and its English name"),
+}
 
 
 def tag_of(locale: str) -> str:
@@ -34,7 +33,7 @@ def tag_of(locale: str) -> str:
 
 def names_of(root: XML.Element, kind: str) -> dict[str, str]:
     """Returns the names of a kind in a file of main/, without alternatives, the two halves for menus, and inherited names."""
-    rows = root.findall(f"localeDisplayNames/{KINDS[kind]}/{kind}")
+    rows = root.findall(f"localeDisplayNames/{KINDS[kind][0]}/{kind}")
     plain = [row for row in rows if row.get("alt") is None and row.get("menu") is None]
     return {tag_of(row.get("type", "")): row.text for row in plain if row.text and row.text != "↑↑↑"}
 
@@ -72,25 +71,16 @@ class Autonyms:
                 yield tag, name
 
 
-def write(name: str, title: str, files: str, said: dict[str, str], rows: list[tuple[str, str]]) -> None:
-    text = HEAD.format(title=title, files=files, **said) + "".join(f"{tag} {name}\n" for tag, name in sorted(rows))
-    (DATA / f"{name}.txt").write_text(text, encoding="utf-8")
-
-
-def main(words: list[str]) -> None:
-    if len(words) != 3:
-        sys.exit(__doc__)
-    common = pathlib.Path(words[0])
-    head = (common / "main/en.xml").read_text(encoding="utf-8")
-    years = re.search(r"Copyright © ([0-9-]+) Unicode", head)
-    said = {"version": words[1], "source": words[2], "years": years[1] if years else ""}
+def files(common: pathlib.Path) -> Iterator[tuple[str, str, str, list[str]]]:
+    """Returns for each file its name, its title, the files of CLDR from which it is made, and its lines."""
     title = "each language, or language with a script, a region or a variant, and its name in itself"
-    write("autonyms", title, "*.xml", said, list(Autonyms(common).rows()))
+    yield "autonyms", title, "main/*.xml", [f"{tag} {name}" for tag, name in sorted(Autonyms(common).rows())]
     english = XML.parse(common / "main/en.xml").getroot()
-    for kind, name in FILES.items():
-        rows = [row for row in names_of(english, kind).items() if "-" not in row[0]]
-        write(name, TITLES[kind], "en.xml", said, rows)
+    for kind, (_, file, title) in KINDS.items():
+        yield file, title, "main/en.xml", [f"{tag} {name}" for tag, name in sorted(names_of(english, kind).items()) if "-" not in tag]
 
 
 if __name__ == "__main__":
-    main(sys.argv[1:])
+    if len(sys.argv) != 4:
+        sys.exit(__doc__)
+    write_cldr(folder := pathlib.Path(sys.argv[1]), *sys.argv[2:], DATA, files(folder))

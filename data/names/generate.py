@@ -6,10 +6,6 @@ writes them), ../registry, ../likely and ../unicode.
 
 The key of an English name says where the subtag stands: `de` is the language of a locale form, and `-DE` follows it. A language that the
 locale form replaces with one that CLDR does not name keeps its own name, whose key is in uppercase: `HIM`, which becomes `srx`.
-
-usage: generate.py            writes them from the data whose checksums are in cldr.sha256
-       generate.py --accept   writes them from newer data, and their checksums
-       generate.py --check    writes nothing, and names each fault: data with other checksums, or a file that would be written differently
 """
 from __future__ import annotations
 

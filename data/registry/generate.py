@@ -1,14 +1,6 @@
 #!/usr/bin/env python3
 """Writes files from IANA's language subtag registry, which is beside this file in its original format (RFC 5646 section 3.1.1): the
-tables and lists of the crate langtag_fields, and the pages of proofs that compare them.
-
-usage: generate.py            writes them from the registry whose checksum is beside it
-       generate.py --accept   writes them from a newer registry, and its checksum
-       generate.py --check    writes nothing, and names each fault: a registry with another checksum, a file that
-                              would be written differently, a list that differs from oracle.py's reading
-
-A registry that breaks a premise of the crate (premises.py) is refused: the records that break it are named, nothing is written, and
-the status is 1.
+tables and lists of the crate langtag_fields, and the pages of proofs that compare them. premises.py has the premises of the crate.
 """
 from __future__ import annotations
 

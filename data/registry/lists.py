@@ -6,7 +6,7 @@ from collections.abc import Iterator
 from functools import reduce
 from pathlib import Path
 
-from oracle import Registry
+from oracle import Registry, answers
 
 # For each list with values: the Types of its records, and the field.
 FIELDS = {
@@ -53,13 +53,9 @@ def wanted(registry: Registry) -> dict[str, list]:
 
 
 def differences(registry_path: Path, page: str) -> Iterator[str]:
-    """Returns a line for each list that differs on the page, is missing, or is extra."""
+    """Yields a line for each list that differs on the page, is missing, or is extra."""
     ours, theirs = words(page), wanted(Registry(registry_path))
-    for name in sorted(ours.keys() ^ theirs.keys()):
-        yield f"{name}: {'not read a second time' if name in ours else 'not on the page'}"
-    for name in sorted(ours.keys() & theirs.keys()):
-        of_pairs = any(isinstance(entry, tuple) for entry in theirs[name])
-        found = list(zip([text.lower() for text in ours[name][::2]], ours[name][1::2])) if of_pairs else [text.lower() for text in ours[name]]
-        if sorted(found) != sorted(theirs[name]):
-            differ = sorted(set(found) ^ set(theirs[name])) or "an entry that stands twice"
-            yield f"{name}: differs from a second reading of the registry, as in {differ[:5]}"
+    for name, found in ours.items():
+        of_pairs = any(isinstance(entry, tuple) for entry in theirs.get(name, []))
+        ours[name] = list(zip([text.lower() for text in found[::2]], found[1::2])) if of_pairs else [text.lower() for text in found]
+    return answers.differing(ours, theirs)

@@ -163,20 +163,15 @@ def registry():
 
 # The answer to each call about a tag. Other texts have no answer.
 CALLS = {
-    "validity": lambda tag: registry().validity(tag),
-    "canonical": lambda tag: registry().canonical(tag),
-    "extlang-form": lambda tag: registry().extlang_form(tag),
-    "misplaced": lambda tag: registry().misplaced(tag),
-    "misplaced-extlang": lambda tag: registry().misplaced_extlang(tag),
-    "registered": lambda tag: registry().whole(tag) or "-",
-    "subtag": lambda tag: registry().fields_of(tag),
+    "validity": Registry.validity, "canonical": Registry.canonical, "extlang-form": Registry.extlang_form, "misplaced": Registry.misplaced,
+    "misplaced-extlang": Registry.misplaced_extlang, "registered": lambda its, tag: its.whole(tag) or "-", "subtag": Registry.fields_of,
 }
 
 
 def answer(row):
     call, word = row.split(" | ")
     text = answers.plain(word)
-    return "-" if call != "validity" and registry().validity(text) == "none" else CALLS[call](text)
+    return "-" if call != "validity" and registry().validity(text) == "none" else CALLS[call](registry(), text)
 
 
 def rows_of(text):

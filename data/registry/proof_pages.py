@@ -49,9 +49,9 @@ def field_tables() -> list[str]:
     blocks = []
     for name, field, items, table, test in FIELDS:
         blocks += [lemma(f"{name}_table", f"IsTableOf table.{table}_KEYS (map (λ text. text.now) table.{table}_VALUES) list.{items}", f"list.{items} {PLAIN}", f"record {{ numbers = {ARE_KEYS}; beside = refl }}"),
-                   lemma(f"{name}_values", f"list_all {test} (map (λ e. e.value) list.{items}) ≡ true", f"list.{items} {CLASS[test]}"),
-                   lemma(f"{name}_good", f"(text new : List ℕ) → field.{field} text ≡ Some new → {test} new ≡ true", f"field.{field}",
-                         f"value_good {test} list.{items} text new {name}_values is", " text new is")]
+                   lemma(f"{name}_good", f"(text new : List ℕ) → field.{field} text ≡ Some new → {test} new ≡ true",
+                         f"field.{field} list.{items} {CLASS[test]}",
+                         f"value_good {test} list.{items} text new refl is", " text new is")]
     entries = "map (λ pair. record { subtag = pair.0.now; value = pair.1.now }) table.PREFERRED_TAGS ≡ list.tag_preferred"
     ends = lemma("tag_ends", "AreEndsOf table.PREFERRED_TAG_KEYS (map (λ pair. pair.0.now) table.PREFERRED_TAGS)", "end_number folded_number fold_byte", "record { numbers = refl; climb = refl }")
     return [*blocks, lemma("tag_entries", entries, "list.tag_preferred"), ends]

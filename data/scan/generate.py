@@ -2,9 +2,6 @@
 """Writes the states of the recogniser (RFC 5646 section 2.1): the tables of the crate langtag_scan, and the page of definitions
 that says which state represents which position.
 
-usage: generate.py           writes them
-       generate.py --check   writes nothing, and names a file that would be written differently
-
 The grammar is given by subtags (`stage_after`) and by the irregular tags. A position is what is known about the bytes that were
 read. There are as few states as possible: positions with the same continuations and the same ends of parts share a state.
 
@@ -18,7 +15,7 @@ import sys
 from typing import NamedTuple
 
 sys.path.append(str(pathlib.Path(__file__).resolve().parent.parent))
-from common import IRREGULAR, Generator, run  # noqa: E402
+from common import IRREGULAR, Generator, in_lines, run  # noqa: E402
 
 # One byte of each class: a lowercase letter for both of its cases, 0 for all digits, the hyphen, and NUL for every byte that no tag
 # contains.
@@ -179,13 +176,7 @@ def class_of(byte):
 
 
 def wrapped(numbers, margin):
-    lines, line = [], margin
-    for number in numbers:
-        if len(line) + len(f" {number},") > WIDTH:
-            lines.append(line)
-            line = margin
-        line += f" {number}," if line.strip() else f"{number},"
-    return lines + [line]
+    return in_lines(map(str, numbers), WIDTH, margin[1:]).split("\n")
 
 
 def constant(doc, name, kind, rows):

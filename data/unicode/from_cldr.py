@@ -17,17 +17,11 @@ from collections.abc import Iterator
 
 sys.path.append(str(pathlib.Path(__file__).resolve().parent.parent))
 import cases  # noqa: E402
-from common import Refused  # noqa: E402
+from common import Refused, write_cldr  # noqa: E402
 from identifiers import IDENTIFIER  # noqa: E402
 
 DATA = pathlib.Path(__file__).resolve().parent / "cldr"
 ROWS = DATA.parent.parent.parent / "rows"
-
-HEAD = """# {title}
-# From Unicode CLDR {version} ({files}; {source}).
-# Copyright (c) 1991-2026 Unicode, Inc. Distributed under the Terms of Use in https://www.unicode.org/copyright.html
-# SPDX-License-Identifier: Unicode-3.0 (the notice: LICENSE-UNICODE)
-"""
 TYPE = re.compile(r"[a-z0-9]{3,8}(-[a-z0-9]{3,8})*")
 
 
@@ -59,15 +53,14 @@ def identifier_aliases(common: pathlib.Path) -> Iterator[str]:
 
 
 def main(common: pathlib.Path, version: str, source: str) -> None:
-    for name, title, files, rows in (
-        ("type-alias.txt", "Aliases of types that a tag can hold: extension, key, alias, type", "common/bcp47/*.xml", type_aliases(common)),
-        ("language-alias.txt", "Aliases of language identifiers that are neither a language nor a region: identifier, replacement",
-         "common/supplemental/supplementalMetadata.xml", identifier_aliases(common)),
-        ("subdivision-alias.txt", "Aliases of subdivisions: code, reason, replacements, of which the first is taken", "common/supplemental/supplementalMetadata.xml",
-         subdivision_aliases(common)),
-    ):
-        text = HEAD.format(title=title, version=version, files=files, source=source) + "".join(f"{row}\n" for row in sorted(set(rows)))
-        (DATA / name).write_text(text, encoding="utf-8")
+    metadata = "supplemental/supplementalMetadata.xml"
+    write_cldr(common, version, source, DATA, [
+        (name, title, of, sorted(set(rows))) for name, title, of, rows in (
+            ("type-alias", "Aliases of types that a tag can hold: extension, key, alias, type", "bcp47/*.xml", type_aliases(common)),
+            ("language-alias", "Aliases of language identifiers that are neither a language nor a region: identifier, replacement", metadata,
+             identifier_aliases(common)),
+            ("subdivision-alias", "Aliases of subdivisions: code, reason, replacements, of which the first is taken", metadata, subdivision_aliases(common)),
+        )])
     rows = cases.rows(common / "testData/localeIdentifiers" / cases.NAME, version, source)
     (ROWS / "cldr.txt").write_text(rows, encoding="utf-8")
 

@@ -3,15 +3,8 @@
 subdivisions and of language identifiers are in cldr/. The aliases of regions are those of langtag_likely, in ../likely/cldr.
 from_cldr.py writes cldr/, and CLDR's own cases as the rows of rows/cldr.txt. cldr.sha256 has the checksums of both.
 
-usage: generate.py            writes them from the data whose checksums are in cldr.sha256
-       generate.py --accept   writes them from newer data, and their checksums
-       generate.py --check    writes nothing, and names each fault: data with other checksums, or a file that
-                              would be written differently
-
 IANA's registry may be ahead of CLDR: a tag has a Preferred-Value, and CLDR does not replace that tag yet. --accept writes such tags to
 ahead-of-cldr.txt, and names each tag that it adds or takes out.
-
-Data that break a premise of the crate are refused: the row that breaks it is named, nothing is written, and the status is 1.
 """
 from __future__ import annotations
 

@@ -26,7 +26,7 @@ import answers  # noqa: E402
 
 HERE = pathlib.Path(__file__).resolve().parent
 LIKELY = HERE.parent / "likely/cldr"
-REGISTRY = HERE.parent / "registry/language-subtag-registry"
+REGISTRY = answers.registry_oracle().registry()
 
 
 def lines(path: pathlib.Path) -> list[list[str]]:
@@ -159,19 +159,13 @@ def extensions_form(tag: str) -> str:
 
 # ---- the canonical form of identifiers
 
-def whole_tags() -> dict[str, str]:
-    """Returns the whole tags of the registry that have a Preferred-Value, each with that value."""
-    records = REGISTRY.read_text(encoding="utf-8").lower().split("%%\n")
-    found = (re.search(r"^tag: (\S+)$.*^preferred-value: (\S+)$", record, re.M | re.S) for record in records)
-    return {match[1]: match[2] for match in found if match}
-
-
 def registered(kind: str) -> list[str]:
-    return re.findall(rf"^type: {kind}\nsubtag: (\w+)$", REGISTRY.read_text(encoding="utf-8").lower(), re.M)
+    return [name.lower() for name in REGISTRY.names[kind]]
 
 
-PREFERRED = whole_tags()
-EXTLANGS = set(registered("extlang"))
+# The whole tags of the registry that have a Preferred-Value, each with that value.
+PREFERRED = {tag: REGISTRY.whole(tag).lower() for kind in ("grandfathered", "redundant") for tag in registered(kind) if REGISTRY.whole(tag)}
+EXTLANGS, GRANDFATHERED = REGISTRY.kinds["extlang"], REGISTRY.kinds["grandfathered"]
 LIKELY_SUBTAGS = {tuple(row[:3]): row[3:] for row in lines(LIKELY / "likely.txt")}
 REGION_ALIASES = lines(LIKELY / "region-alias.txt")
 
@@ -236,9 +230,6 @@ def form_of_locale(tag: str) -> str | None:
     for singleton, subtags in sorted(extensions):
         out += [singleton, *canonical_extension(singleton, subtags, canonical_identifier)]
     return "-".join(out + private)
-
-
-GRANDFATHERED = set(re.findall(r"^type: grandfathered\ntag: (\S+)$", REGISTRY.read_text(encoding="utf-8").lower(), re.M))
 
 
 def locale_form(tag: str) -> str | None:
