@@ -1,6 +1,5 @@
 """Finds where numbers that stand in several files differ: the version, the number of the ABI, and the indices of the grandfathered
-tags. No file may have a copy of the registry's date, which the library returns. The meaning of the numbers is not compared, since the
-tests of each language check its constants with the library."""
+tags. The meaning of the numbers is not compared, since the tests of each language check its constants with the library."""
 from __future__ import annotations
 
 import pathlib
@@ -17,26 +16,6 @@ VERSIONS = [
 NUMBERS = [
     ("bindings/c/Makefile", r"\.so\.([0-9]+)"), ("bindings/c/langtag_verified.map", r"LANGTAG_VERIFIED_([0-9]+) "),
 ]
-
-# The file with the registry's date, and the files that get the date from the library and so must not have a copy of it.
-DATED = "crates/langtag_fields/src/tables.rt"
-UNDATED = ["crates/langtag_c/src", "rows", "bindings/include", "bindings/python/langtag", "bindings/python/native"]
-
-
-def registry_date(root: pathlib.Path) -> str:
-    found = re.search(r'FILE_DATE: &str = "([0-9-]+)"', (root / DATED).read_text())
-    return found[1] if found else ""
-
-
-def copied_dates(root: pathlib.Path) -> list[str]:
-    """Returns the files in which the registry's date is written by hand, although langtag_registry_date returns it."""
-    date = registry_date(root)
-    if not date:
-        return [f"the registry's date does not stand in {DATED}"]
-    files = sorted(path for folder in UNDATED for path in (root / folder).rglob("*") if path.suffix in (".rt", ".txt", ".h", ".hpp", ".rs", ".py"))
-    holders = [path for path in files if re.search(f"{date}|{date.replace('-', '')}", path.read_text(encoding="utf-8"))]
-    return [f"the registry's date, {date}: {path.relative_to(root)} has a copy of it" for path in holders]
-
 
 def wrong_numbers(root: pathlib.Path) -> list[str]:
     """Returns where a number of the header differs from the table, or a number of another file from the header."""

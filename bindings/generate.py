@@ -4,7 +4,6 @@
     bindings/include/langtag.h                the header: langtag.h.in, with the functions, the structs and their documentation
     rust/c/src/exports.rs                     the functions that cargo exports to C
     bindings/c/langtag_verified.map           what the shared library exports
-    bindings/c/functions.h                    lists of the functions, for programs that call each of them
     bindings/python/native/calls.c            the functions for Python, in C
     bindings/python/langtag/_native.pyi       their types
     bindings/js/calls.js                      the functions in JavaScript, over the memory of the WebAssembly module
@@ -118,22 +117,6 @@ def script(it: Interface) -> str:
     return f"# {WRITTEN}\nLANGTAG_VERIFIED_1 {{\nglobal:\n{names}local:\n    *;\n}};\n"
 
 
-def list_for_c(comment: str, name: str, functions: list[Function]) -> str:
-    names = " \\\n".join(f"    EACH({function.short()})" for function in functions)
-    return f"\n/* {comment} */\n#define {name}(EACH) \\\n{names}\n"
-
-
-def functions_for_c(it: Interface) -> str:
-    pure = [function for function in it.functions if function.is_pure()]
-    texts = {count: [function for function in pure if [of.kind for of in function.parameters] == count * ["&[u8]"]] for count in (1, 2)}
-    forms = [function for function in it.functions if [of.kind for of in function.parameters] == ["&[u8]", "&mut [u8]"]]
-    return f"/* Lists of the functions of langtag.h, without the prefix langtag_. {WRITTEN} */\n" + "".join([
-        list_for_c("All functions.", "LANGTAG_FUNCTIONS", it.functions),
-        list_for_c("The functions of one string that only return a value.", "LANGTAG_OF_ONE", texts[1]),
-        list_for_c("The functions of two strings that only return a value.", "LANGTAG_OF_TWO", texts[2]),
-        list_for_c("The functions of one string that write another string to a buffer.", "LANGTAG_FORMS", forms)])
-
-
 # ---- bindings/include/langtag.h
 
 
@@ -190,7 +173,6 @@ def wrong_template(it: Interface, template: str) -> list[str]:
 FILES = {
     "rust/c/src/exports.rs": exports,
     "bindings/c/langtag_verified.map": script,
-    "bindings/c/functions.h": functions_for_c,
     "bindings/python/native/calls.c": lambda it: python_calls.in_c(it, WRITTEN),
     "bindings/python/langtag/_native.pyi": lambda it: python_calls.types(it, WRITTEN),
     "bindings/js/calls.js": lambda it: javascript(it, WRITTEN),
@@ -202,7 +184,7 @@ def main(root: pathlib.Path, is_check: bool) -> int:
     faults = wrong_template(it, template)
     if not it.functions or not it.structs:
         faults.append("crates/langtag_c has no functions, or no structs")
-    faults += calls_page.faults(it, root) + check_numbers.wrong_numbers(root) + check_numbers.copied_dates(root)
+    faults += calls_page.faults(it, root) + check_numbers.wrong_numbers(root)
     files = {HEADER: header(it, template)} | {name: written(it) for name, written in FILES.items()}
     for name, text in (files | calls_page.pages(root)).items():
         path = root / name

@@ -13,6 +13,7 @@ import hashlib
 import os
 import pathlib
 import re
+import runpy
 import subprocess
 import sys
 
@@ -53,7 +54,7 @@ def commit() -> str:
 
 def functions() -> str:
     """Returns how many functions the crates of the library have, and how many crates they are."""
-    taken = re.findall(r'Module\("(\w+)"', (ROOT / "rust/erase/crates.py").read_text())
+    taken = [module.crate for module in runpy.run_path(str(ROOT / "rust/erase/crates.py"))["MODULES"]]
     sources = [path.read_text(encoding="utf-8") for crate in taken for path in sorted((ROOT / "crates" / crate / "src").glob("*.rt"))]
     count = sum(len(re.findall(r"(?m)^\s*(?:pub(?:\(\w+\))? )?fn ", source)) for source in sources)
     return f"{count} functions in {len(taken)} crates"

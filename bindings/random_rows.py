@@ -2,8 +2,7 @@
 """Writes random rows (rows/README.md). Their results come from a second implementation of RFC 5646 and RFC 4647, which is plain and
 slow, and shares nothing with the library.
 
-    random_rows.py rows COUNT SEED         rows with results, about COUNT strings of up to 300 bytes
-    random_rows.py questions COUNT SEED    rows without results, for calls that need data, about COUNT strings of up to 100 kB
+    random_rows.py rows COUNT SEED    rows about COUNT strings of up to 300 bytes
 """
 from __future__ import annotations
 
@@ -377,37 +376,12 @@ def random_header(numbers: random.Random) -> bytes:
     return with_byte(numbers, header, 0.2, b",; q1-\x01")
 
 
-def long_text(numbers: random.Random) -> bytes:
-    """Returns a text with one part that may have some thousand subtags, at most 100 kB, and sometimes with a byte changed."""
-    long = numbers.randrange(3) if numbers.random() < 0.03 else 3
-    counts = [int(10 ** numbers.uniform(2, 4)) if part == long else numbers.randrange(4) for part in range(3)]
-    made = [numbers.choice([b"de", b"zh-yue", b"sl-Latn", b"en-BU", b"abcd-Cyrl-419", b"iw"])]
-    made += [numbers.choice([b"1996", b"rozaj", b"heploc", b"%05d" % numbers.randrange(100_000), b"1aBc"]) for _ in range(counts[0])]
-    for _ in range(counts[1]):
-        made += [numbers.choice([b"u", b"t", b"a", b"B", b"1"])]
-        made += numbers.choices([b"co", b"phonebk", b"Latn", b"12"], k=numbers.choice([1, 1, 2, 3, 900]))
-    made += [b"x", *numbers.choices([b"a", b"mine", b"X", b"abcdefgh"], k=counts[2])] if counts[2] else []
-    return with_byte(numbers, b"-".join(made)[:100_000].rstrip(b"-"), 0.2, b"-_\xc31Z")
-
-
-def questions_of(numbers: random.Random) -> Rows:
-    one, other = (numbers.choice([long_text, random_text])(numbers) for _ in "ab")
-    for call in ("tag", "validity", "suggestion", "canonical", "refused", "maximized", "minimized", "right-to-left", "posix", "posix-name",
-                 "keywords", "attributes", "transform", "extensions-form", "is-locale", "locale-form"):
-        yield call, shown(one)
-    yield "distance", shown(one), shown(numbers.choice([other, one.swapcase()]))
-    yield "parents", shown(random_text(numbers))
-    header, tags = shown(random_header(numbers)), [it for it in (b"de", b"zh", one, other) if kind(it) != "none"]
-    for call in ("best", "best-match", "suitable"):
-        yield call, header, " ".join(map(shown, tags))
-
-
-def main(what: str, count: str, seed: str) -> None:
+def main(count: str, seed: str) -> None:
     numbers = random.Random(seed)
     for _ in range(int(count)):
-        for row in {"rows": rows_of, "questions": questions_of}[what](numbers):
+        for row in rows_of(numbers):
             print(" | ".join(row))
 
 
 if __name__ == "__main__":
-    main(*sys.argv[1:])
+    main(*sys.argv[2:])

@@ -9,9 +9,6 @@ from typing import Iterator, NamedTuple, Sequence
 # lifetimes).
 HIDDEN = r"^[ \t]*#(?:\\\n|[^\n])*|//[^\n]*|/\*.*?\*/|\"(?:\\.|[^\"\\])*\"|'(?:\\[^']+|[^'\\])'"
 TOKEN = re.compile(rf"({HIDDEN})|[{{}};]", re.DOTALL | re.MULTILINE)
-# The text before the body of a function: `fn` in Rust, and arguments in C and C++. `= {` begins an initializer.
-HEADS = {".rs": re.compile(r"\bfn \$?\w+"), "": re.compile(r"[()]")}
-VALUE = re.compile(r"[=,(]\s*$")
 
 # The switch in C and C++, and in the root of a Rust crate. In Rust, the variable is read before `main`, because reading it allocates,
 # and some tests count allocations.
@@ -57,7 +54,7 @@ class Change(NamedTuple):
 
 def bodies(text: str, suffix: str) -> Iterator[tuple[int, int]]:
     """Yields the range of the body of each function, with its braces. An inner function belongs to the outer one."""
-    head = HEADS.get(suffix, HEADS[""])
+    head = r"\bfn \$?\w+" if suffix == ".rs" else r"[()]"  # what is before a body: `fn` in Rust, and arguments in C and C++
     opened: list[str] = []  # for each open brace, what it begins
     begin = passed = 0
     before = ""
@@ -67,7 +64,8 @@ def bodies(text: str, suffix: str) -> Iterator[tuple[int, int]]:
             continue
         if token[0] == "{":
             inside = opened[-1] if opened else ""
-            opened.append(inside or ("value" if VALUE.search(before) else "function" if head.search(before) else ""))
+            is_value = re.search(r"[=,(]\s*$", before)  # `= {` begins an initializer
+            opened.append(inside or ("value" if is_value else "function" if re.search(head, before) else ""))
             if not inside and opened[-1] == "function":
                 begin = token.start()
         elif token[0] == "}" and opened and opened.pop() == "function" and "function" not in opened:

@@ -19,28 +19,22 @@ import interface
 ROOT = pathlib.Path(sys.argv[1] if sys.argv[1:] else pathlib.Path(__file__).parent.parent).resolve()
 HEADER, TEMPLATE, MODULE = generate.HEADER, interface.TEMPLATE, "bindings/python/langtag/__init__.py"
 CRATE = "crates/langtag_c/src"
-DATE = check_numbers.registry_date(ROOT)
-FILES = {HEADER, TEMPLATE, MODULE, check_numbers.DATED, "rows/table.txt", *generate.FILES, *calls_page.FILES, *(name for name, _ in check_numbers.VERSIONS + check_numbers.NUMBERS)}
+FILES = {HEADER, TEMPLATE, MODULE, "rows/table.txt", *generate.FILES, *calls_page.FILES, *(name for name, _ in check_numbers.VERSIONS + check_numbers.NUMBERS)}
 
 # A file, a text in it, the text that replaces it, and what the message has to name.
 PLANTED = [
     (HEADER, "size_t langtag_viable_len(", "uint32_t langtag_viable_len(", HEADER),
-    (HEADER, "langtag_span script; ", "langtag_span region; ", HEADER),
     (TEMPLATE, "@span ", "@", "span"),
     (TEMPLATE, "@grandfathered", "@grandfatherd", "grandfatherd"),
     (HEADER, "__attribute__((pure,", "__attribute__((const,", "LANGTAG_PURE"),
     (HEADER, "0 en-GB-oed    1 i-ami ", "1 en-GB-oed    0 i-ami ", "grandfathered"),
     (HEADER, "LANGTAG_ABI_VERSION 1", "LANGTAG_ABI_VERSION 2", "LANGTAG_ABI_VERSION"),
-    (HEADER, "20250131 is 2025-01-31", DATE, DATE),
     ("bindings/c/Makefile", "soname,$(NAME).so.1", "soname,$(NAME).so.2", "Makefile"),
     ("rust/Cargo.toml", 'version = "0.2.0-dev"', 'version = "0.1.1"', "Cargo.toml"),
     ("rust/c/Cargo.toml", 'version = "0.2.0-dev"', 'version = "0.1.1"', "rust/c/Cargo.toml"),
     (MODULE, '__version__ = "0.2.0-dev"', '__version__ = "0.2.0"', "LANGTAG_VERSION"),
-    (MODULE, r"""REGISTRY_DATE = re.sub("(....)(..)(..)", r"\1-\2-\3", str(_backend.registry_date()))""", f'REGISTRY_DATE = "{DATE}"', DATE),
-    (check_numbers.DATED, "pub const FILE_DATE", "pub const DATE", "the registry's date"),
     (CRATE, "fn langtag_eq(a: &[u8], b: &[u8])", "fn langtag_eq(b: &[u8], a: &[u8])", HEADER),
     (CRATE, "pub singleton: Span", "pub singletons: Span", HEADER),
-    (CRATE, "pub len: usize", "pub length: usize", HEADER),
     # The contract says what is written: exports.rs follows it.
     (CRATE, "ensures nothing { result ≡ false → language.new ≡ language.old }", "", "exports.rs"),
     *((name, "hash", "hush", name) for name in generate.FILES),

@@ -15,8 +15,8 @@ A language is built once with the faults in bodies of functions, each behind a s
 fault. A fault is found if the tests fail with the words that belong to it, for example the row that differs. A fault that does not
 build is not found. The tests of each language run without a fault first, and have to pass.
 
-A wrapper that calls another function of the same form is planted once, mostly in C++. The rows that show it are the same in each language,
-and the test of each language fails if no row asks one of its calls.
+A fault is planted once if the rows that show it are the same in each language, mostly in C++: a wrapper that calls another function of
+the same form, for example. The test of each language fails if no row asks one of its calls.
 """
 from __future__ import annotations
 
@@ -30,391 +30,264 @@ import shutil
 import subprocess
 import sys
 import tempfile
-from typing import Callable, NamedTuple
+from typing import Callable, Iterator, NamedTuple
 
 from switched import C, FORBIDDEN, POSTGRESQL, RUST, Change, switched
 
 ROOT = pathlib.Path(__file__).resolve().parent.parent
-H, HPP, SQL = "bindings/include/langtag.h", "bindings/include/langtag.hpp", "bindings/sqlite/sqlite_langtag.c"
-NAMES = "bindings/include/langtag_names.h"
-PY, TEXTS = (f"bindings/python/langtag/{name}.py" for name in ("__init__", "_texts"))
-PG, PG_SQL, PG_TYPE, PG_ORDER = (f"bindings/postgresql/{name}" for name in ("langtag_pg.c", "langtag.sql.in", "type.sql.in", "order.sql.in"))
-NATIVE, JS, CALLS, MEMORY = "bindings/python/native/", *(f"bindings/js/{name}.js" for name in ("index", "calls", "memory"))
 
-CANONICAL = """langtag_canonical(text.data, text.len, room, sizeof room);
-        TAKE_BACK();
-        answer = PyBytes_FromStringAndSize(len <= sizeof room ? room : NULL, (Py_ssize_t)len);
-        if (answer && len > sizeof room) {"""
+# The faults of each language: the folder of its files, and lines. A line has a file, the test or the file of rows that finds its faults,
+# and changes, with ;; between them. A change is `old`new` in the text around it, or two texts that are exchanged, with <> between them.
+# The first such place in the file counts, and a blank is any white space. After = are words of the failure, if they are not the usual ones.
+TABLES = {
+    "C": ("bindings/include", r"""
+langtag.h table.txt: LANGTAG_REPEATED_VARIANT <> LANGTAG_REPEATED_SINGLETON ;; langtag_span variants; <> langtag_span extensions;
+langtag.h table.txt: LANGTAG_INVALID_SCRIPT <> LANGTAG_INVALID_REGION ;; langtag_span variant; <> langtag_span singleton;
+langtag.h table.txt: LANGTAG_RANGE_BASIC <> LANGTAG_RANGE_EXTENDED ;; LANGTAG_PRIVATE_USE = <> LANGTAG_IRREGULAR =
+langtag.h table.txt: UINT64_C(0xcbf29ce48422232`5`6`)
+langtag.h edits.txt: LANGTAG_PART_SCRIPT <> LANGTAG_PART_REGION
+langtag.h negotiation.txt: LANGTAG_ACCEPTED_BAD_RANGE <> LANGTAG_ACCEPTED_BAD_WEIGHT
+"""),
+    "C++": ("bindings/include", r"""
+langtag.hpp edits.txt: LANGTAG_PART_SCRIPT <> LANGTAG_PART_REGION ;; `{part::extensions, extension},``
+langtag.hpp refused.txt: "script " <> "region " ;; most = `80`81`) ;; code << `6`5`
+langtag.hpp table.txt: langtag_parse(`langtag_bytes(text.data()), text.size(`text.data(), __builtin_strlen(text.data()`), &
+langtag.hpp table.txt: return `langtag_cmp(langtag_bytes(x.data()), x.size(), langtag_bytes(y.data()), y.size()) < 0`x < y`
+langtag.hpp table.txt: return `langtag_eq(langtag_bytes(x.data()), x.size(), langtag_bytes(y.data()), y.size())`x == y`
+langtag.hpp table.txt: `langtag_base_len(text_.data(), text_.size()`text_.size(`))); ;; return langtag_matches_`extended`basic`(
+langtag.hpp table.txt: found <= `LANGTAG_VALID`LANGTAG_INVALID_LANGUAGE`) ;; if (found `== LANGTAG_NONE`!= LANGTAG_NORMAL`)
+langtag.hpp table.txt: cut(repeated().`variant`singleton`) ;; found `==`!=` LANGTAG_RANGE_BASIC
+langtag.hpp lengths.txt: if (len <= `sizeof room) return std::string(room, len`2 * sizeof room) return std::string(room, len < 128 ? len : 128`);
+langtag.hpp lengths.txt: &made[0], made.size()); return made``.substr(0, 1000)`;
+langtag.hpp negotiation.txt: chosen(langtag_`tag_for_header_lenient`best_for_header`, header_) ;; `basic.erase(at, 2)`at += 2`
+langtag.hpp negotiation.txt: answer == LANGTAG_ACCEPTED_RANGE` && weight > 0`` ;; a.weight `>`<` b.weight
+langtag.hpp negotiation.txt: static_cast<std::size_t>(commas) <> element.start
+langtag.hpp choices.txt: header.substr(match.range.start`, match.range.len``) ;; match.range.len), match.distance`` % 100`}
+langtag.hpp unicode.txt: value_of(langtag_`keyword`field`, key) ;; cut(key) <> cut(value)
+langtag.hpp keywords.txt: written`(langtag_without_keyword`_by(langtag_without_keyword, text_.substr(0, 4)`,
+langtag.hpp keywords.txt: langtag_bytes(value.data()), value.size()`` % 8`));
+langtag.hpp extensions.txt: written(langtag_`extensions_form`canonical`)
+langtag.hpp locale.txt: return `langtag_is_locale(text_.data(), text_.size())`kind_ == langtag::kind::normal`;
+langtag.hpp locale.txt: return `unless_empty(written(langtag_locale_form)`written(langtag_locale_form`);
+langtag.hpp suitable.txt: found.data(), room`` / 2`));
+langtag.hpp posix.txt: name.substr(modifier.`start, modifier.``len)
+langtag.hpp parents.txt: std::string next(`text_`written(langtag_parent)`);
+langtag.hpp lists.txt: ranges()) ``if (wanted.empty()) `wanted.push_back(it.range)
+langtag_names.h names.txt: = `langtag_locale_form`langtag_canonical`(tag ;; `if (langtag_english_name(own, sizeof own))``
+langtag_names.h names.txt: `is_usual ? language_len : 0`language_len`; ;; `if (form[extension.start] != last)`` ;; ? "`]`)`" :
+"""),
+    "Rust": ("rust/src", r"""
+text.rs owned: `case_insensitive_eq(self.as_str().as_bytes(), other.as_bytes()`self.as_str().as_bytes() == other.as_bytes(`)
+text.rs owned: Ok(lent) => Ok(`lent.to_owned`$owned::new(lent.to_ascii_lowercase()).unwrap`()),
+text.rs owned: self.`$lend().partial_cmp(other`as_str().partial_cmp(other.as_str()`) ;; <$other>::from(*self) `=`!`= *other
+text.rs habits: core::str::from_utf8(bytes).`map_err(|_| $error(bytes))?`unwrap_or("und")`
+text.rs habits: $name::new(text``.trim()`).map_err(|_| $error(bytes))
+text.rs guesses: $error(`error.into_bytes`Vec::new`())
+names.rs rows: `to_ascii_uppercase`to_ascii_lowercase` ;; `is_usual.then_some`Some`(language)
+lent.rs owned: `self.$lend`$name::try_from("zh").unwrap`().$call($($argument)?)
+caseless_text.rs habits: `case_insensitive_cmp(self.text().as_bytes(), other.text().as_bytes`self.text().cmp(other.text`())
+caseless_text.rs habits: `case_insensitive_eq(self.text().as_bytes(), other.text().as_bytes()`self.text() == other.text(`)
+caseless_text.rs habits: `case_insensitive_hash(self.text().as_bytes(), `self.text().hash(`state)
+keywords.rs keywords: set_keyword(self, `key, value`value, key`)
+keywords.rs rows: `remove_keyword(self, key`set_keyword(self, key, ""`)
+conversions.rs guesses: `tag.as_normal().ok_or(`NormalLangTag::new(&tag.as_str()[..2]).map_err(|_| `InvalidNormalLangTag(tag.as_str()))
+conversions.rs methods: `self.get_singleton(singleton.try_into().ok()?)`{ let exact = singleton.try_into().ok()?; self.iter().find(|it| it.singleton().unwrap() == exact.unwrap()) }`
+conversions.rs methods: LanguageRange::from_checked(tag.``base().`as_str())
+invalid_subtag.rs rows: 1` + length(tag.variants().iter().take(index))``
+invalid_subtag.rs program: ["`repeated-``variant", "variant"
+invalid.rs owned: $error(`self.0.into`Default::default`())
+message.rs rows: RefusalKind::`Subtag`End` if refusal.start == refusal.end ;; map_or(1, `char::len_utf8`|_| 1`)
+message.rs rows: for byte in `chunk.invalid()`&chunk.invalid()[..0]` {
+lists.rs rows: this => LangTag::new(`this`&this[..2.min(this.len())]`).ok(); ;; this => `Some(this.as_lang_tag())`None`;
+lists.rs methods: if let Ok(range) = LanguageRange::new(first.as_ref())``.or(LanguageRange::new("en"))` {
+matching.rs rows: `is_range(entry.tag_bytes(), range) && entry.tag().is_some()`entry.tag_bytes() == range`
+matching.rs rows: found(Ranges(ranges), tags).unwrap_or(`default`tags.first().unwrap_or(default)`)
+choice.rs choice: &found[..count``.min(1)`]
+site.rs choice: found.into_iter().``rev().`map(
+too_short.rs rows: buffer.get(..len).ok_or(TooShort { needed: `len`buffer.len()` })?
+methods.rs methods: choice::distance(`self, supported`supported, self`) ;; self.validate().`is_ok`is_err`()
+shown.rs methods: Kind::Grandfathered => "`grandfathered`normal`"
+walks.rs habits: `self.iter()`{ let mut walk = self.iter(); walk.next(); walk }`
+oxilangtag.rs oxilangtag: `Some(&*self.tag).filter(|tag| begins_private_use(tag))`None` ;; `tag.make_recommended_case();``
+oxilangtag.rs oxilangtag: Some(normal) `if !read.is_grandfathered() ``=>
+bin/langtag/answers.rs program: range.`matches_basic`matches_extended`(tag) ;; answer.good = `best.is_some()`true`;
+bin/langtag/pointer.rs program: refusal.`offset..refusal.offset + 1`start..refusal.end`
+bin/langtag/input.rs program: line.`strip_suffix(b"\n").unwrap_or(&line`trim_ascii_end(`)
+bin/langtag/input.rs program: if `input.buffer().is_empty()`false` {
+"""),
+    "Python": ("bindings/python", r"""
+langtag/__init__.py table.txt: found.setdefault(singleton`.lower()``, tuple(subtags)) ;; return _split(self.language)[`1`2`:]
+langtag/__init__.py table.txt: `_FAULTS.index(self.fault) + ``2, self.subtag ;; repeats(self._data)[`1:3`3:`]
+langtag/__init__.py parents.txt: return `self._made(_backend.parent(self._data))`None`
+langtag/__init__.py refused.txt: "repeated": "is `repeated`not registered`" ;; self.offset : end], text)[:`1`2`]
+langtag/__init__.py negotiation.txt: key=lambda weighted: `-``weighted.weight ;; data.count(b",", 0, start) <> start
+langtag/__init__.py edits.txt: self.part, self.text = part, `text`None`
+langtag/__init__.py unicode.txt: self._at(start, length)`.lower()``: ;; _backend.`attributes`transform`(
+langtag/__init__.py keywords.txt: tag = `tag`self`._with_keyword(key, text)
+langtag/__init__.py locale.txt=AssertionError: self.`_made(_backend.locale_form(self._data)`_base(_backend.locale_form(self._data) or self._data`)
+langtag/__init__.py posix.txt: [modifier[`0`1`] : sum(modifier)]
+langtag/__init__.py likely.txt: _backend.maximized <> _backend.minimized
+langtag/__init__.py Values.test_copies: return type(self), (`str(self)`""`,)
+langtag/__init__.py Refusals.test_one_family: raise `InvalidLocale`ValueError`(name)
+langtag/__init__.py Negotiation.test_texts: return `listed[index]`Tag(listed[index])` if
+langtag/__init__.py Threads.test_that_a_list_may_change_during_a_choice: listed = ``tags if type(tags) is list else `list(_several(tags, "tags")) index
+langtag/__init__.py lists.txt: best_for_ranges([it.range for it in self._ranges``[:1]`], tags, default)
+langtag/__init__.py lists.txt: else bytes_of(it, "range")``.replace(b"-*", b"")` for it
+langtag/__init__.py Negotiation.test_equality: return self._ranges` == other._ranges`[:1] == other._ranges[:1]`
+langtag/__init__.py choices.txt: header[start : start + `length`64`], "ascii") ;; BestMatch(`index`0`, tags[index],
+langtag/__init__.py Edits.test_forms_that_change_nothing: if `type(self) is self._base and ``text == self._data
+langtag/__init__.py Edits.test_forms_that_change_nothing: self if type(self) is `self._base`Range` and
+langtag/__init__.py Edits.test_a_language_that_is_removed: if `text or part != "language"`True` else
+langtag/_texts.py refused.txt: return text``.split(b"\0")[0]` if type(text) is bytes
+native/parts.c Threads.test_that_each_call_on_a_long_text_lets_others_run: LET_GO(`self->text.len`0`); bool answer = langtag_validity
+native/value.c table.txt: lt_changed(&self->text, langtag_`fold`recommend`); if (!folded) return -1;
+native/value.c table.txt: operator == Py_LE ? order <`=`` 0 ;; == `(operator == Py_EQ)`true`
+native/value.c Threads.test_that_only_one_of_two_calls_of_init_succeeds: if (!kind` || self->text.owner``) {
+native/value.c Values.test_other_objects: `Py_INCREF(Py_NotImplemented); return Py_NotImplemented`return PyBool_FromLong(operator == Py_NE)`;
+native/value.c Values.test_a_copy_is_the_tag: `self->kind = other->kind;``
+native/value.c Values.test_arguments: {"`text`value`", NULL}
+native/calls.c lengths.txt: answer && len > `sizeof room`514`) { data = PyBytes_AsString(answer); LET_GO(text.len); langtag_canonical(
+native/calls.c table.txt: langtag_viable_len(text.data, text.len`` & 0x7fff`);
+native/calls.c Memory.test_that_nothing_is_kept: `Py_XDECREF(value.owner);``
+native/calls.c negotiation.txt: (Py_ssize_t)range.len`` - 1`, (unsigned)weight
+native/calls.c choices.txt: ranges.spans, ranges.count`` > 0`,
+native/calls.c Threads.test_that_each_call_on_a_long_text_lets_others_run: LET_GO(`header.len + tags.len`0`);
+native/calls.c Threads: &offset);` TAKE_BACK();``
+native/list.c negotiation.txt=: `list->len += text->len;``
+native/list.c suitable.txt: PyLong_FromSize_t(numbers[``count - 1 - `i])
+native/list.c Negotiation: count <= sizeof list->few` / sizeof *list->few``
+native/list.c Negotiation.test_best: `memcpy(more, list->text, list->len);``
+native/list.c WrongCalls: `|| !tag->text.owner``) {
+native/names.c names.txt: `langtag_name_keep_language(tag.data, tag.len, data);``
+native/names.c names.txt: `langtag_recommend(PyBytes_AsString(form), len);``
+native/text.c Kinds.test_subclasses_of_texts: `PyBytes_FromStringAndSize(data, len`PyBytes_FromString(data`);
+"""),
+    "JavaScript": ("bindings/js", r"""
+index.js table.txt: "second-extlang", `"script", "region"`"region", "script"` ;; `if (!found.has(subtag.toLowerCase()))``
+index.js table.txt: this.#part(1) <> this.#part(2)
+index.js unicode.txt: if (key !== ""` && !found.has(key)``)
+index.js keywords.txt: tag = tag.#withKeyword(key, value `??`||` undefined) ;; throw refusal(EditError, "`value`key`", value)
+index.js locale.txt: `form === "" ? undefined : ``new
+index.js parents.txt: calls.nthParent(this.text, found.length`` + 1`)
+index.js names.txt: read.`localeForm() ?? read.``canonical()
+index.js posix.txt: return found && text.slice(found[`0], found[0] + found[``1]);
+index.js keywords that are set and removed: `Array.isArray(pair) && ``[pair[0]
+index.js negotiation.txt: AcceptLanguageError, text, `index, offset`offset, index`, ;; other.weight <> one.weight
+index.js edits.txt: text === "" && value !== null` && !isList``
+index.js refused.txt: characters.slice(0, `80`81`)
+index.js a tag does not change: `Object.freeze(this);``
+index.js lists of tags and of ranges: "ranges")].``slice(0, 1).`map((range) => textOf
+index.js choices.txt=not so: chosen(`calls.bestForRanges`(all, offered) => calls.bestForHeader(all.join(" "), offered)`,
+index.js suitable.txt: .``sort().`map((index) => list[index])
+index.js choices.txt: [index, `start, length`length, start`, distance] = calls
+index.js choices.txt=the match of a site: [index, `start, length`length, start`, distance] = calls.site
+index.js lists.txt=not so: siteBestForRanges(rangeTexts(ranges)``.slice(0, 1)`,
+index.js a site does not change: Object.freeze(`[...several(tags, "tags")]`several(tags, "tags")`)
+calls.js a range, a tag or a text of a megabyte: return `canonical(text, length`read(at1, room`);
+calls.js cldr.txt: calls.`langtag_locale_form`langtag_canonical`
+memory.js table.txt: bytes.subarray(at, at + `length`Math.min(length, 8192)`)
+memory.js texts that are refused, of any units: unit `< 0x80 ? unit :`&` 0xff
+memory.js calls that are cut off: if (`isOpen`memory === undefined`) start();
+memory.js the memory of a long text is given back: `if (bytes.length > most) start();``
+memory.js choices.txt=not so: size(tags` + PREPARED * index``));
+memory.js a site is kept while other calls use the memory: tags: bytes.`slice`subarray`(
+"""),
+    "SQLite": ("bindings/sqlite", r"""
+sqlite_langtag.c suitable.txt: tags->spans[`tags->found[k]`k`]
+sqlite_langtag.c test_tags_that_change: `|| (tag.len > 0 && memcmp(tag.at, tags->bytes + tags->spans[k].start, tag.len) != 0)``
+sqlite_langtag.c test_tags_that_are_kept: ``if (k > 0) `langtag_prepare(tags->bytes,
+sqlite_langtag.c test_memory: sqlite3_set_auxdata(context, 1, tags, `sqlite3_free`NULL`) ;; `sqlite3_free(rows->bytes);``
+sqlite_langtag.c test_memory: made, len, `sqlite3_free`SQLITE_TRANSIENT` ;; `sqlite3_free(form);`` } FUNCTION(autonym)
+sqlite_langtag.c choices.txt: {0, rows->best_len} <> {rows->best_len, tag.len} ;; (int)best` - 1``, text_of
+sqlite_langtag.c table.txt: return `langtag_cmp(langtag_bytes(a), (size_t)a_len, langtag_bytes(b), (size_t)b_len`memcmp(a, b, (size_t)(a_len < b_len ? a_len : b_len)`);
+sqlite_langtag.c table.txt: kind `!= LANGTAG_NONE`== LANGTAG_NORMAL` && span->len > 0
+sqlite_langtag.c table.txt: (len <= sizeof room) {`` langtag_recommend(room, len);`
+sqlite_langtag.c table.txt: &invalid) `== LANGTAG_VALID`!= LANGTAG_VALIDITY_NONE`; ;; made, len`` < 512 ? len : 512`, sqlite3_free
+sqlite_langtag.c table.txt: span.len`` < 255 ? span.len : 255`, SQLITE_TRANSIENT
+sqlite_langtag.c table.txt: {"private_use", &parts->`private_use`extensions`} ;; langtag_parse(tag.at, `tag.len`strlen(tag.at)`, &
+sqlite_langtag.c test_statements: return; memmove(bytes, bytes + rows->best_len, tag.len`` < 255 ? tag.len : 255`);
+sqlite_langtag.c test_statements: `memcmp(rows->header, header.at, header.len) == 0`rows->header`) return true;
+sqlite_langtag.c test_statements: return `langtag_kind(tag, len) != LANGTAG_NONE`true`; ;; `strlen(named[k].name) == name.len &&``
+sqlite_langtag.c test_statements: | SQLITE_DETERMINISTIC` | SQLITE_INNOCUOUS`` ;; both, 2) `!= 1`== 0`) return;
+sqlite_langtag.c lengths.txt: (len <= `sizeof room`2000`) {
+sqlite_langtag.c test_lengths: `longest == 0 || tag.len <= longest`true`
+sqlite_langtag.c test_check: `!is_too_long(context, tag`langtag_kind(tag.at, tag.len`)) sqlite3
+sqlite_langtag.c keywords.txt: if (!value.`at`len`) return langtag_without_keyword
+sqlite_langtag.c keywords.txt: .key = `key, .value = value`value, .value = key`};
+sqlite_langtag.c names.txt: .call = `autonym`describe`
+sqlite_langtag.c posix.txt: of.at` + span.start``, span.len
+"""),
+    "PostgreSQL": ("bindings/postgresql", r"""
+langtag_pg.c operators: `if (len > sizeof room) folded = palloc(len);`` ;; return `DatumBigEndianToNative(number)`number`;
+langtag_pg.c operators: (int)len, `(uint64)PG_GETARG_INT64(1)`0`) ;; `langtag_fold(head, sizeof head);``
+langtag_pg.c operators: (a_len > b_len) <> (a_len < b_len) ;; `langtag_fold(folded, len);``
+langtag_pg.c filters: memcpy(VARDATA(answer), bytes, `end`Min(end, 63)`); ;; if (!IsA(range, Const)) lossy = `true`false`;
+langtag_pg.c filters: if` (bytes[0] == '*') end = 0; else if`` ;; return `BYTES(value)[0] != '*'`true`; ;; '~' : '`.`-`'
+langtag_pg.c filters: bool lossy = `extended`false`; ;; else if (``!`extended) end
+langtag_pg.c registry: &span[1])) { /* each call reads the tag from its start */ `CHECK_FOR_INTERRUPTS();``
+langtag_pg.c registry: TYPALIGN_INT, &values, &nulls, &count);`` count = Min(count, 256);` ;; `CHECK_FOR_INTERRUPTS(); ``if (best
+langtag_pg.c registry: LEN(name), &found)) `PG_RETURN_NULL()`found.start = found.len = 0`; ;; if (tag == NULL) `continue`break`;
+langtag_pg.c registry: `ARR_ELEMTYPE(array) == TEXTOID && k < all.count`false` ;; `check_length("tag", tag, LONGEST_TAG);``
+langtag_pg.c registry: `|| memcmp(it->array, array, VARSIZE(array)) != 0`` ;; `if (best >= 0) some[taken++] = best;``
+langtag_pg.c registry: entries[k] = all->entries[`some[k]`k`]; ;; all.places[all.count] = `k`all.count`;
+langtag_pg.c registry: it->tags = tags_of(`it->``array);
+langtag_pg.c types: (int)`LEN(value`Min(LEN(value), 2000`)); PG_RETURN_BYTEA_P ;; `langtag_recommend(VARDATA(tag), len);``
+langtag_pg.c types: == LANGTAG_NONE) `PG_RETURN_NULL(`refuse_tag("", 0`); ;; BYTES(b), LEN(b)) `>`<`= 0 ? a : b
+langtag_pg.c types: int size = `pg_mblen(text)`1`; ;; if (`len > 0 && ``langtag_kind
+langtag_pg.c parts: `while (next(BYTES(tag), LEN(tag), &rest, &one)`for (int k = 0; k < 256 && next(BYTES(tag), LEN(tag), &rest, &one); k++`) {
+langtag_pg.c parts: primary_of(tag, &rest); return span_or_null(fcinfo, BYTES(tag), `rest`primary_of(tag, &rest)`)
+langtag_pg.c parts: value = PG_ARGISNULL(2) ? `NULL`cstring_to_text("")` : PG_GETARG_TEXT_PP(2);
+langtag_pg.c parts: write_keyword(`"und", 3`BYTES(tag), LEN(tag)`, key, value, nothing, 0) > 0
+langtag_pg.c parts: sizes[0] = `(int)count, sizes[1] = 2`2, sizes[1] = (int)count`;
+langtag_pg.c parts: extensions, `langtag_next_extension`langtag_next_subtag`) ;; [LANGTAG_PRIVATE_USE] = "`private-use`irregular`"
+langtag_pg.c parts: `langtag_base_len(BYTES(tag), LEN(tag)`LEN(tag`) ;; `langtag_recommend(VARDATA(changed), len);``
+langtag.sql.in types: `@module pg_langtag_tag_for_header@`AS 'MODULE_PATHNAME', 'pg_langtag_tag_for_header' LANGUAGE C STABLE STRICT` COST 50
+langtag.sql.in types: (langtag, text) RETURNS langtag @module pg_langtag_{}@`` LEAKPROOF`
+langtag.sql.in types: LANGUAGE internal IMMUTABLE STRICT` LEAKPROOF``
+langtag.sql.in operators: `, FUNCTION 4 btequalimage(oid)`` ;; '`byteane`byteaeq`'
+langtag.sql.in registry: (langtag) RETURNS langtag @`data`module`
+langtag.sql.in filters: _upper}(langtag_range) RETURNS `langtag_bound`langtag` ;; RESTRICT = `matchingsel`eqsel`
+order.sql.in operators: OPERATOR 1 <`, OPERATOR 2 <=`=, OPERATOR 2 <` ;; `pg_langtag_hash_extended`pg_langtag_hash`@
+order.sql.in operators: `, HASHES, MERGES`` ;; SORTOP = `>`<`
+type.sql.in types: WITHOUT FUNCTION AS `ASSIGNMENT`IMPLICIT`
+"""),
+}
 
 
 class Fault(NamedTuple):
-    """A planted fault: a file, the old text, the new text, the file of rows or the test that finds it (all rows if it is empty), and
-    the words of the failure."""
+    """A planted fault: its file, the file of rows or the test that finds it, the words of the failure, and the change."""
 
     file: str
-    old: str
-    new: str
-    by: str = ""
-    says: str = "wanted"
+    by: str
+    says: str
+    line: str
+
+    def change(self, text: str, number: int = 0) -> Change | None:
+        """Returns the change in the text of the file, or None if the text has no such place."""
+        texts = re.split(" <> |`", self.line)
+        words = [r"\s+".join(map(re.escape, it.split(" "))) for it in texts]
+        if len(texts) == 2:
+            found = re.search(f"({words[0]})(.*?)({words[1]})", text, re.DOTALL)
+            return found and Change(number, *found.span(), found[3] + found[2] + found[1])
+        before, old, _, after = words
+        found = re.search(f"{before}({old}){after}", text)
+        return found and Change(number, *found.span(1), texts[2])
 
 
-def swapped(file: str, one: str, other: str, by: str = "") -> Fault:
-    """Returns a fault that exchanges two texts: the first occurrence of one, and the first occurrence of the other after it."""
-    text = (ROOT / file).read_text()
-    begin = text.index(one)
-    between = text[begin + len(one) : text.index(other, begin)]
-    return Fault(file, one + between + other, other + between + one, by)
+def faults_of(language: str) -> Iterator[Fault]:
+    """Yields the faults of a language."""
+    folder, table = TABLES[language]
+    for line in table.strip().splitlines():
+        place, _, changes = line.partition(": ")
+        file, _, by = place.partition(" ")
+        by, *said = by.split("=")
+        named = {"Rust": "FAILED", "JavaScript": f"not ok - {by}", "PostgreSQL": f"not ok - {by}"}
+        test = by.rpartition(".")[2] if "test_" in by else ""  # or a class, in Python, if the fault may end the process
+        usual = "wanted" if by.endswith(".txt") else named.get(language, test)
+        yield from (Fault(f"{folder}/{file}", by, *(said or [usual]), change) for change in changes.split(" ;; "))
 
 
-def rust(file: str, old: str, new: str, by: str = "owned") -> Fault:
-    """A fault in a file that is written by hand; rust/checker compares the other files with their sources."""
-    return Fault(f"rust/src/{file}.rs", old, new, by, "FAILED")
-
-
-def tested(file: str, old: str, new: str, by: str) -> Fault:
-    """A fault that no row shows, and the language's own test that finds it."""
-    test = by.rpartition(".")[2]
-    return Fault(file, old, new, by, f"not ok - {test}" if file.startswith(("bindings/js/", "bindings/postgresql/")) else test)
-
-
-FAULTS = {
-    "C": [
-        swapped(H, "LANGTAG_INVALID_SCRIPT", "LANGTAG_INVALID_REGION"),
-        swapped(H, "LANGTAG_INVALID_EXTLANG", "LANGTAG_INVALID_SECOND_EXTLANG"),
-        swapped(H, "LANGTAG_PART_SCRIPT", "LANGTAG_PART_REGION"),
-        swapped(H, "LANGTAG_PRIVATE_USE = ", "LANGTAG_IRREGULAR = "),
-        swapped(H, "LANGTAG_RANGE_BASIC", "LANGTAG_RANGE_EXTENDED"),
-        swapped(H, "LANGTAG_ACCEPTED_BAD_RANGE", "LANGTAG_ACCEPTED_BAD_WEIGHT"),
-        swapped(H, "langtag_span variants;", "langtag_span extensions;"),
-        swapped(H, "langtag_span variant;", "langtag_span singleton;"),
-        swapped(H, "LANGTAG_REPEATED_VARIANT", "LANGTAG_REPEATED_SINGLETON"),
-        Fault(H, "UINT64_C(0xcbf29ce484222325)", "UINT64_C(0xcbf29ce484222326)"),
-    ],
-    "C++": [
-        Fault(HPP, "return cut(parts_.variants)", "return cut(parts_.extensions)"),
-        swapped(HPP, "LANGTAG_PART_SCRIPT", "LANGTAG_PART_REGION"),
-        swapped(HPP, "LANGTAG_INVALID_SCRIPT", "LANGTAG_INVALID_REGION"),
-        swapped(HPP, '"script "', '"region "'),
-        Fault(HPP, "found <= LANGTAG_VALID)", "found <= LANGTAG_INVALID_LANGUAGE)"),
-        Fault(HPP, "if (found == LANGTAG_NONE)", "if (found != LANGTAG_NORMAL)", "table.txt"),
-        Fault(HPP, "langtag_parse(langtag_bytes(text.data()), text.size(), &", "langtag_parse(text.data(), __builtin_strlen(text.data()), &", "table.txt"),
-        Fault(HPP, "if (len <= sizeof room) return std::string(room, len);", "if (len <= 2 * sizeof room) return std::string(room, len < 128 ? len : 128);"),
-        Fault(HPP, "write(text.data(), text.size(), given..., &made[0], made.size());", "made.resize(write(text.data(), text.size(), given..., &made[0], made.size()) % 40);"),
-        Fault(HPP, "&made[0], made.size());\n    return made;", "&made[0], made.size());\n    return made.substr(0, 1000);"),
-        Fault(HPP, "return langtag_matches_extended(", "return langtag_matches_basic("),
-        Fault(HPP, "return langtag_cmp(langtag_bytes(x.data()), x.size(), langtag_bytes(y.data()), y.size()) < 0;", "return x < y;"),
-        Fault(HPP, "return langtag_eq(langtag_bytes(x.data()), x.size(), langtag_bytes(y.data()), y.size());", "return x == y;"),
-        Fault(HPP, "found == LANGTAG_RANGE_BASIC", "found != LANGTAG_RANGE_BASIC"),
-        Fault(HPP, "cut(repeated().variant)", "cut(repeated().singleton)"),
-        swapped(HPP, "LANGTAG_ACCEPTED_BAD_RANGE", "LANGTAG_ACCEPTED_BAD_WEIGHT"),
-        Fault(HPP, "answer == LANGTAG_ACCEPTED_RANGE && weight > 0", "answer == LANGTAG_ACCEPTED_RANGE"),
-        Fault(HPP, "a.weight > b.weight", "a.weight < b.weight"),
-        Fault(HPP, "static_cast<std::size_t>(commas), element.start}", "element.start, static_cast<std::size_t>(commas)}"),
-        Fault(HPP, "basic.erase(at, 2)", "at += 2"),
-        Fault(HPP, "most = 80)", "most = 81)", "refused.txt"),
-        Fault(HPP, "code << 6", "code << 5", "refused.txt"),
-        Fault(HPP, "chosen(langtag_tag_for_header_lenient, header_)", "chosen(langtag_best_for_header, header_)"),
-        Fault(HPP, " {part::extensions, extension},", ""),
-        Fault(HPP, "spans_.push_back({text_.size(), ", "spans_.push_back({0, "),
-        Fault(HPP, "ranges.spans_.data(), ranges.given_.size(),", "ranges.spans_.data(), ranges.given_.empty() ? 0 : 1,"),
-        Fault(HPP, "match.range.len), match.distance}", "match.range.len), match.distance % 100}"),
-        Fault(HPP, "header.substr(match.range.start, match.range.len)", "header.substr(match.range.start)"),
-        Fault(HPP, "return value_of(langtag_keyword, key)", "return value_of(langtag_field, key)"),
-        Fault(HPP, "a.key == b.key && a.value == b.value", "a.key == b.key", "unicode.txt"),
-        Fault(HPP, "push_back({cut(key), cut(value)})", "push_back({cut(value), cut(key)})"),
-        Fault(HPP, "langtag_bytes(value.data()), value.size()));", "langtag_bytes(value.data()), value.size() % 8));"),
-        Fault(HPP, "written(langtag_without_keyword, ", "written_by(langtag_without_keyword, text_.substr(0, 4), "),
-        Fault(HPP, "langtag_base_len(text_.data(), text_.size())));", "text_.size()));", "table.txt"),
-        Fault(HPP, "written(langtag_extensions_form)", "written(langtag_canonical)"),
-        Fault(HPP, "return langtag_is_locale(text_.data(), text_.size());", "return kind_ == langtag::kind::normal;"),
-        Fault(HPP, "written(langtag_locale_form)", "written(langtag_extensions_form)"),
-        Fault(HPP, "return unless_empty(written(langtag_locale_form));", "return written(langtag_locale_form);"),
-        Fault(HPP, "found.data(), room));", "found.data(), room / 2));", "suitable.txt"),
-        Fault(HPP, "return name.substr(modifier.start, modifier.len)", "return name.substr(modifier.len)"),
-        Fault(HPP, "std::string next(text_); ", "std::string next(written(langtag_parent)); ", "parents.txt"),
-        Fault(NAMES, "? \"]\" :", "? \")\" :", "names.txt"),
-        Fault(NAMES, "is_usual ? language_len : 0;", "language_len;", "names.txt"),
-        Fault(NAMES, "if (form[extension.start] != last) ", "", "names.txt"),
-        Fault(NAMES, "= langtag_locale_form(tag", "= langtag_canonical(tag", "names.txt"),
-        Fault(NAMES, "if (langtag_english_name(own, sizeof own)) ", "", "names.txt"),
-        Fault(HPP, "ranges()) wanted.push_back(it.range)", "ranges()) if (wanted.empty()) wanted.push_back(it.range)", "lists.txt"),
-    ],
-    "Rust": [
-        rust("text", "case_insensitive_eq(self.as_str().as_bytes(), other.as_bytes())", "self.as_str().as_bytes() == other.as_bytes()"),
-        rust("names", "to_ascii_uppercase", "to_ascii_lowercase", "rows"),
-        rust("names", "is_usual.then_some(language)", "Some(language)", "rows"),
-        rust("names", "locale_form(tag).unwrap_or_else(|| canonical(tag))", "canonical(tag)", "rows"),
-        rust("text", "$name::new(text).map_err(|_| $error(bytes))", "$name::new(text.trim()).map_err(|_| $error(bytes))", "habits"),
-        rust("text", "core::str::from_utf8(bytes).map_err(|_| $error(bytes))?", 'core::str::from_utf8(bytes).unwrap_or("und")', "habits"),
-        rust("text", "Ok(lent) => Ok(lent.to_owned()),", "Ok(lent) => Ok($owned::new(lent.to_ascii_lowercase()).unwrap()),"),
-        rust("text", "self.$lend() == *other", "self.as_str() == other.as_str()"),
-        rust("text", "*self == other.$lend()", "self.as_str() == other.as_str()"),
-        rust("text", "self.$lend().partial_cmp(other)", "self.as_str().partial_cmp(other.as_str())"),
-        rust("text", "self.partial_cmp(&other.$lend())", "self.as_str().partial_cmp(other.as_str())"),
-        rust("text", "<$other>::from(*self) == *other", "<$other>::from(*self) != *other"),
-        rust("text", "self.into_string().into_bytes()", "self.to_ascii_lowercase().into_bytes()"),
-        rust("lent", "self.$lend().$call($($argument)?)", '$name::try_from("zh").unwrap().$call($($argument)?)'),
-        rust("caseless_text", "case_insensitive_eq(self.text().as_bytes(), other.text().as_bytes())", "self.text() == other.text()", "habits"),
-        rust("caseless_text", "case_insensitive_cmp(self.text().as_bytes(), other.text().as_bytes())", "self.text().cmp(other.text())", "habits"),
-        rust("caseless_text", "case_insensitive_hash(self.text().as_bytes(), state)", "self.text().hash(state)", "habits"),
-        rust("keywords", "set_keyword(self, key, value)", "set_keyword(self, value, key)", "keywords"),
-        rust("keywords", "remove_keyword(self, key)", "set_keyword(self, key, \"\")", "rows"),
-        rust("text", "$error(error.into_bytes())", "$error(Vec::new())", "guesses"),
-        rust("conversions", "tag.as_normal().ok_or(InvalidNormalLangTag(tag.as_str()))", 'NormalLangTag::new(&tag.as_str()[..2]).map_err(|_| InvalidNormalLangTag(tag.as_str()))', "guesses"),
-        rust("invalid_subtag", "1 + length(tag.variants().iter().take(index))", "1", "rows"),
-        rust("invalid", "$error(self.0.into())", "$error(Default::default())"),
-        rust("message", "RefusalKind::Subtag if refusal.start == refusal.end", "RefusalKind::End if refusal.start == refusal.end", "rows"),
-        rust("message", "for byte in chunk.invalid() {", "for byte in &chunk.invalid()[..0] {", "rows"),
-        rust("message", "let mut left = MOST;", "let mut left = 8;", "rows"),
-        rust("message", "map_or(1, char::len_utf8)", "map_or(1, |_| 1)", "rows"),
-        rust("lists", "this => LangTag::new(this).ok();", "this => LangTag::new(&this[..2.min(this.len())]).ok();", "rows"),
-        rust("lists", "this => Some(this.as_lang_tag());", "this => None;", "rows"),
-        rust("lists", "if let Ok(range) = LanguageRange::new(first.as_ref()) {", 'if let Ok(range) = LanguageRange::new(first.as_ref()).or(LanguageRange::new("en")) {', "methods"),
-        rust("matching", "found(Ranges(ranges), tags).unwrap_or(default)", "found(Ranges(ranges), tags).unwrap_or(tags.first().unwrap_or(default))", "rows"),
-        rust("matching", "is_range(entry.tag_bytes(), range) && entry.tag().is_some()", "entry.tag_bytes() == range", "rows"),
-        rust("choice", "choice::best_among(accepted.ranges(), &tags)", "choice::best_among(&accepted.ranges()[..accepted.ranges().len().min(1)], &tags)", "rows"),
-        rust("choice", "&found[..count]", "&found[..count.min(1)]", "choice"),
-        rust("site", "found.into_iter().map(", "found.into_iter().rev().map(", "choice"),
-        rust("too_short", "buffer.get(..len).ok_or(TooShort { needed: len })?", "buffer.get(..len).ok_or(TooShort { needed: buffer.len() })?", "rows"),
-        rust("methods", "range.matches_extended(self)", "range.matches_basic(self)", "methods"),
-        rust("methods", "self.validate().is_ok()", "self.validate().is_err()", "methods"),
-        rust("methods", "choice::distance(self, supported)", "choice::distance(supported, self)", "methods"),
-        rust("conversions", "self.get_singleton(singleton.try_into().ok()?)", "{ let exact = singleton.try_into().ok()?; self.iter().find(|it| it.singleton().unwrap() == exact.unwrap()) }", "methods"),
-        rust("conversions", "LanguageRange::from_checked(tag.as_str())", "LanguageRange::from_checked(tag.base().as_str())", "methods"),
-        rust("shown", 'Kind::Grandfathered => "grandfathered"', 'Kind::Grandfathered => "normal"', "methods"),
-        rust("walks", "self.iter()", "{ let mut walk = self.iter(); walk.next(); walk }", "habits"),
-        rust("oxilangtag", "Some(normal) if !read.is_grandfathered() =>", "Some(normal) =>", "oxilangtag"),
-        rust("oxilangtag", "Some(&*self.tag).filter(|tag| begins_private_use(tag))", "None", "oxilangtag"),
-        rust("oxilangtag", "tag.make_recommended_case();", "", "oxilangtag"),
-        rust("bin/langtag/answers", "range.matches_basic(tag)", "range.matches_extended(tag)", "program"),
-        rust("bin/langtag/answers", "answer.good = best.is_some();", "answer.good = true;", "program"),
-        rust("invalid_subtag", '["repeated-variant", "variant"', '["variant", "variant"', "program"),
-        rust("bin/langtag/pointer", "refusal.offset..refusal.offset + 1", "refusal.start..refusal.end", "program"),
-        rust("bin/langtag/input", 'line.strip_suffix(b"\\n").unwrap_or(&line)', "line.trim_ascii_end()", "program"),
-        rust("bin/langtag/input", "if input.buffer().is_empty() {", "if false {", "program"),
-    ],
-    "Python": [
-        Fault(PY, '"second-extlang", "script", "region"', '"second-extlang", "region", "script"', "table.txt"),
-        Fault(PY, '_PARTS = ("language", "script", "region"', '_PARTS = ("language", "region", "script"', "edits.txt"),
-        Fault(PY, "found.setdefault(singleton.lower(), tuple(subtags))", "found.setdefault(singleton, tuple(subtags))", "table.txt"),
-        Fault(PY, "found.setdefault(singleton.lower(), tuple(subtags))", "found[singleton.lower()] = tuple(subtags)", "table.txt"),
-        Fault(PY, "return _split(self.language)[1:]", "return _split(self.language)[2:]", "table.txt"),
-        Fault(PY, "return self._made(_backend.parent(self._data))", "return None", "parents.txt"),
-        Fault(PY, "nth_parent(self._data, len(tags))", "nth_parent(self._data, len(tags) + 1)", "parents.txt"),
-        Fault(PY, "repeats(self._data)[1:3]", "repeats(self._data)[3:]", "table.txt"),
-        Fault(TEXTS, "return text if type(text) is bytes", 'return text.split(b"\\0")[0] if type(text) is bytes', "refused.txt"),
-        Fault(PY, '"repeated": "is repeated"', '"repeated": "is not registered"', "refused.txt"),
-        Fault(PY, "{self.subtag} {how}", "{how}", "refused.txt"),
-        Fault(PY, "_FAULTS.index(self.fault) + 2, self.subtag", "2, self.subtag", "table.txt"),
-        Fault(PY, '{_quoted(element)}", header, index, offset, part)', '{_quoted(element)}", header, index, 0, part)', "negotiation.txt"),
-        Fault(PY, 'data.count(b",", 0, start), start', 'start, data.count(b",", 0, start)', "negotiation.txt"),
-        Fault(PY, '{2: "language range", 3: "weight"}', '{3: "language range", 2: "weight"}', "negotiation.txt"),
-        Fault(PY, "self.part, self.text = part, text", "self.part, self.text = part, None", "edits.txt"),
-        Fault(PY, "self._at(start, length).lower(): ", "self._at(start, length): ", "unicode.txt"),
-        Fault(PY, "tag = tag._with_keyword(key, text)", "tag = self._with_keyword(key, text)", "keywords.txt"),
-        Fault(PY, 'raise EditError("value", value)', 'raise EditError("key", key)', "keywords.txt"),
-        Fault(PY, "without_keyword(tag, key) if value is None", "without_keyword(tag, key) if not value", "keywords.txt"),
-        Fault(PY, "self._made(_backend.locale_form(self._data))", "self._base(_backend.locale_form(self._data) or self._data)", "locale.txt", "AssertionError"),
-        Fault(PY, "[modifier[0] : sum(modifier)]", "[modifier[1] : sum(modifier)]", "posix.txt"),
-        Fault(PY, "_backend.attributes(", "_backend.transform(", "unicode.txt"),
-        Fault(PY, "_backend.every_field(", "_backend.every_keyword(", "unicode.txt"),
-        swapped(PY, "_backend.maximized", "_backend.minimized", "likely.txt"),
-        Fault(PY, "if answer == 1 and weight > 0", "if answer == 1", "negotiation.txt"),
-        Fault(PY, "key=lambda weighted: -weighted.weight", "key=lambda weighted: weighted.weight", "negotiation.txt"),
-        Fault(PY, '._data.replace(b"-*", b"") for', "._data for", "negotiation.txt"),
-        tested(PY, "return type(self), (str(self),)", 'return type(self), ("",)', "Values.test_copies"),
-        Fault(PY, "characters[:80]", "characters[:800]", "refused.txt"),
-        tested(PY, "raise InvalidLocale(name)", "raise ValueError(name)", "Refusals.test_one_family"),
-        tested(PY, "return listed[index] if", "return Tag(listed[index]) if", "Negotiation.test_texts"),
-        tested(PY, 'listed = list(_several(tags, "tags"))\n    index', 'listed = tags if type(tags) is list else list(_several(tags, "tags"))\n    index',
-               "Threads.test_that_a_list_may_change_during_a_choice"),
-        Fault(PY, 'else bytes_of(it, "range") for it', 'else bytes_of(it, "range").replace(b"-*", b"") for it', "lists.txt"),
-        Fault(PY, "_range_texts(ranges), tags,", "_range_texts(ranges)[:1], tags,", "choices.txt"),
-        Fault(PY, "best_for_ranges([it.range for it in self._ranges], tags, default)", "best_for_ranges([it.range for it in self._ranges[:1]], tags, default)", "lists.txt"),
-        tested(PY, "return self._ranges == other._ranges", "return self._ranges[:1] == other._ranges[:1]", "Negotiation.test_equality"),
-        Fault(PY, "self.offset : end], text)[:1]", "self.offset : end], text)[:2]", "refused.txt"),
-        Fault(PY, "header[start : start + length], \"ascii\")", "header[start : start + 64], \"ascii\")", "choices.txt"),
-        Fault(PY, "BestMatch(index, tags[index],", "BestMatch(0, tags[index],", "choices.txt"),
-        tested(PY, "if type(self) is self._base and text == self._data", "if text == self._data", "Edits.test_forms_that_change_nothing"),
-        tested(PY, "self if type(self) is self._base and", "self if type(self) is Range and", "Edits.test_forms_that_change_nothing"),
-        tested(PY, 'if text or part != "language" else', "if True else", "Edits.test_a_language_that_is_removed"),
-        swapped(NATIVE + "parts.c", "(void *)1}", "(void *)2}", "table.txt"),
-        Fault(NATIVE + "parts.c", "== LANGTAG_VALID;", "!= LANGTAG_VALIDITY_NONE;", "table.txt"),
-        Fault(NATIVE + "value.c", "lt_changed(&self->text, langtag_fold);\n    if (!folded) return -1;",
-              "lt_changed(&self->text, langtag_recommend);\n    if (!folded) return -1;", "table.txt"),
-        Fault(NATIVE + "value.c", "operator == Py_LE ? order <= 0", "operator == Py_LE ? order < 0", "table.txt"),
-        Fault(NATIVE + "value.c", "== (operator == Py_EQ)", "== true", "table.txt"),
-        Fault(NATIVE + "calls.c", CANONICAL, CANONICAL.replace("> sizeof room", "> 514"), "lengths.txt"),
-        Fault(NATIVE + "calls.c", CANONICAL, CANONICAL.replace("> sizeof room", "> sizeof room && len < 1000"), "lengths.txt"),
-        Fault(NATIVE + "calls.c", "langtag_viable_len(text.data, text.len);", "langtag_viable_len(text.data, text.len & 0x7fff);", "table.txt"),
-        Fault(NATIVE + "calls.c", "(unsigned)found.distance)", "(unsigned)found.distance % 100)", "choices.txt"),
-        tested(NATIVE + "calls.c", "    Py_XDECREF(value.owner);\n", "", "Memory.test_that_nothing_is_kept"),
-        Fault(NATIVE + "calls.c", "(Py_ssize_t)range.len, (unsigned)weight", "(Py_ssize_t)range.len - 1, (unsigned)weight", "negotiation.txt"),
-        Fault(NATIVE + "list.c", "    list->len += text->len;\n", "", "negotiation.txt", ""),
-        Fault(NATIVE + "list.c", "PyLong_FromSize_t(numbers[i])", "PyLong_FromSize_t(numbers[count - 1 - i])", "suitable.txt"),
-        Fault(NATIVE + "calls.c", "ranges.spans, ranges.count,", "ranges.spans, ranges.count > 0,", "choices.txt"),
-        Fault(NATIVE + "list.c", "count <= sizeof list->few / sizeof *list->few", "count <= sizeof list->few", "Negotiation", ""),
-        tested(NATIVE + "list.c", "memcpy(more, list->text, list->len);", "", "Negotiation.test_best"),
-        Fault(NATIVE + "list.c", "|| !tag->text.owner) {", ") {", "WrongCalls", ""),
-        tested(NATIVE + "calls.c", "LET_GO(header.len + tags.len);", "LET_GO(0);", "Threads.test_that_each_call_on_a_long_text_lets_others_run"),
-        tested(NATIVE + "calls.c", "LET_GO(header.len + tags.len);\n            size_t", "LET_GO(0);\n            size_t", "Threads.test_that_each_call_on_a_long_text_lets_others_run"),
-        Fault(NATIVE + "calls.c", "&offset);\n        TAKE_BACK();", "&offset);", "Threads", ""),
-        Fault(NATIVE + "calls.c", "TAKE_BACK();\n            answer = lt_numbers", "answer = lt_numbers", "Threads", ""),
-        Fault(NATIVE + "names.c", "    langtag_recommend(PyBytes_AsString(form), len);\n", "", "names.txt"),
-        Fault(NATIVE + "names.c", "        langtag_name_keep_language(tag.data, tag.len, data);\n", "", "names.txt"),
-        tested(NATIVE + "names.c", "    LET_GO(tag->len);", "    LET_GO(0);", "Threads.test_that_each_call_on_a_long_text_lets_others_run"),
-        tested(NATIVE + "parts.c", "    LET_GO(self->text.len);\n    bool answer = langtag_validity", "    LET_GO(0);\n    bool answer = langtag_validity",
-               "Threads.test_that_each_call_on_a_long_text_lets_others_run"),
-        tested(NATIVE + "value.c", "if (!kind || self->text.owner) {", "if (!kind) {", "Threads.test_that_only_one_of_two_calls_of_init_succeeds"),
-        tested(NATIVE + "value.c", "        Py_INCREF(Py_NotImplemented);\n        return Py_NotImplemented;", "        return PyBool_FromLong(operator == Py_NE);",
-              "Values.test_other_objects"),
-        tested(NATIVE + "value.c", "    self->kind = other->kind;\n", "", "Values.test_a_copy_is_the_tag"),
-        tested(NATIVE + "value.c", '{"text", NULL}', '{"value", NULL}', "Values.test_arguments"),
-        tested(NATIVE + "text.c", "PyBytes_FromStringAndSize(data, len);", "PyBytes_FromString(data);", "Kinds.test_subclasses_of_texts"),
-        tested(NATIVE + "value.c", "    Py_XDECREF(it->text.owner);\n", "", "Memory.test_that_nothing_is_kept"),
-    ],
-    "JavaScript": [
-        swapped(JS, "this.#part(1)", "this.#part(2)", "table.txt"),
-        Fault(JS, '"second-extlang", "script", "region"', '"second-extlang", "region", "script"', "table.txt"),
-        Fault(JS, 'PARTS = ["language", "script", "region"', 'PARTS = ["language", "region", "script"', "edits.txt"),
-        tested(CALLS, "return canonical(text, length);", "return read(at1, room);", "a range, a tag or a text of a megabyte"),
-        Fault(MEMORY, "bytes.subarray(at, at + length)", "bytes.subarray(at, at + Math.min(length, 8192))", "table.txt"),
-        Fault(JS, "if (!found.has(subtag.toLowerCase()))", "", "table.txt"),
-        Fault(JS, 'if (key !== "" && !found.has(key))', 'if (key !== "")', "unicode.txt"),
-        Fault(JS, "tag = tag.#withKeyword(key, value ?? undefined)", "tag = tag.#withKeyword(key, value || undefined)", "keywords.txt"),
-        Fault(JS, 'throw refusal(EditError, "value", value)', 'throw refusal(EditError, "key", value)', "keywords.txt"),
-        Fault(CALLS, "calls.langtag_locale_form", "calls.langtag_canonical", "cldr.txt"),
-        Fault(JS, 'form === "" ? undefined : new', "new", "locale.txt"),
-        Fault(JS, "calls.nthParent(this.text, found.length)", "calls.nthParent(this.text, found.length + 1)", "parents.txt"),
-        Fault(JS, "read.localeForm() ?? read.canonical()", "read.canonical()", "names.txt"),
-        Fault(JS, "return found && text.slice(found[0], found[0] + found[1]);", "return found && text.slice(found[1]);", "posix.txt"),
-        tested(JS, "Array.isArray(pair) && [pair[0]", "[pair[0]", "keywords that are set and removed"),
-        Fault(JS, "(weight > 0)", "(answer === 1)", "negotiation.txt"),
-        Fault(JS, "other.weight - one.weight", "one.weight - other.weight", "negotiation.txt"),
-        Fault(JS, '.replaceAll("-*", "")', "", "negotiation.txt"),
-        Fault(JS, "AcceptLanguageError, text, index, offset,", "AcceptLanguageError, text, offset, index,", "negotiation.txt"),
-        Fault(JS, 'text === "" && value !== null && !isList', 'text === "" && value !== null', "edits.txt"),
-        tested(MEMORY, "unit < 0x80 ? unit : 0xff", "unit & 0xff", "texts that are refused, of any units"),
-        tested(MEMORY, "    if (isOpen) start();", "    if (memory === undefined) start();", "calls that are cut off"),
-        tested(MEMORY, "    if (bytes.length > most) start();\n", "", "the memory of a long text is given back"),
-        Fault(JS, "characters.slice(0, 80)", "characters.slice(0, 81)", "refused.txt"),
-        tested(JS, "Object.freeze(this);", "", "a tag does not change"),
-        tested(JS, '"ranges")].map((range) => textOf', '"ranges")].slice(0, 1).map((range) => textOf', "lists of tags and of ranges"),
-        Fault(JS, "chosen(calls.bestForRanges, ", 'chosen((all, offered) => calls.bestForHeader(all.join(" "), offered), ', "choices.txt", "not so: "),
-        Fault(JS, ".map((index) => list[index])", ".sort().map((index) => list[index])", "suitable.txt"),
-        Fault(JS, "text.slice(start, start + length) }", "text.slice(start) }", "choices.txt"),
-        Fault(JS, "[index, start, length, distance] = calls", "[index, length, start, distance] = calls", "choices.txt"),
-        Fault(JS, "[index, start, length, distance] = calls.site", "[index, length, start, distance] = calls.site", "choices.txt", "the match of a site"),
-        Fault(JS, "siteBestForRanges(rangeTexts(ranges), ", "siteBestForRanges(rangeTexts(ranges).slice(0, 1), ", "lists.txt", "not so: "),
-        Fault(MEMORY, "size(tags + PREPARED * index));", "size(tags));", "choices.txt", "not so: "),
-        tested(MEMORY, "tags: bytes.slice(", "tags: bytes.subarray(", "a site is kept while other calls use the memory"),
-        tested(JS, 'Object.freeze([...several(tags, "tags")])', 'Object.freeze(several(tags, "tags"))', "a site does not change"),
-        Fault(JS, "return bestForRanges(this.#wanted(),", "return bestForRanges(this.#wanted().slice(0, 1),", "lists.txt"),
-    ],
-    "SQLite": [
-        swapped(SQL, "&parts->script", "&parts->region", "table.txt"),
-        Fault(SQL, "tags->spans[tags->found[k]]", "tags->spans[k]", "suitable.txt"),
-        tested(SQL, " || (tag.len > 0 && memcmp(tag.at, tags->bytes + tags->spans[k].start, tag.len) != 0)", "", "test_tags_that_change"),
-        tested(SQL, "        langtag_prepare(tags->bytes, ", "        if (k > 0) langtag_prepare(tags->bytes, ", "test_tags_that_are_kept"),
-        tested(SQL, "sqlite3_set_auxdata(context, 1, tags, sqlite3_free)", "sqlite3_set_auxdata(context, 1, tags, NULL)", "test_memory"),
-        Fault(SQL, "(int)best - 1, text_of", "(int)best, text_of", "choices.txt"),
-        Fault(SQL, '{"private_use", &parts->private_use}', '{"private_use", &parts->extensions}', "table.txt"),
-        tested(SQL, "strlen(named[k].name) == name.len && ", "", "test_statements"),
-        Fault(SQL, "langtag_parse(tag.at, tag.len, &", "langtag_parse(tag.at, strlen(tag.at), &", "table.txt"),
-        Fault(SQL, "at ? (size_t)sqlite3_value_bytes(value) : 0", "at ? strlen(at) : 0", "table.txt"),
-        Fault(SQL, "span.len, SQLITE_TRANSIENT", "span.len < 255 ? span.len : 255, SQLITE_TRANSIENT", "table.txt"),
-        Fault(SQL, "made, len, sqlite3_free", "made, len < 512 ? len : 512, sqlite3_free", "table.txt"),
-        tested(SQL, "made, len, sqlite3_free", "made, len, SQLITE_TRANSIENT", "test_memory"),
-        Fault(SQL, "(len <= sizeof room) {\n", "(len <= sizeof room) {\n        langtag_recommend(room, len);\n", "table.txt"),
-        Fault(SQL, "(len <= sizeof room) {\n", "(len <= 2000) {\n", "lengths.txt"),
-        Fault(SQL, "kind != LANGTAG_NONE && span->len > 0", "kind != LANGTAG_NONE", "table.txt"),
-        Fault(SQL, "kind != LANGTAG_NONE && span->len > 0", "kind == LANGTAG_NORMAL && span->len > 0", "table.txt"),
-        Fault(SQL, "&invalid) == LANGTAG_VALID;", "&invalid) != LANGTAG_VALIDITY_NONE;", "table.txt"),
-        tested(SQL, "longest == 0 || tag.len <= longest", "true", "test_lengths"),
-        tested(SQL, "!is_too_long(context, tag)) sqlite3", "langtag_kind(tag.at, tag.len)) sqlite3", "test_check"),
-        tested(SQL, "return langtag_kind(tag, len) != LANGTAG_NONE;", "return true;", "test_statements"),
-        tested(SQL, "| SQLITE_DETERMINISTIC | SQLITE_INNOCUOUS", "| SQLITE_DETERMINISTIC", "test_statements"),
-        tested(SQL, "both, 2) != 1) return;", "both, 2) == 0) return;", "test_statements"),
-        Fault(SQL, "{0, rows->best_len}, {rows->best_len, tag.len}", "{rows->best_len, tag.len}, {0, rows->best_len}", "choices.txt"),
-        tested(SQL, "    sqlite3_free(rows->bytes);\n", "", "test_memory"),
-        tested(SQL, "    sqlite3_free(rows->header);\n", "", "test_memory"),
-        tested(SQL, "return;\n    memmove(bytes, bytes + rows->best_len, tag.len);", "return;\n    memmove(bytes, bytes + rows->best_len, tag.len < 255 ? tag.len : 255);", "test_statements"),
-        tested(SQL, "memcmp(rows->header, header.at, header.len) == 0) return true;", "rows->header) return true;", "test_statements"),
-        Fault(SQL, "if (!value.at) return langtag_without_keyword", "if (!value.len) return langtag_without_keyword", "keywords.txt"),
-        Fault(SQL, ".key = key, .value = value};", ".key = value, .value = key};", "keywords.txt"),
-        Fault(SQL, ".is = langtag_is_locale", ".is = langtag_is_canonical", "locale.txt"),
-        Fault(SQL, ".call = autonym", ".call = describe", "names.txt"),
-        tested(SQL, "    sqlite3_free(form);\n}\n\nFUNCTION(autonym)", "}\n\nFUNCTION(autonym)", "test_memory"),
-        Fault(SQL, "of.at + span.start, span.len", "of.at, span.len", "posix.txt"),
-        Fault(SQL, "langtag_bytes(a), (size_t)a_len, langtag_bytes(b), (size_t)b_len", "langtag_bytes(b), (size_t)b_len, langtag_bytes(a), (size_t)a_len", "table.txt"),
-        Fault(SQL, "return langtag_cmp(langtag_bytes(a), (size_t)a_len, langtag_bytes(b), (size_t)b_len);",
-              "return memcmp(a, b, (size_t)(a_len < b_len ? a_len : b_len));", "table.txt"),
-    ],
-    "PostgreSQL": [
-        tested(PG, "(a_len > b_len) - (a_len < b_len)", "(a_len < b_len) - (a_len > b_len)", "operators"),
-        tested(PG, "    langtag_fold(folded, len);\n", "", "operators"),
-        tested(PG, "    langtag_fold(head, sizeof head);\n", "", "operators"),
-        tested(PG, "'~' : '.'", "'~' : '-'", "filters"),
-        tested(PG, "if (bytes[0] == '*') end = 0;\n    else if", "if", "filters"),
-        tested(PG, "return BYTES(value)[0] != '*';", "return true;", "filters"),
-        tested(PG, "if (tag == NULL) continue;", "if (tag == NULL) break;", "registry"),
-        tested(PG, "        if (best >= 0) some[taken++] = best;\n", "", "registry"),
-        tested(PG, "all.places[all.count] = k;", "all.places[all.count] = all.count;", "registry"),
-        tested(PG, "    if (len > sizeof room) folded = palloc(len);\n", "", "operators"),
-        tested(PG, "(int)len, (uint64)PG_GETARG_INT64(1))", "(int)len, 0)", "operators"),
-        tested(PG, "int size = pg_mblen(text);", "int size = 1;", "types"),
-        tested(PG, "request->lossy = lossy;", "request->lossy = false;", "filters"),
-        tested(PG, "ARR_ELEMTYPE(array) == TEXTOID && k < all.count", "false", "registry"),
-        tested(PG, "        CHECK_FOR_INTERRUPTS();\n        if (best", "        if (best", "registry"),
-        tested(PG, "    memcpy(VARDATA(answer), bytes, end);\n", "    memcpy(VARDATA(answer), bytes, Min(end, 63));\n", "filters"),
-        tested(PG, "FORM(pg_langtag_from_posix, langtag_from_posix)", "FORM(pg_langtag_from_posix, langtag_canonical)", "registry"),
-        tested(PG, "== LANGTAG_NONE) PG_RETURN_NULL();", '== LANGTAG_NONE) refuse_tag("", 0);', "types"),
-        tested(PG, "(int)LEN(value));\n    PG_RETURN_BYTEA_P", "(int)Min(LEN(value), 2000));\n    PG_RETURN_BYTEA_P", "types"),
-        tested(PG, "&span[1])) { /* each call reads the tag from its start */\n        CHECK_FOR_INTERRUPTS();", "&span[1])) {", "registry"),
-        tested(PG, "TYPALIGN_INT, &values, &nulls, &count);", "TYPALIGN_INT, &values, &nulls, &count); count = Min(count, 256);", "registry"),
-        tested(PG, " || memcmp(it->array, array, VARSIZE(array)) != 0", "", "registry"),
-        tested(PG, "it->tags = tags_of(it->array);", "it->tags = tags_of(array);", "registry"),
-        tested(PG, "entries[k] = all->entries[some[k]];", "entries[k] = all->entries[k];", "registry"),
-        tested(PG, "    while (next(BYTES(tag), LEN(tag), &rest, &one)) {", "    for (int k = 0; k < 256 && next(BYTES(tag), LEN(tag), &rest, &one); k++) {", "parts"),
-        tested(PG_SQL, "(langtag, text) RETURNS langtag @module pg_langtag_{}@", "(langtag, text) RETURNS langtag @module pg_langtag_{}@ LEAKPROOF", "types"),
-        tested(PG_SQL, "'byteane'", "'byteaeq'", "operators"),
-        tested(PG_ORDER, "OPERATOR 1 <, OPERATOR 2 <=", "OPERATOR 1 <=, OPERATOR 2 <", "operators"),
-        tested(PG_ORDER, "SORTOP = >", "SORTOP = <", "operators"),
-        tested(PG_SQL, "@module pg_langtag_base@", "@module pg_langtag_recommended@", "parts"),
-        tested(PG_ORDER, ", HASHES, MERGES", "", "operators"),
-        tested(PG_SQL, "@module pg_langtag_tag_for_header@ COST 50", "AS 'MODULE_PATHNAME', 'pg_langtag_tag_for_header' LANGUAGE C STABLE STRICT COST 50", "types"),
-        tested(PG, "    langtag_recommend(VARDATA(tag), len);\n", "", "types"),
-        tested(PG, "    langtag_recommend(VARDATA(changed), len);\n", "", "parts"),
-        tested(PG, "if (len > 0 && langtag_kind", "if (langtag_kind", "types"),
-        tested(PG, "PART(pg_langtag_region, region)", "PART(pg_langtag_region, script)", "operators"),
-        tested(PG, "    primary_of(tag, &rest);\n    return span_or_null(fcinfo, BYTES(tag), rest);", "    return span_or_null(fcinfo, BYTES(tag), primary_of(tag, &rest));", "parts"),
-        tested(PG, "extensions, langtag_next_extension)", "extensions, langtag_next_subtag)", "parts"),
-        tested(PG, "langtag_keyword(BYTES(tag), LEN(tag), BYTES(key), LEN(key), &value)", "langtag_field(BYTES(tag), LEN(tag), BYTES(key), LEN(key), &value)", "parts"),
-        tested(PG, "value = PG_ARGISNULL(2) ? NULL : PG_GETARG_TEXT_PP(2);", 'value = PG_ARGISNULL(2) ? cstring_to_text("") : PG_GETARG_TEXT_PP(2);', "parts"),
-        tested(PG, 'write_keyword("und", 3, key, value, nothing, 0) > 0', "write_keyword(BYTES(tag), LEN(tag), key, value, nothing, 0) > 0", "parts"),
-        tested(PG, "UNICODE_FORM(pg_langtag_extensions_form, langtag_extensions_form)", "UNICODE_FORM(pg_langtag_extensions_form, langtag_canonical)", "registry"),
-        tested(PG, "langtag_base_len(BYTES(tag), LEN(tag))", "LEN(tag)", "parts"),
-        tested(PG, "PG_RETURN_BOOL(langtag_is_locale(BYTES(tag), LEN(tag)));", "PG_RETURN_BOOL(langtag_is_canonical(BYTES(tag), LEN(tag)));", "registry"),
-        tested(PG, "UNICODE_FORM(pg_langtag_locale_form, langtag_locale_form)", "UNICODE_FORM(pg_langtag_locale_form, langtag_extensions_form)", "registry"),
-        tested(PG, '    check_length("tag", tag, LONGEST_TAG);\n', "", "registry"),
-        tested(PG, "LEN(name), &found)) PG_RETURN_NULL();", "LEN(name), &found)) found.start = found.len = 0;", "registry"),
-        tested(PG, "sizes[0] = (int)count, sizes[1] = 2;", "sizes[0] = 2, sizes[1] = (int)count;", "parts"),
-        tested(PG, "    bool lossy = extended;", "    bool lossy = false;", "filters"),
-        tested(PG, "if (!IsA(range, Const)) lossy = true;", "if (!IsA(range, Const)) lossy = false;", "filters"),
-        tested(PG, "else if (extended) end", "else if (!extended) end", "filters"),
-        tested(PG, "return DatumBigEndianToNative(number);", "return number;", "operators"),
-        tested(PG, "BYTES(b), LEN(b)) >= 0 ? a : b", "BYTES(b), LEN(b)) <= 0 ? a : b", "types"),
-        tested(PG, '[LANGTAG_PRIVATE_USE] = "private-use"', '[LANGTAG_PRIVATE_USE] = "irregular"', "parts"),
-        tested(PG_SQL, "(langtag) RETURNS langtag @data", "(langtag) RETURNS langtag @module", "registry"),
-        tested(PG_SQL, ", FUNCTION 4 btequalimage(oid)", "", "operators"),
-        tested(PG_TYPE, "WITHOUT FUNCTION AS ASSIGNMENT", "WITHOUT FUNCTION AS IMPLICIT", "types"),
-        tested(PG_SQL, "pg_langtag_matches_extended@", "pg_langtag_matches_basic@", "filters"),
-        tested(PG_SQL, "LANGUAGE internal IMMUTABLE STRICT LEAKPROOF", "LANGUAGE internal IMMUTABLE STRICT", "types"),
-        tested(PG_ORDER, "pg_langtag_hash_extended@", "pg_langtag_hash@", "operators"),
-        tested(PG_SQL, "RESTRICT = matchingsel", "RESTRICT = eqsel", "filters"),
-        tested(PG_SQL, "_upper}(langtag_range) RETURNS langtag_bound", "_upper}(langtag_range) RETURNS langtag", "filters"),
-    ],
-}
+FAULTS = {language: list(faults_of(language)) for language in TABLES}
 
 # How the tests of each language are built, in a copy of what they need.
 CARGO = "cd rust && CARGO_TARGET_DIR=../target RUSTFLAGS='-Awarnings -Cdebuginfo=0' cargo test -q --offline --features names,oxilangtag"
@@ -424,30 +297,25 @@ BUILD = {
            " rows.o fences.o $LIBRARIES/liblangtag_verified.a -o test",
     "Rust": f"{CARGO} --no-run $TESTS",
     "Python": "bindings/python/native/compile $LIBRARIES/liblangtag_verified.a bindings/python/langtag/_native.abi3.so",
-    "SQLite": "cc -w -fPIC -shared -Ibindings/include bindings/sqlite/sqlite_langtag.c $LIBRARIES/liblangtag_verified.a"
-              " -o sqlite_langtag.so",
+    "SQLite": "cc -w -fPIC -shared -Ibindings/include bindings/sqlite/*.c $LIBRARIES/liblangtag_verified.a -o sqlite_langtag.so",
     "PostgreSQL": "make -s -C bindings/postgresql all install",
 }
-NEEDED = {"Rust": ["rust"]}  # of the other languages, bindings/
 LEFT_OUT = shutil.ignore_patterns("target", "dist", "__pycache__", "build", "erase", "checker", "peers")
-
-
-APART = ("rows", "each_length", "memory_refused")  # the tests of Rust that are programs of their own
 
 
 def program(by: str) -> str:
     """Returns the option that names the program of a test of Rust."""
-    return f"--test {by if by in APART else 'all'}"
+    return f"--test {'rows' if by == 'rows' else 'all'}"
 
 
 def command(language: str, by: str) -> str:
     """Returns the command that runs a file of rows, or a test, or all rows if none is named."""
     is_rows = by == "" or by.endswith(".txt")
     if language in ("C", "C++"):
-        asked = "asked" if language == "C" else "asked-cc"
-        return f"./test rows/calls.txt rows/{by} 1" if by else f"./test $(make -s -C bindings/c ROWS=$PWD/rows {asked})"
+        all_rows = f"$(make -s -C bindings/c ROWS=$PWD/rows {'asked' if language == 'C' else 'asked-cc'})"
+        return f"./test {f'rows/calls.txt rows/{by} 1' if by else all_rows}"
     if language == "Rust":
-        return f"{CARGO} {program(by)} {'' if by in APART else by + '::'} -- --skip prefixes"  # a long test, of the recogniser
+        return f"{CARGO} {program(by)} {'' if by == 'rows' else by + '::'} -- --skip prefixes"  # a long test, of the recogniser
     if language == "JavaScript":
         alone = f"--test-name-pattern='{by}'" if by else ""
         return f"node --test-reporter=tap {alone} bindings/js/test/{'rows' if is_rows else 'langtag'}.test.js"
@@ -457,22 +325,15 @@ def command(language: str, by: str) -> str:
         return f"python3 bindings/postgresql/test/server.py && timeout 60 make -s -C bindings/postgresql installcheck {named}"
     rows = f"LANGTAG_ROWS={by if is_rows else ''}"
     if language == "SQLite":
-        return f"{rows} EXTENSION=$PWD/sqlite_langtag.so PYTHONPATH=bindings/python:bindings/sqlite python3 -m unittest test_sqlite.Sqlite.{'test_rows' if is_rows else by}"
+        test = f"test_sqlite.Sqlite.{'test_rows' if is_rows else by}"
+        return f"{rows} EXTENSION=$PWD/sqlite_langtag.so PYTHONPATH=bindings/python:bindings/sqlite python3 -m unittest {test}"
     return f"cd bindings/python && {rows} python3 -m unittest {'test_rows' if is_rows else 'test_langtag.' + by}"
 
 
 def tests(language: str) -> list[str]:
     """Returns the tests that have to pass without a fault: those that find one, and all rows."""
-    named = sorted({fault.by for fault in FAULTS[language] if not fault.by.endswith(".txt")} - {""})
+    named = sorted({fault.by for fault in FAULTS[language] if not fault.by.endswith(".txt")})
     return named if language == "Rust" else [""] if language == "PostgreSQL" else ["", *named]
-
-
-def linked(one: str, other: str) -> None:
-    """Links a file, or copies it to another disk. Files that are built or changed are new files in each copy."""
-    try:
-        os.link(os.path.realpath(one), other)
-    except OSError:
-        shutil.copy2(one, other)
 
 
 class Copy:
@@ -481,37 +342,36 @@ class Copy:
 
     def __init__(self, language: str, libraries: pathlib.Path, built: Copy | None = None):
         self.language, self.libraries, self.folder = language, libraries, pathlib.Path(tempfile.mkdtemp())
-        for name in NEEDED.get(language, ["bindings"]):
-            shutil.copytree((built.folder if built else ROOT) / name, self.folder / name, ignore=LEFT_OUT, copy_function=shutil.copy2 if built else linked)
+        needed = "rust" if language == "Rust" else "bindings"
+        shutil.copytree((built.folder if built else ROOT) / needed, self.folder / needed, ignore=LEFT_OUT)
         (self.folder / "rows").symlink_to(ROOT / "rows")
         self.environment = {**os.environ, "CFLAGS": "-w -O0", "LIBRARIES": str(libraries),
                             "TESTS": " ".join(sorted({program(test) for test in tests(language)})), "PYTHONDONTWRITEBYTECODE": "1"}
         self.environment.pop("LANGTAG_ANSWERS", None)
 
-    def write(self, file: str, text: str) -> None:
-        (self.folder / file).unlink()
-        (self.folder / file).write_text(text)
-
     def plant(self, fault: Fault) -> None:
-        self.write(fault.file, (self.folder / fault.file).read_text().replace(fault.old, fault.new, 1))
+        file = self.folder / fault.file
+        text = file.read_text()
+        _, start, end, new = fault.change(text)
+        file.write_text(text[:start] + new + text[end:])
 
     def plant_switches(self) -> set[int]:
         """Plants each fault that can be behind a switch, and returns their numbers."""
         done: set[int] = set()
         faults = FAULTS[self.language]
-        for file in sorted({fault.file for fault in faults if not fault.file.endswith(".py")}):
-            text = (self.folder / file).read_text()
-            changes = [Change(number, text.index(fault.old), text.index(fault.old) + len(fault.old), fault.new)
-                       for number, fault in enumerate(faults, 1) if fault.file == file]
-            text, here = switched(text, pathlib.Path(file).suffix, changes)
-            if here and self.language == "PostgreSQL":
-                text = text.replace("PG_MODULE_MAGIC", POSTGRESQL + "PG_MODULE_MAGIC", 1)
+        for name in sorted({fault.file for fault in faults if not fault.file.endswith(".py")}):
+            file = self.folder / name
+            text = file.read_text()
+            changes = [fault.change(text, number) for number, fault in enumerate(faults, 1) if fault.file == name]
+            text, here = switched(text, file.suffix, changes)
             if here:
-                self.write(file, text if self.language in ("Rust", "PostgreSQL") else C + text)
+                with_switch = {"Rust": text, "PostgreSQL": text.replace("PG_MODULE_MAGIC", POSTGRESQL + "PG_MODULE_MAGIC", 1)}
+                file.write_text(with_switch.get(self.language, C + text))
             done |= here
         if self.language == "Rust":
-            for file, more in ("rust/src/lib.rs", RUST), ("rust/src/bin/langtag/main.rs", "\nuse langtag::planted;\n"):
-                self.write(file, (self.folder / file).read_text().replace(FORBIDDEN, "") + more)
+            for name, more in ("lib.rs", RUST), ("bin/langtag/main.rs", "\nuse langtag::planted;\n"):
+                file = self.folder / "rust/src" / name
+                file.write_text(file.read_text().replace(FORBIDDEN, "") + more)
         return done
 
     def shell(self, words: str, switch: str = "") -> subprocess.CompletedProcess[str]:
@@ -539,39 +399,31 @@ class Copy:
         said = re.sub(r"\btest (\w+) +\.\.\. FAILED", r"not ok - \1", said)  # PostgreSQL 15
         return None if fault.says in said else f"is refused, and not by {fault.says!r}: {ran.stdout[-2000:]}"
 
-    def remove(self) -> None:
-        shutil.rmtree(self.folder)
+    def alone(self, fault: Fault) -> str | None:
+        """Builds the language with one fault, and runs the test that has to find it. Returns what differs from the expectation, or None.
+        A fault in SQL or Python needs no other module than this copy's, which has all faults behind switches."""
+        copy = Copy(self.language, self.libraries, self if fault.file.endswith((".sql.in", ".py")) else None)
+        try:
+            copy.environment["TESTS"] = program(fault.by)
+            copy.plant(fault)
+            return (None if fault.file.endswith(".py") else copy.build()) or copy.refuses(fault)
+        finally:
+            shutil.rmtree(copy.folder)
 
-
-def alone(all_faults: Copy, fault: Fault | None) -> str | None:
-    """Builds a language with one fault, or with none, and runs the test that has to find it, or all tests. Returns what differs from the
-    expectation, or None. A fault in SQL or Python needs no other module than the one with all faults behind switches."""
-    copy = Copy(all_faults.language, all_faults.libraries, all_faults if fault and fault.file.endswith((".sql.in", ".py")) else None)
-    try:
-        if fault is None:
-            return copy.build() or copy.passes("")
-        copy.environment["TESTS"] = program(fault.by)
-        copy.plant(fault)
-        return (None if fault.file.endswith(".py") else copy.build()) or copy.refuses(fault)
-    finally:
-        copy.remove()
-
-
-def to_be_asked(copy: Copy, chosen: list[Fault]) -> list[tuple[str, Fault | None, Callable[[], str | None]]]:
-    """Builds a language once with all faults that can be behind a switch. Returns the tests to run for some of its faults, each with its
-    language, its fault if it has one, and what runs it and returns what differs from the expectation, or None."""
-    language = copy.language
-    switches = copy.plant_switches() if language in BUILD else set()
-    why = copy.build()
-    if why:
-        return [(language, None, lambda: why)]
-    asked = [(language, None, functools.partial(copy.passes, by)) for by in tests(language)]
-    for number, fault in sorted(enumerate(FAULTS[language], 1), key=lambda it: it[0] not in switches):
-        ask = functools.partial(copy.refuses, fault, str(number)) if number in switches else functools.partial(alone, copy, fault)
-        asked += [(language, fault, ask)] * (fault in chosen)
-    if language == "PostgreSQL":  # the server still stands
-        asked.append((language, None, functools.partial(alone, copy, None)))
-    return asked
+    def to_be_asked(self, chosen: list[Fault]) -> list[tuple[str, Fault | None, Callable[[], str | None]]]:
+        """Builds the language once with all faults that can be behind a switch. Returns the tests to run for some of its faults, each with
+        its language, its fault if it has one, and what runs it and returns what differs from the expectation, or None."""
+        switches = self.plant_switches() if self.language in BUILD else set()
+        why = self.build()
+        if why:
+            return [(self.language, None, lambda: why)]
+        asked = [(self.language, None, functools.partial(self.passes, by)) for by in tests(self.language)]
+        for number, fault in sorted(enumerate(FAULTS[self.language], 1), key=lambda it: it[0] not in switches):
+            ask = functools.partial(self.refuses, fault, str(number)) if number in switches else functools.partial(self.alone, fault)
+            asked += [(self.language, fault, ask)] * (fault in chosen)
+        if self.language == "PostgreSQL":  # the server still stands
+            asked.append((self.language, None, lambda: self.build() or self.passes("")))
+        return asked
 
 
 class Record:
@@ -605,21 +457,21 @@ class Record:
 
 def main(record: Record | None, libraries: pathlib.Path, languages: list[str]) -> int:
     languages = languages or [language for language in FAULTS if language != "PostgreSQL"]
-    lost = [fault for language in languages for fault in FAULTS[language] if fault.old not in (ROOT / fault.file).read_text()]
+    lost = [fault for language in languages for fault in FAULTS[language] if not fault.change((ROOT / fault.file).read_text())]
     if lost:
-        sys.exit("\n".join(f"{fault.file}: the text is not there: {fault.old!r}" for fault in lost))
+        sys.exit("\n".join(f"{fault.file}: the text is not there: {fault.line}" for fault in lost))
     chosen = {language: record.chosen(language) if record else FAULTS[language] for language in languages}
     copies = [Copy(language, libraries) for language in languages if chosen[language]]
     try:
         with concurrent.futures.ThreadPoolExecutor(1 if languages == ["PostgreSQL"] else os.cpu_count()) as pool:  # there is one server
-            asked = [it for more in pool.map(lambda copy: to_be_asked(copy, chosen[copy.language]), copies) for it in more]
+            asked = [it for more in pool.map(lambda copy: copy.to_be_asked(chosen[copy.language]), copies) for it in more]
             found = list(pool.map(lambda it: it[2](), asked))
     finally:
         for copy in copies:
-            copy.remove()
+            shutil.rmtree(copy.folder)
     bad = [(language, fault, what) for (language, fault, _), what in zip(asked, found) if what]
     for language, fault, what in bad:
-        print(f"{language}: {fault.file if fault else 'no fault'}: {fault.new if fault else ''!r}\n  {what}")
+        print(f"{language}: {f'{fault.file}: {fault.line}' if fault else 'no fault'}\n  {what}")
     if record:
         record.write({*languages}, {language for language, _, _ in bad})
     counts = ", ".join(f"{language} {len(chosen[language])} of {len(FAULTS[language])}" for language in languages)

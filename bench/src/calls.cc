@@ -40,24 +40,13 @@ static size_t icu_parse(const std::string &text) {
     for (const char *part : {locale.getLanguage(), locale.getScript(), locale.getCountry(), locale.getVariant()}) sum += std::char_traits<char>::length(part);
     return sum;
 }
-static size_t icu_number(const icu::Locale &locale) {
-    UErrorCode status = U_ZERO_ERROR;
-    return locale.getUnicodeKeywordValue<std::string>("nu", status).size();
-}
-/* Reads the keyword from a locale that was made before. All lines are the same. */
-static size_t icu_number_again(const std::string &text) {
-    static const icu::Locale locale = locale_of(text);
-    return icu_number(locale);
-}
 static size_t icu_best(const Site &site, const std::string &header) {
     UErrorCode status = U_ZERO_ERROR;
     return site.matcher->getBestMatchForListString(header, status) != nullptr;
 }
-#define ICU_CALLS(call)                           \
-    call(parse, icu, icu_parse(text))             \
-    call(headers, icu_best, icu_best(site, text)) \
-    call(keyword, icu_keyword, icu_number(locale_of(text))) \
-    call(keyword, icu_keyword_of_a_locale, icu_number_again(text))
+#define ICU_CALLS(call)               \
+    call(parse, icu, icu_parse(text)) \
+    call(headers, icu_best, icu_best(site, text))
 #else
 #define ICU_CALLS(call)
 #endif
@@ -65,7 +54,6 @@ static size_t icu_best(const Site &site, const std::string &header) {
 /* Each call: its kind, its name, and the call. */
 #define CALLS(call)                                                                                                        \
     call(parse, langtag_parse, langtag_parse(line, len, &parts))                                                           \
-    call(keyword, langtag_keyword, langtag_keyword(line, len, "nu", 2, &span))                                             \
     call(headers, best, langtag_best_for_header(line, len, site.text.data(), site.text.size(), site.tags.data(), count))   \
     call(headers, site, langtag_site_best_for_header(line, len, site.text.data(), site.text.size(), site.prepared.data(), count)) \
     call(tags, parse, langtag_parse(line, len, &parts))                                                                    \

@@ -15,12 +15,6 @@ check "C: rows about $FUZZ_COUNT random texts, by a second implementation of the
 
 told_by_c() { "$work/c/test" --answer "$work/rows/calls.txt"; }
 
-# Random rows, and C's answers to random questions, with which the answers of Rust, Python and JavaScript are compared.
-answers_of_c() {
-    python3 random_rows.py rows 1000 "$FUZZ_SEED" >"$work/answers" && python3 random_rows.py questions 2000 "$FUZZ_SEED" | told_by_c >>"$work/answers"
-}
-check "C: answers to random calls, for Rust, Python and JavaScript" answers_of_c
-
 # as_an_oracle ORACLE TOLD [QUESTIONS]: compares C's answers to questions about everything in the data, and to random questions, with those
 # of an oracle, which asks them if no other program does.
 as_an_oracle() {
@@ -35,6 +29,14 @@ check "C: 100,000 rows of likely subtags and choices, by a plain reading of the 
     as_an_oracle "$likely/oracle.py" "$work/told_of_likely" "$likely/questions.py"
 check "C: 48,000 rows of extensions and Unicode locale identifiers, by a plain reading of the data" \
     as_an_oracle "$root/data/unicode/oracle.py" "$work/told_of_unicode"
+
+# Random rows, and a seventh of C's answers to the oracles' questions, with which the answers of Python and JavaScript are compared. Their
+# calls refuse a list with a string that is not a tag, which some choices have.
+for_wrappers() {
+    python3 random_rows.py rows 1000 "$FUZZ_SEED" &&
+        awk 'FNR % 7 == 0 && !/^(best|suitable) /' "$work"/answers_about_tags "$work"/told_of_likely "$work"/told_of_unicode
+}
+for_wrappers >"$work/answers"
 
 # Compares the maximal forms of deprecated tags, by way of their locale forms, with those of Intl.
 as_intl() {

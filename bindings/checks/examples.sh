@@ -1,4 +1,4 @@
-# Runs the examples that are servers, the subtitle editor, the count of a million rows, and the extension of SQLite. The store of
+# Runs the examples that are servers, the count of a million rows, and the extension of SQLite. The store of
 # RDF literals runs with the Rust crate.
 strict="-std=c99 -O2 -Wall -Wextra -Wpedantic -Werror"
 PYTHONPATH=$work/bindings/python
@@ -10,17 +10,9 @@ negotiate() {
 check "C: the HTTP example builds" negotiate
 check "the HTTP examples in C and Python answer alike" env -C examples PROGRAM="$work/built/negotiate" python3 -m unittest test_examples
 
-# example_in_cc NAME TEST
-example_in_cc() {
-    c++ -std=c++17 -Wall -Wextra -Wpedantic -Wshadow -Wconversion -Werror -g -fsanitize=address,undefined -I"$work/usr/include" \
-        "examples/$1.cc" "$work/usr/lib/liblangtag_verified.a" -o "$work/built/$1" && env -C examples PROGRAM="$work/built/$1" python3 -m unittest "$2"
-}
-check "C++: the subtitle editor, over the installed header" example_in_cc subtitles test_subtitles
-check "C++ and Flask: what a viewer and a reader pick" example_in_cc player test_sites
+check "Flask, Django and films: what a reader and a viewer pick" env -C examples python3 -m unittest test_sites
 python3 -c 'import flask' 2>/dev/null || not_run "Python: the Flask site" "Flask is not there"
 
-count_tags() { python3 examples/count_tags.py | diff - <(wanted_counts); }
-wanted_counts() { env -i PATH="$PATH" PYTHONPATH="$PYTHONPATH" python3 -S examples/count_tags.py; }
 # The messages of the catalogue for a tag: that of a parent, of the tag itself, of the default.
 catalogues() {
     local asked=("pt-AO bus" "de-ch-1996 bike" "de-CH hello" "zh-TW bike" "zh-TW hello" "fr train")
@@ -28,7 +20,6 @@ catalogues() {
 }
 check "the example of a catalogue asks the parents of a tag" catalogues
 check "gettext reads the messages of the parents of a locale" env -C examples python3 -m unittest test_gettext
-check "the example counts a million rows by pandas, where it is there, as without" count_tags
 
 sqlite_make() { make -s -B -C sqlite LANGTAG_ARCHIVE="$work/usr/lib/liblangtag_verified.a" LANGTAG_INCLUDE="$work/usr/include" "$@"; }
 sqlite_extension() {

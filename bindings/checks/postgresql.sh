@@ -1,5 +1,5 @@
-# Checks the extension for PostgreSQL, in servers that this script starts. Nothing is installed in the system. The servers listen
-# only on the loopback, and run as a user other than root.
+# Checks the extension for PostgreSQL, in a server that this script starts. Nothing is installed in the system. The server listens
+# only on the loopback, and runs as a user other than root.
 pg_config=${PG_CONFIG:-pg_config}
 lacks "PostgreSQL: everything" \
     'has "$pg_config"' "there is no pg_config (in Debian: apt-get install postgresql postgresql-server-dev-15)" \
@@ -43,21 +43,18 @@ postgresql_wrong() {
         python3 wrong_wrappers.py --record "$root" "$work/usr/lib" PostgreSQL
 }
 
-if ! place "$(mktemp -d)" >"$work/log" 2>&1 || ! begin hub || ! begin shard_a || ! begin shard_b; then
+if ! place "$(mktemp -d)" >"$work/log" 2>&1 || ! begin hub; then
     failed=$((failed + 1))
-    echo "FAILED: PostgreSQL: three servers of its own"
+    echo "FAILED: PostgreSQL: a server of its own"
     tail -5 "$work/log"
 else
     check "PostgreSQL: the tarball builds and installs, and exports no function of the library" postgresql_released
     PGPORT=$(port_of hub)
-    SHARDS="$(port_of shard_a) $(port_of shard_b)"
     check "PostgreSQL: the examples of the documents" "$root/.ci/examples" sql
     check "PostgreSQL: make installcheck" postgresql_regress
     check "PostgreSQL: the rows, and C's answers about tags of the registry" in_postgresql test_rows
     check "PostgreSQL: ranges by each scan" in_postgresql test_ranges
     check "PostgreSQL: faults, lengths, memory, dump and restore" in_postgresql test_faults
-    needs '[ -f "$("$pg_config" --sharedir)/extension/postgres_fdw.control" ]' "there is no postgres_fdw" \
-        "PostgreSQL: two shards and a hub" in_postgresql test_shards
     check "PostgreSQL: a release with another registry installs" postgresql_later
     check "PostgreSQL: an owner gets no rights by the scripts of the extension" in_postgresql test_privileges
     needs '[ -f "$("$pg_config" --sharedir)/extension/amcheck.control" ]' "there is no amcheck" \
@@ -69,4 +66,4 @@ fi
 end_all
 trap 'rm -rf "$work"' EXIT
 PATH=$path_before
-unset PGHOST PGPORT PGUSER SHARDS
+unset PGHOST PGPORT PGUSER

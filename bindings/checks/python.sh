@@ -16,7 +16,7 @@ for python in $pythons; do check "Python: tests and doctests, and C's answers to
 on_pypy() {
     cp -r python pypy && cd pypy && pypy3 -c 'import backend; print(backend.kind()[1])' >"$work/ending" &&
         native/compile "$archive" "langtag/_native$(cat "$work/ending")" pypy3 &&
-        pypy3 -m unittest test_rows test_langtag.{Values,Ranges,Negotiation,Sites,WrongCalls,Help}
+        pypy3 -m unittest test_rows test_langtag.{Values,Negotiation,Sites,WrongCalls,Help}
 }
 needs 'ls /usr/include/pypy3*/Python.h >/dev/null 2>&1' "its headers are not there (in Debian: apt-get install pypy3-dev)" "Python: tests by PyPy" on_pypy
 . "$here/checks/python_leaks.sh"
@@ -24,7 +24,7 @@ needs 'ls /usr/include/pypy3*/Python.h >/dev/null 2>&1' "its headers are not the
 # mypy of this Python, or the program that Debian installs. It also checks a user's program, and has to find the mistake in it.
 mypy=
 if python3 -m mypy --version >/dev/null 2>&1; then mypy="python3 -m mypy"; elif has mypy; then mypy=mypy; fi
-type_check() { cd python && $mypy --strict langtag && $mypy --strict ../examples/parts.py ../examples/negotiate.py ../examples/count_tags.py ../examples/{catalogue,gettext_catalogue,film,hreflang}.py; }
+type_check() { cd python && $mypy --strict langtag && $mypy --strict ../examples/{parts,negotiate,catalogue,gettext_catalogue,film,hreflang}.py; }
 mistake() {
     cd python && printf '%s\n' 'import langtag' 'langtag.Tag("de").replace(script=5)' >"$work/mistake.py"
     ($mypy --strict "$work/mistake.py" || true) | grep 'mistake.py:2: error: Argument "script"'

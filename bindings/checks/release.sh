@@ -159,8 +159,6 @@ check "release: what is made from another archive is not labelled as proved" onl
 # Checks what only the tarball has: the archive under the name in the page, and the examples.
 by_itself() {
     away 'tar -xzf ../dist/*-x86_64-elf.tar.gz; cd liblangtag-verified-*; rm ../parts.*
-        cc examples/negotiate.c -Iinclude lib/liblangtag_verified.a -o negotiate
-        c++ -std=c++17 examples/subtitles.cc -Iinclude lib/liblangtag_verified.a -o subtitles
         c++ -std=c++17 examples/parts.cc -Iinclude lib/liblangtag_verified.a -o parts; ./parts zh-Hant-TW >cc
         cc examples/parts.c -Iinclude lib/liblangtag_verified.a -o parts; ./parts zh-Hant-TW | tee c; cmp c cc'
 }
@@ -200,7 +198,7 @@ needs '[ -n "${wine:-}" ] && ls "$work"/dist/*-windows.zip >/dev/null 2>&1' "the
 crate() {
     away 'tar -xzf ../dist/*.crate; cargo new -q --vcs none first; cp parts.rs first/src/main.rs; cd first
         cp -r ../../with-serde/.cargo .cargo; export CARGO_TARGET_DIR=$PWD/../../released CARGO_HOME=$PWD/cargo-home
-        cargo add -q --offline --path ../langtag-verified-*/ '"$1"'; cargo run -q --offline zh-Hant-TW'
+        cargo add -q --offline --path ../langtag-verified-*/; cargo run -q --offline zh-Hant-TW'
 }
 # Its own tests, with all features.
 crate_tests() {
@@ -209,8 +207,7 @@ crate_tests() {
 }
 if ! lacks "release: the Rust crate and its tests" '[ -d "$work/with-serde" ]' "there is no cargo, or no serde in $registry"; then
     check "release: the tests of the Rust crate, with all features" crate_tests
-    check "release: the Rust crate" crate ""
-    check "release: the Rust crate with serde" crate "--features serde"
+    check "release: the Rust crate" crate
 fi
 
 # python_package PYTHON COMMANDS: the environment of a Python is made once, and copied for each package.

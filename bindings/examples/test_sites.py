@@ -1,10 +1,8 @@
-"""Tests the examples of sites and players. PROGRAM names the program built from player.cc.
+"""Tests the examples of sites and of a film.
 Without Flask or Django, its test is left out, and the output says so. The middleware for Django is also called with its settings and with a
 request that has only headers, so that much is tested without Django."""
 import importlib
-import os
 import re
-import subprocess
 import sys
 import types
 import unittest
@@ -22,13 +20,6 @@ try:
 except ImportError:
     django = None
 
-# The viewer's languages, the tracks, and the tracks that are picked.
-TRACKS = [
-    ("de-CH, en;q=0.5", "jpn,eng,ger", "eng,fre", "audio 2 (ger)"), ("fr-CA", "jpn,eng", "eng,fre", "audio 0 (jpn), subtitles 1 (fre)"),
-    ("en-GB", "jpn,eng,eng", "eng", "audio 1 (eng)"), ("zh-TW, en;q=0.9", "und,chi", "zh-Hans,zh-Hant", "audio 0 (und), subtitles 1 (zh-Hant)"),
-    ("tlh", "jpn,eng", "eng", "audio 0 (jpn), subtitles 0 (eng)"), ("fi", "jpn", "eng", "audio 0 (jpn)"), ("", "ger", "", "audio 0 (ger)"),
-]
-
 # The header, the user's own languages, and the languages of the page, the audio and the subtitles.
 FILMS = [
     ("zh-TW,zh;q=0.9,en;q=0.8", "", ("zh-Hant", "eng", "zh-Hant")), ("en-GB,en;q=0.9", "nap it", ("it", "eng", "it")), ("nap", "", ("en", "jpn", None)),
@@ -44,12 +35,6 @@ PAGES = [
 
 
 class Sites(unittest.TestCase):
-    def test_player(self):
-        for wishes, audio, subtitles, picked in TRACKS:
-            run = subprocess.run([os.environ["PROGRAM"], wishes, audio, subtitles], capture_output=True, text=True, check=True)
-            self.assertEqual(run.stdout, picked + "\n")
-        self.assertEqual(subprocess.run([os.environ["PROGRAM"]], capture_output=True).returncode, 2)
-
     def test_film(self):
         for header, languages, wanted in FILMS:
             self.assertEqual(film.chosen(header, languages.split()), wanted, header)

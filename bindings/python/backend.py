@@ -158,7 +158,7 @@ def tree(folder: pathlib.Path, wanted: str = ".*", place: str = "") -> dict[str,
 
 def module_files() -> dict[str, bytes]:
     """Returns the files of the package langtag, without a binary."""
-    return {**tree(HERE / "langtag", MODULE_FILES, "langtag/"), **tree(EXAMPLES, r"(negotiate|count_tags|catalogue)\.py", "langtag/examples/")}
+    return {**tree(HERE / "langtag", MODULE_FILES, "langtag/"), **tree(EXAMPLES, r"(negotiate|catalogue)\.py", "langtag/examples/")}
 
 
 def rows() -> dict[str, bytes]:
@@ -218,7 +218,7 @@ def wheel(folder: str | pathlib.Path, library: Archive, platforms: str, compiler
 
 def sdist(folder: str | pathlib.Path, library: Archive) -> str:
     """Writes an sdist, and returns its name: the sources of the C module with the archive, so that it needs no cargo."""
-    examples = tree(EXAMPLES, r"(parts|negotiate|count_tags|catalogue)\.py", "examples/")
+    examples = tree(EXAMPLES, r"(parts|negotiate|catalogue)\.py", "examples/")
     files = {**tree(HERE, SDIST_FILES), **module_files(), **examples, **rows(), **notes(library.label, readme()), **tree(HEADER, r"langtag_names(_data)?\.h"),
              "liblangtag_c.a": library.path.read_bytes(), "langtag.h": labelled_header(library.is_proved), "PKG-INFO": metadata(library.is_proved)}
     top = f"langtag_verified-{of_python(library.is_proved)}"

@@ -20,14 +20,6 @@ from langtag import (AcceptLanguage, BestMatch, EditError, InvalidTag, Kind, Ran
 
 
 class Kinds(unittest.TestCase):
-    def test_none(self):
-        for text in ("", "f", "en_US", "zh-x-é", "en\0", b"en\xff", "\ud800", "i-notexist", "K-ab", "\u212a"):
-            self.assertIsNone(kind(text))
-            with self.assertRaises(InvalidTag) as caught:
-                parse(text)
-            self.assertEqual(caught.exception.text, text if isinstance(text, str) else "en\\xff")
-            self.assertTrue(str(caught.exception).startswith("invalid language tag `"))
-
     def test_subclasses_of_texts(self):
         class Short(bytes):
             __len__ = lambda self: 1
@@ -52,10 +44,6 @@ class Kinds(unittest.TestCase):
 
 
 class Values(unittest.TestCase):
-    def test_equality(self):
-        self.assertNotEqual(parse("zh"), "zh")
-        self.assertNotEqual(parse("zh"), Range("zh"))
-
     def test_subclasses(self):
         class One(Tag):
             pass
@@ -107,7 +95,7 @@ class Values(unittest.TestCase):
         """A comparison with another type asks the other object."""
         for value in (Tag("de"), Range("de")):
             self.assertTrue(value == unittest.mock.ANY and unittest.mock.ANY == value)
-            self.assertFalse(value != unittest.mock.ANY)
+            self.assertFalse(value != unittest.mock.ANY or value == "de")
 
     def test_a_copy_is_the_tag(self):
         for text in ("de-CH", "x-a", "i-klingon"):
@@ -115,6 +103,7 @@ class Values(unittest.TestCase):
             for name in ("kind", "language", "region", "private_use", "grandfathered"):
                 self.assertEqual(getattr(one, name), getattr(other, name))
             self.assertEqual(hash(one), hash(other))
+            self.assertEqual((Range(one), Range(one).is_basic, str(Range(one))), (Range(text), True, text))
         self.assertEqual([Range(Range(text)).is_basic for text in ("de", "de-*")], [True, False])
 
     def test_arguments(self):
@@ -160,25 +149,12 @@ class Refusals(unittest.TestCase):
                 self.assertIn(getattr(error, "text", None), (text, None))
 
 
-class Ranges(unittest.TestCase):
-    def test_matching_of_texts(self):
-        for text in ("DE-at", b"DE-at"):
-            self.assertTrue(Range("de").matches_basic(text) and Range("*-AT").matches_extended(text))
-        for text in ("de_AT", b"", "\ud800", b"de-\xff"):
-            self.assertEqual((Range("*").matches_basic(text), Range("*").matches_extended(text)), (False, False))
-
-
 class Negotiation(unittest.TestCase):
     def test_no_header(self):
         for call in wrong_calls.BEST:
             for header in (None, "", b""):
                 self.assertEqual(call(header, [Tag("de")], 5), 5)
         self.assertEqual([AcceptLanguage(None).ranges, AcceptLanguage.lenient(None).ranges], [(), ()])
-
-    def test_ranges(self):
-        accepted = AcceptLanguage.lenient("FR;q=0.5, d!, de, *;q=0, nl;q=0.25")
-        self.assertEqual(repr(accepted), "AcceptLanguage('de;q=1.0, FR;q=0.5, nl;q=0.25')")
-        self.assertIsNone(accepted.look_up([], None))
 
     def test_equality(self):
         """Two headers are equal if their ranges and weights are equal."""
@@ -189,13 +165,6 @@ class Negotiation(unittest.TestCase):
             self.assertNotEqual(accepted, other)
         with self.assertRaises(AttributeError):
             accepted.ranges = ()
-
-    def test_tags_as_ranges(self):
-        """Each tag is a range, so a Tag is taken wherever a range is."""
-        for text in ("de-CH", "x-a", "i-klingon"):
-            self.assertEqual((Range(Tag(text)), Range(Tag(text)).is_basic, str(Range(Tag(text)))), (Range(text), True, text))
-        self.assertEqual(look_up([Tag("nl"), Tag("de-CH")], ["de"]), "de")
-        self.assertEqual(langtag.best_for_ranges([Tag("nl"), Tag("gsw")], ["de"]), "de")
 
     def test_texts(self):
         """A text is accepted wherever a tag or a range is, and the same text is returned."""
@@ -215,13 +184,7 @@ class Negotiation(unittest.TestCase):
                 self.assertEqual(wrong_calls.told(lambda: call("de")), f"TypeError 'expected a list of {what}, got str'")
 
     def test_best(self):
-        tags = ["en", b"zh-Hant", Tag("de")]
-        for ranges, wanted in ((["fi", "", "*", "en;q=0", "de,de", "*-AT", b"de-*AT", "en-*-*-GB", "de"], "en"), ([Range("*-DE"), Range("de-*-DE")], Tag("de")),
-                               (["zh_TW"], b"zh-Hant"), (iter([b"fi"]), None), ([], None), (["\ud800"], None)):
-            self.assertEqual(langtag.best_for_ranges(ranges, tags), wanted)
-        self.assertEqual(langtag.best_for_ranges(["fi"], tags, "none"), "none")
-        self.assertEqual(AcceptLanguage("en;q=0, fr, *;q=0.5").best(["en", "fr-CA"]), "fr-CA")
-        self.assertEqual(AcceptLanguage.lenient("zh-TW, zh_SG").best(tags, 5), b"zh-Hant")
+        self.assertEqual(langtag.best_for_ranges(["fi", "", "de,de", "\ud800"], ["de"], "none"), "none")
         for number in (0, 63, 64, 65, 3000):  # the C module keeps few tags on the stack, and many tags on the heap
             many = [b"de", *["x-a"] * number, Tag("zh-x-" + "long-" * 50 + "tag")]
             self.assertIs(langtag.best_for_header("zh;q=0.5, de", many), many[0])
@@ -292,13 +255,6 @@ class Edits(unittest.TestCase):
         for language in (None, "", []):
             self.assertEqual(str(caught(lambda _: Tag("de-CH").replace(language=language))), "the language cannot be removed")
 
-    def test_from_parts(self):
-        tag = Tag("zh-yue-Hant-HK-1994-u-co-pinyin-t-aa-x-mine")
-        again = Tag.from_parts(tag.language, script=tag.script, region=tag.region, variants=tag.variants,
-                               extensions=tag.extensions, private_use=tag.private_use)
-        self.assertEqual(str(again), str(tag))
-        self.assertEqual(str(Tag.from_parts("DE")), "DE")
-
     def test_subclasses_of_texts(self):
         class Odd(str):
             __eq__ = lambda self, other: True
@@ -323,15 +279,6 @@ class Edits(unittest.TestCase):
         self.assertEqual(str(Tag.from_parts("ar", extensions={"u": "nu-latn"}, keywords={"ca": "islamic"})), "ar-u-ca-islamic-nu-latn")
         self.assertEqual(str(Tag.from_parts("ar", keywords={"ca": None})), "ar")
         self.assertEqual(Tag.from_parts("ar", keywords=tag.keywords).keywords, tag.keywords)
-
-    def test_keywords_that_are_none(self):
-        tag = Tag("th-u-ca-gregory")
-        for wrong, part, text in (({"nu": "thai", "c1": "roc"}, "key", "c1"), ({"ca": "roc", "nu": "ab"}, "value", "ab"),
-                                  ({"kn": None, "": None}, "key", ""), ({"ca": "\ud800"}, "value", "\ud800"), ({"ca": "ab-" * 100_000}, "value", "ab-" * 100_000)):
-            error = caught(lambda keywords: tag.replace(keywords=keywords), wrong)
-            self.assertEqual((type(error), error.part, error.text), (EditError, part, text))
-            self.assertLess(len(str(error)), 1200)
-        self.assertEqual(str(tag), "th-u-ca-gregory")
 
 
 class Memory(unittest.TestCase):

@@ -204,24 +204,27 @@ def answer_edit(tag, part, given):
     found = replaced(tag, part, None if given == "none" else given, given)
     assert part != "variants" or replaced(tag, part, given.split("-") if given else (), given) == found
     assert str(tag) == before
+    again = None if found in ("no parts", "refused") else Tag(found)
+    if again and not again.repeated_singleton:  # the dictionary of extensions has the first one of each singleton
+        assert Tag.from_parts(again.language, **{name: getattr(again, name) for name in langtag._PARTS[1:]}) == again
     return found
 
 
-def with_keyword(tag, keywords):
+def with_keyword(tag, key, value, keywords):
+    """Sets keywords, of which only the given one may be refused."""
     made, error = outcome(tag.replace, keywords=keywords)
     if error is None:
         return str(made)
     begin = "not a normal language tag" if error.text is None else f"{langtag._quoted_text(error.text)} is not a {error.part} of "
-    assert type(error) is EditError and error.part in (("keywords",) if error.text is None else ("key", "value"))
-    assert str(error).startswith(begin) and error.text in (None, *keywords, *keywords.values()), str(error)
+    assert type(error) is EditError and error.text == {"key": key, "value": value, "keywords": None}[error.part] and str(error).startswith(begin), str(error)
     return {"key": "bad key", "value": "bad value", "keywords": "no parts"}[error.part]
 
 
 def answer_with_keyword(tag, key, value):
     """Sets the keyword alone, and between two other keywords, which must not change what is refused."""
     tag, key, value = Tag(tag), key.decode(), None if value == b"-" else value.decode()
-    before, found = str(tag), with_keyword(tag, {key: value})
-    more = with_keyword(tag, {"0a": "before", key: value, "0b": ""})
+    before, found = str(tag), with_keyword(tag, key, value, {key: value})
+    more = with_keyword(tag, key, value, {"0a": "before", key: value, "0b": ""})
     assert str(tag) == before
     if found in ("bad key", "bad value", "no parts"):
         assert more == found or found.startswith("bad") and more == "no parts"

@@ -160,7 +160,6 @@ STATEMENTS = [
     ("SELECT langtag_nth_parent('de-CH', '1'), langtag_nth_parent('de-CH', 0.0), langtag_nth_parent('de-CH', -1) IS NULL, langtag_nth_parent('de-CH', 9e20) IS NULL;", "de|de-CH|1|1"),
     ("SELECT langtag_part('zh-Hant', 'script'), typeof(langtag_canonical('iw')), typeof(langtag_is_valid('iw'));", "Hant|text|integer"),
     ("SELECT hex(langtag_unknown_modifier(CAST(X'646540C3B6006F' AS TEXT)));", "C3B6006F"),
-    ("SELECT langtag_best_for_header('zh-TW,zh;q=0.9,en;q=0.8', 'en', 'zh-Hans', NULL, 'zh-Hant');", "zh-Hant"),
     ("SELECT langtag_best_for_header('zh-TW', NULL, 'zh-Hant'), langtag_best_for_header('zh-TW', NULL, NULL, 'de', 'zh-Hant', NULL);", "zh-Hant|zh-Hant"),
     ("SELECT langtag_best_for_header('de', NULL) IS NULL, langtag_best_for_header('', NULL, 'de') IS NULL, langtag_best_for_header('fi') IS NULL, langtag_match_for_header('fi') IS NULL;", "1|1|1|1"),
     ("SELECT langtag_match_for_header('fi, de_AT;q=0.5', NULL, 'en', 'de');", '{"index":2,"tag":"de","distance":4,"range":"de_AT"}'),
@@ -178,11 +177,8 @@ STATEMENTS = [
      "CREATE VIEW best AS SELECT langtag_group_best_for_header('he', tag) AS tag FROM t; CREATE VIEW more AS SELECT langtag_best_for_header('he', tag), langtag_match_for_header('de', tag) FROM t;"
      "INSERT INTO t VALUES ('iw'), (NULL); SELECT form FROM t WHERE form IS NOT NULL; SELECT * FROM best; SELECT count(*) FROM more;", "he\niw\n2"),
     ("SELECT langtag_version() GLOB 'langtag *.*.* (IANA''s registry of 20[0-9][0-9]-[01][0-9]-[0-3][0-9], CLDR [0-9]*)', langtag_proved() IN (0, 1);", "1|1"),
-    (TABLE + "CREATE INDEX forms ON texts (langtag_canonical(tag), langtag_part(tag, 'script')); SELECT 1;", "1"),
-    (TABLE + "CREATE INDEX valid ON texts (langtag_is_valid(tag), langtag_matches_basic('de', tag)); SELECT 1;", "1"),
-    (TABLE + "SELECT tag FROM texts WHERE tag = 'ZH-hant';", "zh-Hant"),
+    (TABLE + "CREATE INDEX forms ON texts (langtag_canonical(tag), langtag_part(tag, 'script'), langtag_is_valid(tag), langtag_matches_basic('de', tag)); SELECT 1;", "1"),
     (TABLE + "SELECT group_concat(tag) FROM (SELECT tag FROM texts ORDER BY tag);", "de,zh-Hant,zh,"),
-    (TABLE + "SELECT group_concat(tag) FROM (SELECT tag FROM texts ORDER BY lower(tag));", ",de,zh,zh-Hant"),
     (TABLE + "INSERT OR IGNORE INTO texts VALUES ('DE'); SELECT count(*) FROM texts;", "4"),
 ]
 

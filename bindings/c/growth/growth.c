@@ -1,5 +1,4 @@
 /* Measures how the instructions of each function of the C library grow with its text. */
-#include "../functions.h"
 #include "growth.h"
 #include <langtag.h>
 
@@ -37,11 +36,12 @@ static const langtag_prepared_tag *site_of(const char *bytes, size_t size) {
 }
 
 #define OF_ONE(name) FUNCTION(name, result = (uint64_t)langtag_##name(text, len))
-LANGTAG_OF_ONE(OF_ONE)
+OF_ONE(kind) OF_ONE(base_len) OF_ONE(viable_len) OF_ONE(stop_len) OF_ONE(is_locale) OF_ONE(is_canonical) OF_ONE(is_right_to_left)
+OF_ONE(grandfathered) OF_ONE(range_kind)
 #define OF_TWO(name) FUNCTION(name, result = (uint64_t)langtag_##name(text, len, other, len))
-LANGTAG_OF_TWO(OF_TWO)
+OF_TWO(eq) OF_TWO(cmp) OF_TWO(distance) OF_TWO(matches_basic) OF_TWO(matches_extended)
 #define FORM(name) FUNCTION(name, result = langtag_##name(text, len, buffer, sizeof buffer))
-LANGTAG_FORMS(FORM)
+FORM(extensions_form) FORM(locale_form) FORM(canonical) FORM(maximized) FORM(minimized) FORM(parent) FORM(from_posix) FORM(to_posix)
 FUNCTION(nth_parent, result = langtag_nth_parent(text, len, UINT32_MAX, buffer, sizeof buffer)) /* the whole chain */
 FUNCTION(parse, result = langtag_parse(text, len, &parts))
 FUNCTION(refused, result = langtag_refused(text, len, &found, &offset))
@@ -86,9 +86,6 @@ FUNCTION(with_keyword, result = langtag_with_keyword(text, len, "zz", 2, "bbb", 
                                 langtag_with_keyword("de", 2, "zz", 2, text + 3, len - 3, buffer, sizeof buffer))
 FUNCTION(without_keyword, result = langtag_without_keyword(text, len, "zz", 2, buffer, sizeof buffer))
 
-#define ENTRY(name) {#name, name},
-static const struct function functions[] = {LANGTAG_FUNCTIONS(ENTRY){"best_of_tags", best_of_tags}};
-
 /* The choice for a header that names one range again and again, among the first tags of a site: ten languages, each with many regions.
  * Every second tag has private use. */
 #define MOST_TAGS 1000
@@ -110,8 +107,8 @@ static void write_site(void) {
     }
 }
 
-FUNCTION(best_of_list, result = langtag_best_for_header(text, len, site_text, sizeof site_text, site_spans, site_count))
-FUNCTION(best_of_site, result = langtag_site_best_for_header(text, len, site_text, sizeof site_text, site, site_count))
+static void best_of_list(void) { result = langtag_best_for_header(text, len, site_text, sizeof site_text, site_spans, site_count); }
+static void best_of_site(void) { result = langtag_site_best_for_header(text, len, site_text, sizeof site_text, site, site_count); }
 
 static void count_choices(void) {
     static const char *const ranges[] = {"x", "und", "aaaa", "i", "xx", "cmn"};
@@ -127,7 +124,7 @@ static void count_choices(void) {
 }
 
 int main(void) {
-    count(functions, sizeof functions / sizeof *functions);
+    count();
     count_choices();
     return 0;
 }

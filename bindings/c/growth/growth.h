@@ -58,8 +58,13 @@ struct function {
     void (*call)(void);
 };
 
+static struct function functions[100];
+static size_t function_count;
+
+/* Defines a function, and puts it into the list before main begins. */
 #define FUNCTION(name, ...)                                                                                            \
-    static void name(void) { __VA_ARGS__; }
+    static void name(void) { __VA_ARGS__; }                                                                            \
+    __attribute__((constructor)) static void add_##name(void) { functions[function_count++] = (struct function){#name, name}; }
 
 /* Writes keys of u, which are a letter or digit and then a letter, in descending order. Returns how many bytes they take. */
 static size_t write_keys(char *to, size_t keys) {
@@ -97,12 +102,12 @@ static void count_call(struct function function, const char *shape, size_t times
 }
 
 /* Calls each function with each text. Each text is written only once, since that takes longer than most calls. */
-static void count(const struct function *functions, size_t number) {
+static void count(void) {
     static char written[sizeof text];
     for (size_t shape = 0; shape < sizeof shapes / sizeof *shapes; shape++) {
         for (size_t times = 1; times <= 2; times++) {
             len = write_shape(written, shape, times * (shapes[shape].bytes ? shapes[shape].bytes : (size_t)BYTES));
-            for (size_t function = 0; function < number; function++) {
+            for (size_t function = 0; function < function_count; function++) {
                 memcpy(text, written, len);
                 memcpy(other, written, len);
                 count_call(functions[function], shapes[shape].name, times);

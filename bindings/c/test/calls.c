@@ -64,25 +64,31 @@ static const char *name_of_kind(uint32_t kind) {
 }
 
 static void put_repeats(text *to, text from) {
-    langtag_repeated repeated;
+    langtag_repeated repeated = {{1, 2}, {1, 2}}; /* the call does not read an out argument */
     uint32_t answer = langtag_repeats(from.at, from.len, &repeated);
     if (answer & LANGTAG_REPEATED_VARIANT) {
         put_part(to, "\n  repeated_variant", from, repeated.variant);
         put_number(to, "\n  at_variant", repeated.variant.start);
-    }
+    } else if (repeated.variant.len != 0) put_word(to, " with a variant");
     if (answer & LANGTAG_REPEATED_SINGLETON) {
         put_part(to, "\n  repeated_singleton", from, repeated.singleton);
         put_number(to, "\n  at_singleton", repeated.singleton.start);
-    }
+    } else if (repeated.singleton.len != 0) put_word(to, " with a singleton");
 }
 
 OF_ONE(tag, a) {
+    static const langtag_parts none;
     langtag_parts parts;
     langtag_span rest, extension;
     char hash[32];
+    memset(&parts, 0xaa, sizeof parts); /* the call does not read an out argument */
     uint32_t kind = langtag_parse(a.at, a.len, &parts);
     put_word(to, " "), put_word(to, name_of_kind(kind));
-    if (kind == LANGTAG_NONE) return;
+    if ((kind == LANGTAG_NONE || kind == LANGTAG_IRREGULAR) && memcmp(&parts, &none, sizeof none) != 0) put_word(to, " with parts");
+    if (kind == LANGTAG_NONE) {
+        put_repeats(to, a);
+        return;
+    }
     put_part(to, "\n  language", a, parts.language);
     put_part(to, "\n  script", a, parts.script);
     put_part(to, "\n  region", a, parts.region);

@@ -16,37 +16,12 @@
 
 /* ---- langtag_parse and langtag_kind, langtag_repeats, langtag_suggestion, langtag_with_part */
 
-static langtag_parts parts;
-static uint32_t parse(const char *text, size_t len) {
-    memset(&parts, 0xaa, sizeof parts);
-    return langtag_parse(text, len, &parts);
-}
-
-static bool all_are_zero(void) {
-    static const langtag_parts none;
-    return memcmp(&parts, &none, sizeof none) == 0;
-}
-
-/* Texts without parts. The rows have the ends of the parts of other tags. */
+/* Texts of which no byte is read. */
 static void edges(void) {
-    CHECK(parse(TEXT("I-KLINGON")) == LANGTAG_IRREGULAR && all_are_zero());
-    CHECK(parse(TEXT("en_US")) == LANGTAG_NONE && all_are_zero());
-    CHECK(parse(TEXT("")) == LANGTAG_NONE && all_are_zero());
-    CHECK(parse((const char *)1, 0) == LANGTAG_NONE); /* no byte is read */
+    langtag_parts parts;
+    CHECK(langtag_parse((const char *)1, 0, &parts) == LANGTAG_NONE);
     CHECK(langtag_kind((const char *)(size_t)-1, 0) == LANGTAG_NONE);
     CHECK(langtag_bytes(NULL) != NULL && langtag_bytes(&parts) == (const char *)&parts);
-    CHECK(langtag_kind(langtag_bytes(NULL), 0) == LANGTAG_NONE);
-}
-
-/* What a call writes whatever it returns. */
-static void written_always(void) {
-    static const char *const texts[] = {"", "en_US", "de", "i-klingon", "de-1996-u-co-phonebk", "de-1996-1996"};
-    for (size_t k = 0; k < sizeof texts / sizeof *texts; k++) {
-        langtag_repeated repeated;
-        memset(&repeated, 0xaa, sizeof repeated);
-        bool is_repeated = langtag_repeats(texts[k], strlen(texts[k]), &repeated) == LANGTAG_REPEATED_VARIANT;
-        CHECK(is_repeated == (k == 5) && repeated.variant.len == (is_repeated ? 4 : 0) && repeated.singleton.len == 0);
-    }
 }
 
 /* 2 MB of variants, without a repeated one and with one. The time is quadratic, so the test that runs under valgrind has fewer. */
@@ -93,15 +68,9 @@ static void other_parts(void) {
 
 /* ---- langtag_eq, langtag_cmp and langtag_hash */
 
-/* A published vector of FNV-1a 64, whole and in two pieces. The rows have hashes of tags. */
+/* A published vector of FNV-1a 64, in two pieces. The rows have hashes of whole tags. */
 static void hashes(void) {
-    CHECK(langtag_hash(LANGTAG_HASH, TEXT("FooBar")) == UINT64_C(0x85944171f73967e8));
     CHECK(langtag_hash(langtag_hash(LANGTAG_HASH, TEXT("foo")), TEXT("BAR")) == UINT64_C(0x85944171f73967e8));
-}
-
-static void overlapping_texts(void) {
-    const char *same = "en-US";
-    CHECK(langtag_eq(same, 5, same, 5) && langtag_cmp(same, 2, same, 5) == 1);
 }
 
 /* ---- langtag_fold */
@@ -165,12 +134,10 @@ int main(int argc, char **argv) {
     run_rows(argc, argv);
     if (argc > 1 && strcmp(argv[1], "--answer") == 0) return failures != 0;
     edges();
-    written_always();
     many_variants();
     whole_numbers();
     long_codes();
     other_parts();
-    overlapping_texts();
     hashes();
     any_bytes();
     empty_subtags();

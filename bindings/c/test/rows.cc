@@ -59,6 +59,7 @@ template <class Ask> static answer of_both(Ask ask) {
         return one ? alike(ask(*one), ask(langtag::owned_tag(*one))) : "-";
     };
 }
+#define OF_BOTH(call) of_both([](const auto &one) { return one.call(); })
 template <class Ask> static answer of_text(Ask ask) {
     return [=](const strings &asked) { return shown(ask(asked[0])); };
 }
@@ -106,7 +107,7 @@ static std::string tag_of(const strings &asked) {
     const langtag::owned_tag copy(*one), moved(std::move(*owned));
     out += parts_of(*one);
     if (parts_of(moved.view()) != parts_of(*one) || parts_of(copy.view()) != parts_of(*one)) out += "\n  owned ones have others";
-    if (moved.text() != asked[0] || copy != moved || moved.view().kind() != one->kind()) out += "\n  owned ones are others";
+    if (moved.text() != asked[0] || copy != moved || moved.kind() != one->kind()) out += "\n  owned ones are others";
     const std::string folded = langtag::folded(asked[0]);
     char hash[32];
     std::snprintf(hash, sizeof hash, "\n  hash %016llx", static_cast<unsigned long long>(one->fnv1a()));
@@ -127,7 +128,7 @@ static std::string validity_of(const strings &asked) {
     const auto one = tag::parse(asked[0]);
     if (!one) return "none";
     const auto wrong = one->invalid_subtag();
-    if (one->is_valid() != !wrong) return "is_valid says otherwise";
+    if (one->is_valid() != !wrong || langtag::owned_tag(*one).is_valid() != !wrong) return "is_valid says otherwise";
     if (!wrong) return "valid";
     const std::string subtag(wrong->subtag), at = " " + std::to_string(wrong->start) + " " + subtag;
     if (wrong->subtag.data() != one->text().data() + wrong->start) return "another offset than" + at;
@@ -147,7 +148,9 @@ static std::string suggestion_of(const tag &one) {
 static std::string canonical_of(const tag &one) {
     const std::string form = one.canonical();
     const auto same = tag::parse(form);
+    const langtag::owned_tag owned(one);
     const bool agrees = same && same->is_canonical() && one.is_canonical() == (one == *same);
+    if (owned.canonical() != form || owned.is_canonical() != one.is_canonical()) return "an owned tag has another";
     return agrees ? form : form + ", and is_canonical says otherwise";
 }
 
@@ -380,9 +383,9 @@ static const std::map<std::string, answer> answers = {
     {"edit", edit_of}, {"header", of_list(header_of)}, {"ranges", of_list(ranges_of)}, {"elements", elements_of}, {"refused", refused_of},
     {"parents", of_tag(parents_of)}, {"best", of_list(best_of)}, {"best-ranges", of_list(best_of_ranges)}, {"best-accepted", of_list(best_of_accepted)},
     {"best-match", of_list(best_match_of)}, {"suitable", of_list(suitable_of)}, {"with-keyword", with_keyword_of},
-    {"maximized", of_tag(&tag::maximized)}, {"minimized", of_tag(&tag::minimized)}, {"right-to-left", of_tag(&tag::is_right_to_left)},
-    {"extensions-form", of_tag(&tag::extensions_form)}, {"base", of_tag(&tag::base)}, {"is-locale", of_tag(&tag::is_locale, "no")},
-    {"locale-form", of_both([](const auto &one) { return one.locale_form(); })},
+    {"maximized", OF_BOTH(maximized)}, {"minimized", OF_BOTH(minimized)}, {"right-to-left", OF_BOTH(is_right_to_left)},
+    {"extensions-form", OF_BOTH(extensions_form)}, {"base", of_tag(&tag::base)}, {"is-locale", of_tag(&tag::is_locale, "no")},
+    {"locale-form", OF_BOTH(locale_form)},
     {"keywords", of_tag(keywords_of)}, {"attributes", of_tag(attributes_of)}, {"transform", of_tag(transform_of)},
     {"describe", of_both([](const auto &one) { return langtag::describe(one); })}, {"autonym", of_both([](const auto &one) { return langtag::autonym(one); })},
     {"posix", of_text(langtag::from_posix)}, {"posix-name", of_tag(posix_name_of)},

@@ -2,6 +2,7 @@
 #include <langtag.hpp>
 
 #include <cstdio>
+#include <iomanip>
 #include <map>
 #include <set>
 #include <sstream>
@@ -132,10 +133,6 @@ static void check_lookups() {
     CHECK(owners.find(*one)->second == 2 && owners.find(owned)->second == 2 && owners.count("zh-Han") == 0 && owners.count("") == 0);
     CHECK(views.find("DE")->second == 0 && views.find(owned)->second == 2 && views.count(std::string("d")) == 0);
     CHECK(owners.lower_bound("zh-a")->second == 2 && owned == *one && *one == owned && owned < "zh" && "zh" > owned && *one <= owned && !(owned != *one));
-    CHECK(owned.is_valid() && owned.is_canonical() && owned.kind() == langtag::kind::normal && !owned.is_right_to_left());
-    const auto other = *langtag::owned_tag::parse("iw-FQ");
-    CHECK(!other.is_valid() && !other.is_canonical() && other.is_right_to_left() && other.canonical() == "he-FQ");
-    CHECK(owned.maximized() == "ZH-hant-TW" && owned.minimized() == "ZH-TW" && !langtag::owned_tag::parse("qt")->is_valid());
 }
 
 static void check_likely() {
@@ -164,7 +161,6 @@ static void check_lists() {
     CHECK(langtag::best_for_header(header, std::set<std::string_view>{"en", "zh-Hant"}) == "zh-Hant");
     const char *const literals[] = {"en", "zh-HK"};
     CHECK(langtag::best_for_header(header, literals) == "zh-HK" && langtag::accept_language(header).best(literals) == "zh-HK");
-    CHECK(langtag::best_for_ranges({"fi", "", "*", "en;q=0", "de,de", "*-AT", "de-*AT", "en-*-*-GB", "de"}, owners) == "en");
     CHECK(!langtag::best_for_ranges({}, owners) && !langtag::best_for_ranges({"de,de", "de-*AT"}, owners));
     const std::vector<langtag::range> ranges = {*langtag::range::parse("*-CH"), *langtag::range::parse("de-*-CH")};
     CHECK(langtag::best_for_ranges(ranges, owners) == "de" && langtag::best_for_ranges(std::vector<std::string>{"de_CH"}, {"fr", "de"}) == "de");
@@ -172,8 +168,8 @@ static void check_lists() {
 
 static void check_written() {
     std::ostringstream out;
-    out << *tag::parse("de-CH") << ' ' << *langtag::owned_tag::parse("x-a");
-    CHECK(out.str() == "de-CH x-a");
+    out << std::setw(7) << *tag::parse("de-CH") << std::setw(5) << *langtag::owned_tag::parse("x-a");
+    CHECK(out.str() == "  de-CH  x-a");
 #ifdef __cpp_lib_format
     CHECK(std::format("{} {:>6}|", *tag::parse("de-CH"), *langtag::owned_tag::parse("x-a")) == "de-CH    x-a|");
 #endif

@@ -223,19 +223,19 @@ function answerEdit(text, name, given) {
     return found;
 }
 
-function withKeywords(tag, keywords) {
+function withKeywords(tag, key, value, keywords) {
     const error = refusal(EditError, () => tag.with({ keywords }));
     if (!error) return String(tag.with({ keywords }));
     assert(error.text === undefined || error.message.includes(`\` is not a ${error.part} of `), error.message);
-    assert((error.part === "keywords") === (error.text === undefined), "its text");
+    assert(error.text === { key, value, keywords: undefined }[error.part], "its text");
     return { key: "bad key", value: "bad value", keywords: "no parts" }[error.part];
 }
 
 /** Sets the keyword by a Map, and by an object together with two other keywords, which must not change what is refused. */
 function answerWithKeyword(text, key, given) {
     const tag = LanguageTag.parse(text), value = given === "-" ? null : given;
-    const found = withKeywords(tag, new Map([[key, value]]));
-    const more = withKeywords(tag, { "0a": "before", [key]: value, "0b": "" });
+    const found = withKeywords(tag, key, value, new Map([[key, value]]));
+    const more = withKeywords(tag, key, value, { "0a": "before", [key]: value, "0b": "" });
     assert(tag.text === text, "the tag stays");
     if (LanguageTag.canParse(found) && value !== null) {
         assert(LanguageTag.parse(more).equals(LanguageTag.parse(found).with({ keywords: { "0a": "before", "0b": "" } })), "with other keywords");

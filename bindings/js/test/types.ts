@@ -53,27 +53,14 @@ const named: LanguageTag = tag.localeForm();
 // @ts-expect-error a script may be absent
 const certain: string = tag.script;
 
-// Without the last argument, a choice may return undefined.
-// @ts-expect-error no tag may be suitable
-const chosenForHeader: string = bestForHeader("fi", ["de"]);
-// @ts-expect-error no tag may be suitable
-const chosenForRanges: string = bestForRanges(["fi"], ["de"]);
-// @ts-expect-error no tag may be found
-const foundForHeader: string = tagForHeader("fi", ["de"]);
-// @ts-expect-error no tag may be found
-const foundLeniently: string = tagForHeaderLenient("fi", ["de"]);
-// @ts-expect-error no tag may be found
-const foundForRanges: string = lookUp(["fi"], ["de"]);
-// @ts-expect-error no tag may be suitable
-const chosenForAccepted: string = AcceptLanguage.parse("fi").best(["de"]);
-// @ts-expect-error no tag may be found
-const foundForAccepted: string = AcceptLanguage.parse("fi").lookUp(["de"]);
-// @ts-expect-error no tag may be suitable
-const chosenOfSite: "de" = new Site(["de"] as const).bestForHeader("fi");
-// @ts-expect-error no tag may be suitable
-const chosenOfRanges: "de" = new Site(["de"] as const).bestForRanges(["fi"]);
-// @ts-expect-error no tag may be suitable
-const matchOfSite: number = new Site(["de"]).matchForHeader("fi").index;
+// Without the last argument, each choice may return undefined.
+const choices = [
+    bestForHeader("fi", ["de"]), bestForRanges(["fi"], ["de"]), tagForHeader("fi", ["de"]), tagForHeaderLenient("fi", ["de"]), lookUp(["fi"], ["de"]),
+    AcceptLanguage.parse("fi").best(["de"]), AcceptLanguage.parse("fi").lookUp(["de"]), new Site(["de"] as const).bestForHeader("fi"),
+    new Site(["de"] as const).bestForRanges(["fi"]), new Site(["de"]).matchForHeader("fi")?.index,
+] as const;
+type MayFail<Choices> = { [Place in keyof Choices]: undefined extends Choices[Place] ? true : false };
+const mayFail: MayFail<typeof choices> = [true, true, true, true, true, true, true, true, true, true];
 // @ts-expect-error a site does not change
 site.tags[0] = "fr";
 function language(header: string | undefined): string {

@@ -151,15 +151,9 @@ def dumped(database):
 
 class Dump(unittest.TestCase):
     def test_dump_and_restore(self):
-        self.restored("public")
-
-    def test_dump_and_restore_of_another_schema(self):
-        self.restored("ext")
-
-    def restored(self, schema):
+        """The extension is in a schema of its own, which is not in the path of the one that restores."""
         server.fresh("dumped")
-        if schema != "public":
-            server.lines(f"CREATE SCHEMA {schema}; ALTER EXTENSION langtag SET SCHEMA {schema}; ALTER DATABASE dumped SET search_path = public, {schema}", "dumped")
+        server.lines("CREATE SCHEMA ext; ALTER EXTENSION langtag SET SCHEMA ext; ALTER DATABASE dumped SET search_path = public, ext", "dumped")
         server.lines("""CREATE TABLE t (tag langtag PRIMARY KEY, ranges langtag_range[], area langtag_part DEFAULT 'DE', what langtag_kind,
                 form langtag GENERATED ALWAYS AS (canonical(tag)) STORED, CHECK (is_valid(tag)));
             INSERT INTO t (tag, ranges, what) VALUES ('ZH-hant', '{*-CH,de}', 'normal'), ('iw', NULL, NULL), ('x-a', '{}', 'private-use');
@@ -179,4 +173,4 @@ class Dump(unittest.TestCase):
         for name in ("by_plain", "by_custom"):
             self.assertEqual(dumped(name), plain)
         self.assertIn("zh-Hant", plain)
-        self.assertEqual(server.lines(f"SET search_path = public, {schema}; SELECT tag, form FROM t ORDER BY tag", "by_custom"), ["iw|he", "x-a|x-a", "zh-Hant|zh-Hant"])
+        self.assertEqual(server.lines("SET search_path = public, ext; SELECT tag, form FROM t ORDER BY tag", "by_custom"), ["iw|he", "x-a|x-a", "zh-Hant|zh-Hant"])

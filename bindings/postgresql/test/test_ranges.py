@@ -21,12 +21,10 @@ KEEP = {"SET enable_seqscan = off; SET enable_bitmapscan = off; SET enable_index
         "SET enable_indexscan = off; SET enable_indexonlyscan = off; SET enable_bitmapscan = off;": "Seq Scan"}
 
 
-def basic(range, tag):
-    return random_rows.match(range.encode(), tag.encode()) in ("both", "basic")
-
-
-def extended(range, tag):
-    return random_rows.match(range.encode(), tag.encode()) in ("both", "extended")
+def matches(range, tag):
+    """Returns whether a range matches a tag by basic and by extended filtering."""
+    found = random_rows.match(range.encode(), tag.encode())
+    return found in ("both", "basic"), found in ("both", "extended")
 
 
 def some_tags(random):
@@ -59,12 +57,11 @@ class Ranges(unittest.TestCase):
     def setUpClass(cls):
         cls.random = random.Random(3)
         server.fresh("ranges")
-        given = [tag for tag in some_tags(cls.random)]
-        server.lines("CREATE TABLE t (tag langtag); CREATE TEMP TABLE raw (t text); COPY raw FROM STDIN;\n" + "\n".join(given) + "\n\\.\n"
+        server.lines("CREATE TABLE t (tag langtag); CREATE TEMP TABLE raw (t text); COPY raw FROM STDIN;\n" + "\n".join(some_tags(cls.random)) + "\n\\.\n"
                      "INSERT INTO t SELECT DISTINCT t::langtag FROM raw WHERE is_langtag(t); CREATE INDEX t_tag ON t (tag); VACUUM ANALYZE t;", "ranges")
         cls.tags = server.lines("SELECT tag FROM t", "ranges")
         cls.ranges = some_ranges(cls.random, cls.tags)
-        cls.wanted = {range: (sum(basic(range, tag) for tag in cls.tags), sum(extended(range, tag) for tag in cls.tags)) for range in cls.ranges}
+        cls.wanted = {range: tuple(map(sum, zip(*(matches(range, tag) for tag in cls.tags)))) for range in cls.ranges}
 
     def test_scans(self):
         for setting, scan in KEEP.items():
@@ -88,7 +85,7 @@ class Ranges(unittest.TestCase):
     def test_which_tags(self):
         """Compares the tags themselves, and not only their number."""
         for range in self.ranges[::10]:
-            wanted = sorted(tag for tag in self.tags if extended(range, tag))
+            wanted = sorted(tag for tag in self.tags if matches(range, tag)[1])
             self.assertEqual(sorted(server.lines(f"SET enable_seqscan = off; SELECT tag FROM t WHERE tag ~ {server.quoted(range)}", "ranges")), wanted)
 
     def test_order(self):
