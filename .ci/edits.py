@@ -1,11 +1,12 @@
 """The wrong bodies of crates/*/must-fail, and the record of what was seen of each: .ci/wrong_bodies.txt.
 
-A line of the record has the name of a wrong body, then a hash and how the prover refused the body, then a hash and what shows that the body is wrong.
-Each hash covers what the result depends on. A wrong body is tried again if a hash differs, or if the commit chooses it: a false line of the
-refusal is found by one run in 20.
+A line of the record has the name of a wrong body, then a hash and how the prover refused the body, then a hash and the tests that show
+that the body is wrong. Each hash covers what the result depends on. A wrong body is tried again if a hash differs, or if the commit
+chooses it: a false line of the refusal is found by one run in 20.
 """
 import functools
 import hashlib
+import itertools
 import re
 import shutil
 import subprocess
@@ -14,9 +15,10 @@ import sys
 from items import CRATES, ROOT, File, file_of, origin_of, page_of, words_of
 
 RECORD, SHOWN = ROOT / ".ci/wrong_bodies.txt", ROOT / ".ci/shown.txt"
-HEAD = """# A line for each wrong body: its name | a hash, and how it was refused | a hash, and what shows that it is wrong (.ci/edits.py).
+HEAD = """# The wrong bodies of each crate: name, hash, how it was refused, hash, and which tests show that it is wrong (.ci/edits.py).
 # .ci/wrong-bodies and .ci/shown write it. They were refused by the prover with the logic {}.
 """
+NOTHING = ["-", "-"]  # instead of a hash and a result
 SHARES = 20, 200  # of how many commits one tries a result that is known: of a refusal, which is cheap in a batch, and of a test
 PAGE = re.compile(r"\bRattle\.(langtag\w*)\.specs\.(declared\.)?(\w+)")
 
@@ -86,7 +88,7 @@ class Edit:
         for place in self.places:
             file, _, key = place.partition("::")
             all_items = file_of(next((CRATES / self.crate / "src").glob(f"**/{file}.rt"))).items
-            found += [item for name, item in all_items.items() if name in (key, f"{key.rpartition('::')[2]}")] or \
+            found += [item for name, item in all_items.items() if name in (key, key.rpartition("::")[2])] or \
                 [item for name, item in all_items.items() if " for " in name and re.sub(r"<.*?>", "", "".join(reversed(name.split(" for ")))) == key.rpartition("::")[0]]
         return found or sys.exit(f"{self.path}: there is no {' or '.join(self.places)}")
 
@@ -108,9 +110,7 @@ def traits():
 
 def trait_of(item):
     """Returns the words of the trait if the item is its impl."""
-    words = all_words(item)
-    head = words[: words.index("for")] if "for" in words else []
-    return next((traits()[word] for word in head if word in traits()), []) if "impl" in head[:1] else []
+    return traits().get(re.match(r"\w+", item.key)[0], []) if " for " in item.key else []
 
 
 def proofs_of(item):
@@ -124,25 +124,11 @@ def proofs_of(item):
 def definitions(items):
     """Returns what items import, and a hash of each page with definitions that they name, and of each page below these."""
     named = sorted(imported(items))
-    pages, more = set(), {page for path in named for page in pages_for(path)}
+    pages, more = set(), pages_for(named)
     while more:
         pages |= more
-        more = {below for page in more for below in pages_below(*page)} - pages
-    return [*named, *(defined_by(*page) for page in sorted(pages))]
-
-
-def pages_for(path):
-    """Returns the page that a path names."""
-    return PAGE.findall(origin_of(path))[:1]
-
-
-@functools.cache
-def pages_below(crate, declared, name):
-    """Returns the pages that a page needs: those of the names that it uses, or all that it imports if it only passes names on."""
-    text, words = text_of(crate, declared, name), defined_words(crate, declared, name)
-    if declared:
-        return {page for path in imported(declared_items(crate, name)) for page in pages_for(path)}
-    return {page for name, path in origins(text) if name in words for page in pages_for(path)} if words else {*PAGE.findall(text)}
+        more = {below for page in more for below in Page.at(page).below} - pages
+    return [*named, *(Page.at(page).hash for page in sorted(pages))]
 
 
 def imported(items):
@@ -150,34 +136,32 @@ def imported(items):
     return {item.imports[ghost].get(word, "") for item in items for ghost in (False, True) for word in all_words(item)}
 
 
-@functools.cache
-def declared_items(crate, name):
-    """Returns the types and constants of a source."""
-    items = File(CRATES / crate / "src" / f"{name}.rt", text_of(crate, "declared.", name)).items.values()
-    return [item for item in items if item.kind == "type" or item.pieces[-1].name == "value"]
+def pages_for(paths):
+    """Returns the pages that paths name."""
+    return {page for path in paths for page in PAGE.findall(origin_of(path))[:1]}
 
 
-@functools.cache
-def text_of(crate, declared, name):
-    """Returns the text of a page of definitions, or of a source that declares types."""
-    found = next((CRATES / crate / "src").glob(f"**/{name}.rt"), None) if declared else page_of(crate, name)
-    return found.read_text() if found and found.is_file() else ""
+class Page:
+    """A page of definitions, or the types and constants of a source: a hash of its words, without imports and comments, and the
+    pages that it needs. These are those of the names that it uses, or all that it imports if it only passes names on."""
 
+    def __init__(self, crate, declared, name):
+        path = next((CRATES / crate / "src").glob(f"**/{name}.rt"), None) if declared else page_of(crate, name)
+        if declared:
+            items = [it for it in (file_of(path).items.values() if path else ()) if it.kind == "type" or it.pieces[-1].name == "value"]
+            self.hash, self.below = digest(*(word for item in items for word in all_words(item))), pages_for(imported(items))
+            return
+        text = path.read_text() if path.is_file() else ""
+        words = words_of(re.sub(r"(?m)^(?:unfoldable |pub )*use .*", "", text), is_page=True)
+        used = sorted(it for it in origins(text) if it[0] in words)
+        # A name can mean another definition without a change of these words.
+        self.hash = digest(*words, *map(" ".join, used))
+        self.below = pages_for(path for _, path in used) if words else {*PAGE.findall(text)}
 
-@functools.cache
-def defined_words(crate, declared, name):
-    """Returns the words of a page's definitions, without imports and comments. A source that declares types has none."""
-    return () if declared else tuple(words_of(re.sub(r"(?m)^(?:unfoldable |pub )*use .*", "", text_of(crate, declared, name)), is_page=True))
-
-
-@functools.cache
-def defined_by(crate, declared, name):
-    """Returns a hash of a page's definitions, or of a source's types, without imports and comments."""
-    if declared:
-        return digest(*(word for item in declared_items(crate, name) for word in all_words(item)))
-    text, words = text_of(crate, declared, name), defined_words(crate, declared, name)
-    # A name can mean another definition without a change of these words.
-    return digest(*words, *sorted(f"{name} {origin}" for name, origin in origins(text) if name in words))
+    @staticmethod
+    @functools.cache
+    def at(page):
+        return Page(*page)
 
 
 def origins(text):
@@ -204,34 +188,36 @@ def logic():
     return ran.split()[-1] if ran else ""
 
 
-HASHES = (Edit.of_refusal, Edit.of_shown)
+def hash_of(edit, which, result):
+    return (Edit.of_refusal, Edit.of_shown)[which](edit, result)[:8]
 
 
 class Record:
-    """The record: by the name of a wrong body, `of_refusal`'s hash, how it was refused, `of_shown`'s hash, and what shows it. What another
-    prover refused does not count."""
+    """The record: by the name of a wrong body, its refusal and what shows it, each as a hash and a word. What another prover refused does
+    not count."""
 
     def __init__(self):
-        lines = RECORD.read_text().splitlines() if RECORD.is_file() else []
-        self.logic = next((line.rstrip(".").split()[-1] for line in lines if " the logic " in line), "")
-        rows = [re.split(r" \| ", line, maxsplit=2) for line in lines if not line.startswith("#")]
-        self.seen = {name: [(it.split(" ", 1) + [""])[:2] for it in results] for name, *results in rows}
+        text = RECORD.read_text() if RECORD.is_file() else ""
+        self.logic = (re.findall(r" the logic (\w*)", text) or [""])[0]
+        crates = ((crate, lines.splitlines()) for crate, lines in re.findall(r"(?m)^(\w+):\n((?:\w+ .*\n)*)", text))
+        self.seen = {f"{crate}/{name}": [words[:2], words[2:]] for crate, lines in crates for name, *words in map(str.split, lines)}
         if (now := logic()) and now != self.logic:
             self.logic = now
-            for results in self.seen.values():
-                results[0] = ["", ""]
+            self.seen = {name: [NOTHING, shown] for name, (_, shown) in self.seen.items()}
 
     def result(self, edit, which):
         """Returns how an edit was refused (`which` is 0) or shown (1), or an empty text if no result has the hash of what stands."""
-        found, result = self.seen.get(edit.name, [["", ""], ["", ""]])[which]
-        return result if found and found == HASHES[which](edit, result) else ""
+        found, result = self.seen.get(edit.name, [NOTHING, NOTHING])[which]
+        return result if found == hash_of(edit, which, result) else ""
 
     def write(self, all_edits, which, results):
         """Writes new results, and leaves out the lines of wrong bodies that are gone."""
         for edit, result in results.items():
-            self.seen.setdefault(edit.name, [["", ""], ["", ""]])[which] = [HASHES[which](edit, result), result] if result else ["", ""]
-        kept = {it.name for it in all_edits} & self.seen.keys()
-        RECORD.write_text(HEAD.format(self.logic) + "".join(f"{name} | {' | '.join(' '.join(it).strip() for it in self.seen[name])}\n" for name in sorted(kept)))
+            self.seen.setdefault(edit.name, [NOTHING, NOTHING])[which] = [hash_of(edit, which, result), result] if result else NOTHING
+        kept, text = sorted({it.name for it in all_edits} & self.seen.keys()), HEAD.format(self.logic)
+        for crate, names in itertools.groupby(kept, key=lambda name: name.partition("/")[0]):
+            text += f"{crate}:\n" + "".join(" ".join([name.removeprefix(f"{crate}/"), *sum(self.seen[name], [])]) + "\n" for name in names)
+        RECORD.write_text(text)
 
 
 def turn(shares):
@@ -240,15 +226,11 @@ def turn(shares):
     return int(ran.stdout.strip() or "0", 16) % shares
 
 
-def share(edits, shares):
-    """Returns one of the shares of some edits, which stand together, so that few crates are proved for them."""
-    chosen = turn(shares)
-    return edits[len(edits) * chosen // shares : len(edits) * (chosen + 1) // shares]
-
-
 def left_to_try(edits, which, again=False):
-    """Returns the edits that have to be tried: all that have changed, and a share of the others."""
-    record = Record()
-    others = [it for it in edits if record.result(it, which)]
-    tried = {*edits} - {*others} | {*(others if again else share(others, SHARES[which]))}
-    return [it for it in edits if it in tried]
+    """Returns the edits that have to be tried: all that have changed, and a share of the others. It stands together, so that few crates are
+    proved for it."""
+    record, shares = Record(), SHARES[which]
+    known = [it for it in edits if record.result(it, which)]
+    first, last = (len(known) * (turn(shares) + more) // shares for more in (0, 1))
+    left = {*known} - {*known[first:last]}
+    return [it for it in edits if again or it not in left]
