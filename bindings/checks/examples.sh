@@ -29,6 +29,8 @@ sqlite_version() { sqlite3 :memory: ".load $work/built/sqlite_langtag" "SELECT l
 if ! lacks "SQLite: the extension" 'has sqlite3' "there is no sqlite3" 'has_header sqlite3ext.h' "the headers of SQLite are not installed"; then
     check "SQLite: the extension builds" sqlite_extension
     check "SQLite: SQL says the versions of the program" sqlite_version
+    needs 'has valgrind' "there is no valgrind" "SQLite: tags that are kept take less work" \
+        env -C sqlite EXTENSION="$work/built/sqlite_langtag.so" python3 -m unittest test_sqlite.Sqlite.test_work
     check "SQLite: the rows, and what only SQL has, under sanitizers" sqlite_make check CFLAGS="$strict -g -fsanitize=address,undefined -fno-sanitize-recover" \
         SANITIZER="$(cc -print-file-name=libasan.so) $(cc -print-file-name=libubsan.so)"
 fi

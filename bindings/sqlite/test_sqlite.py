@@ -4,6 +4,7 @@ import functools
 import json
 import os
 import re
+import shutil
 import subprocess
 import unittest
 
@@ -12,9 +13,9 @@ import rows
 PARTS = ("language", "script", "region", "variants", "extensions", "private_use")
 
 
-def sqlite(script):
-    """Runs statements with the extension loaded. Returns SQLite's output and its errors."""
-    command = ["sqlite3", ":memory:", "-cmd", f".load {os.environ['EXTENSION']}"]
+def sqlite(script, *under):
+    """Runs statements with the extension loaded, under another program if one is given. Returns SQLite's output and its errors."""
+    command = [*under, "sqlite3", ":memory:", "-cmd", f".load {os.environ['EXTENSION']}"]
     # LD_PRELOAD is the runtime of a sanitizer, if the extension was built with one. SQLite's shell leaks memory itself.
     environment = {**os.environ, "LD_PRELOAD": os.environ.get("SANITIZER", ""), "ASAN_OPTIONS": "detect_leaks=0"}
     run = subprocess.run(command, input=script, capture_output=True, text=True, env=environment)
@@ -59,9 +60,7 @@ def called(function, *given):
 
 def written(function):
     """Returns the statement and the answer of a function that returns a string or NULL."""
-    def answer(said):
-        return "-" if said == "NULL" else bytes_of(said) or "''"
-    return lambda *given: f"SELECT {shown(called(function, *given))}", answer
+    return lambda *given: f"SELECT {shown(called(function, *given))}", lambda said: "-" if said == "NULL" else bytes_of(said) or "''"
 
 
 def answer_tag(said):
@@ -216,9 +215,8 @@ class Sqlite(unittest.TestCase):
     def test_statements(self):
         for statements, said in STATEMENTS:
             self.assertEqual(sqlite(statements), (said + "\n", ""))
-        self.assertIn("no part has that name", sqlite("SELECT langtag_part('de', 'skript');")[1])
-        self.assertIn("no part has that name", sqlite("SELECT langtag_part('de', CAST(X'736372697074002e' AS TEXT));")[1])
-        self.assertIn("no part has that name", sqlite("SELECT langtag_part('de', 'scr');")[1])
+        for name in ("'skript'", "'scr'", "CAST(X'736372697074002e' AS TEXT)"):
+            self.assertIn("no part has that name", sqlite(f"SELECT langtag_part('de', {name});")[1])
         self.assertIn("expected a header or ranges", sqlite("SELECT langtag_best_for_header();")[1])
         for index in ("'x'", "''", "'1x'", "X'31'"):
             self.assertIn("the index is not a number", sqlite(f"SELECT langtag_nth_parent('de', {index});")[1], index)
@@ -232,11 +230,10 @@ class Sqlite(unittest.TestCase):
             self.assertEqual(said, "1\n", name)
             self.assertIn("tag is too long (262145 bytes, limit 262144)", complaint)
 
-    def differing(self, choose, tags, headers="headers"):
-        """Returns the query that counts the headers for which a choice differs from one whose tags SQLite does not keep, because the
-        first is a column."""
+    def differing(self, choose, tags):
+        """Returns the query that counts the headers whose choice differs if SQLite does not keep the tags, because the first is a column."""
         kept, column = ", ".join(tags), ", ".join(["first", *tags[1:]])
-        return f"SELECT count(*) FROM {headers}, firsts WHERE {choose}(header, {kept}) IS NOT {choose}(header, {column});"
+        return f"SELECT count(*) FROM headers, firsts WHERE {choose}(header, {kept}) IS NOT {choose}(header, {column});"
 
     def test_tags_that_are_kept(self):
         """A statement that has the same tags for many rows prepares them once. Its choices are those of a call for each row."""
@@ -248,13 +245,14 @@ class Sqlite(unittest.TestCase):
             script = "".join(f"DROP TABLE IF EXISTS firsts; CREATE TABLE firsts AS SELECT {tags[0]} AS first;" + self.differing(choose, tags) for tags in lists)
             self.assertEqual(sqlite(headers + script), ("0\n" * len(lists), ""))
 
-    def test_time(self):
-        """Tags that are kept take less time."""
-        tags = [f"'{a}{b}'" for a in "eks" for b in "abcdefghijklmnopqrstuvwx"]
-        script = f"CREATE TABLE headers AS WITH RECURSIVE n(k) AS (SELECT 1 UNION ALL SELECT k + 1 FROM n WHERE k < 5000) SELECT 'fil' AS header, {tags[0]} AS first FROM n;\n.timer on\n"
-        script += "".join(f"SELECT count(langtag_best_for_header(header, {first}, {', '.join(tags[1:])})) FROM headers;\n" for first in (tags[0], "first") * 5)
-        took = [float(seconds) for seconds in re.findall(r"user ([0-9.]+)", sqlite(script)[0])]
-        self.assertLess(1.3 * min(took[0::2]), min(took[1::2]))
+    @unittest.skipIf("SANITIZER" in os.environ or not shutil.which("valgrind"), "valgrind counts the instructions of an extension without sanitizers")
+    def test_work(self):
+        """Tags that are kept take fewer instructions."""
+        tags = ", ".join(f"'{a}{b}'" for a in "eks" for b in "abcdefghijklmnopqrstuvwx")
+        script = ("WITH RECURSIVE n(k, header, first) AS (SELECT 1, 'fil', 'ea' UNION ALL SELECT k + 1, header, first FROM n WHERE k < 2000) "
+                  f"SELECT count(langtag_best_for_header(header, {{}}, {tags})) FROM n;")
+        took = [int(re.search(r"Collected : ([0-9]+)", sqlite(script.format(first), "valgrind", "--tool=callgrind", "--callgrind-out-file=/dev/null")[1])[1]) for first in ("'ea'", "first")]
+        self.assertLess(1.5 * took[0], took[1])
 
     def test_tags_that_change(self):
         """Tags that change in a statement are read again: a longer list, other bytes of the same length, NULL, and the same tags later."""
