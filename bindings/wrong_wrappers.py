@@ -245,7 +245,7 @@ langtag.sql.in types: `@module pg_langtag_tag_for_header@`AS 'MODULE_PATHNAME', 
 langtag.sql.in types: (langtag, text) RETURNS langtag @module pg_langtag_{}@`` LEAKPROOF`
 langtag.sql.in types: LANGUAGE internal IMMUTABLE STRICT` LEAKPROOF``
 langtag.sql.in operators: `, FUNCTION 4 btequalimage(oid)`` ;; '`byteane`byteaeq`'
-langtag.sql.in registry: (langtag) RETURNS langtag @`data`module`
+langtag.sql.in types: (langtag) RETURNS langtag @`data`module`
 langtag.sql.in filters: _upper}(langtag_range) RETURNS `langtag_bound`langtag` ;; RESTRICT = `matchingsel`eqsel`
 order.sql.in operators: OPERATOR 1 <`, OPERATOR 2 <=`=, OPERATOR 2 <` ;; `pg_langtag_hash_extended`pg_langtag_hash`@
 order.sql.in operators: `, HASHES, MERGES`` ;; SORTOP = `>`<`

@@ -333,21 +333,22 @@ def answer_name(call):
     return of_tag(lambda tag: alike(call(tag), call(str(tag)), call(str(tag).encode())))
 
 
+# What Tag has by the name of a call, or by `is_` and the name: its method, or the function of its property.
+NAMED = {re.sub("^is_", "", name).replace("_", "-"): getattr(it, "fget", it) for name, it in vars(Tag).items()}
 ANSWERS = {
+    **{call: of_tag(NAMED[call]) for call in rows.CALLS if call in NAMED},
     "describe": answer_name(langtag.describe), "autonym": answer_name(langtag.autonym), "cldr-version": lambda: langtag.CLDR_VERSION,
-    "with-keyword": answer_with_keyword, "extensions-form": of_tag(lambda tag: formed(tag, Tag.extensions_form)), "base": of_tag(lambda tag: tag.base),
+    "with-keyword": answer_with_keyword, "extensions-form": of_tag(lambda tag: formed(tag, Tag.extensions_form)),
     "is-locale": of_tag(lambda tag: tag.is_locale, "no"), "locale-form": of_tag(answer_locale_form),
-    "keyword": of_tag(Tag.keyword), "keywords": of_tag(answer_keywords), "transform": of_tag(answer_transform),
-    "attributes": of_tag(lambda tag: tag.attributes), "refused": answer_refused,
+    "keywords": of_tag(answer_keywords), "transform": of_tag(answer_transform), "refused": answer_refused,
     "fault": of_tag(lambda tag: str(tag.invalid_subtag or "valid").partition(": did you mean ")[0]),
     "message": answer_message, "range-message": lambda text: answer_message(text, Range), "distance": answer_distance,
-    "right-to-left": of_tag(lambda tag: tag.is_right_to_left), "posix": lambda name: shown(outcome(Tag.from_posix, name)[0]), "posix-name": of_tag(answer_posix_name),
+    "posix": lambda name: shown(outcome(Tag.from_posix, name)[0]), "posix-name": of_tag(answer_posix_name),
     "unknown-modifier": lambda name: shown(langtag.unknown_modifier(name)), "best": answer_best, "best-ranges": answer_best_ranges,
     "best-accepted": answer_best_accepted, "best-match": answer_best_match,
     "suitable": lambda header, tags: suitable("suitable_for_header", header, tags),
     "suitable-ranges": lambda ranges, tags: suitable("suitable_for_ranges", ranges.split(), tags),
-    "parents": of_tag(answer_parents), "maximized": of_tag(Tag.maximized), "minimized": of_tag(Tag.minimized),
-    "tag": answer_tag, "scan": answer_scan, "recommended": of_tag(Tag.recommended, None), "validity": of_tag(answer_validity, "none"),
+    "parents": of_tag(answer_parents), "tag": answer_tag, "scan": answer_scan, "recommended": of_tag(Tag.recommended, None), "validity": of_tag(answer_validity, "none"),
     "suggestion": of_tag(lambda tag: tag.invalid_subtag and tag.invalid_subtag.suggestion),
     "canonical": of_tag(answer_canonical), "grandfathered": answer_grandfathered, "order": answer_order, "edit": answer_edit,
     "viable": lambda text: f"{langtag.viable_len(text)} {langtag.stop_len(text)}", "range": answer_range, "match": answer_match,

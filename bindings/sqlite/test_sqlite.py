@@ -103,10 +103,17 @@ def answer_best(said):
     return arguments if arguments == of_rows else f"{of_rows} among rows"
 
 
-# Each call of the rows: the statement, which returns one line, and the answer in that line, in the form of the rows.
+def yes_or_no(function, words="- no yes"):
+    """Returns the statement and the answer of a function that asks something of a tag: the words for no tag, for no and for yes."""
+    return (lambda tag: f"SELECT {called('langtag_is_well_formed', tag)}, {called(function, tag)}"), dict(zip(("0|0", "1|0", "1|1"), words.split())).get
+
+
+FUNCTIONS = sqlite("SELECT name FROM pragma_function_list WHERE name LIKE 'langtag_%';")[0].split()
+# Each call of the rows: the statement, which returns one line, and the answer in that line, in the form of the rows. A function with the name of
+# a call, or with `is_` before it, answers the call.
 CALLS = {
-    **{call: written(f"langtag_{call.replace('-', '_')}") for call in (
-        "keyword", "base", "extensions-form", "locale-form", "canonical", "maximized", "minimized", "describe", "autonym", "suggestion", "unknown-modifier")},
+    **{call: written(name) for call in rows.CALLS if (name := f"langtag_{call.replace('-', '_')}") in FUNCTIONS},
+    **{call: yes_or_no(name) for call in rows.CALLS if (name := f"langtag_is_{call.replace('-', '_')}") in FUNCTIONS},
     "posix": written("langtag_from_posix"),
     "posix-name": written("langtag_to_posix"),
     "tag": (lambda tag: f"SELECT {','.join(shown(f'langtag_part({text(tag)}, {name!r})') for name in PARTS)}", answer_tag),
@@ -114,15 +121,12 @@ CALLS = {
     "is-locale": (lambda tag: f"SELECT {called('langtag_is_locale', tag)}", {"1": "yes", "0": "no"}.get),
     "parents": (lambda tag: f"SELECT CASE WHEN langtag_is_well_formed({text(tag)}) THEN ({chain_of(text(tag))}) ELSE '-' END", str),
     "distance": (lambda a, b: f"SELECT {called('langtag_distance', a, b)}", lambda said: said or "-"),
-    "right-to-left": (lambda tag: f"SELECT {called('langtag_is_well_formed', tag)}, {called('langtag_is_right_to_left', tag)}",
-                      {"0|0": "-", "1|1": "yes", "1|0": "no"}.get),
     "best": (lambda header, tags: f"SELECT {of_arguments(header, tags.split())}, ({of_rows(header, tags.split())})", answer_best),
     "best-match": (lambda header, tags: f"SELECT coalesce({called('langtag_match_for_header', header, *tags.split())}, '-')", answer_match),
     "best-ranges": (lambda ranges, tags: f"SELECT coalesce({called('langtag_best_for_ranges', between_blanks(ranges), *tags.split())}, '-')", str),
     "suitable": (lambda header, tags: f"SELECT {called('langtag_suitable_for_header', header, *tags.split())}", answer_suitable),
     "suitable-ranges": (lambda ranges, tags: f"SELECT {called('langtag_suitable_for_ranges', between_blanks(ranges), *tags.split())}", answer_suitable),
-    "validity": (lambda tag: f"SELECT {called('langtag_is_well_formed', tag)}, {called('langtag_is_valid', tag)}",
-                 {"0|0": "none", "1|1": "valid", "1|0": "invalid"}.get),
+    "validity": yes_or_no("langtag_is_valid", "none invalid valid"),
     "match": (lambda range, tag: f"SELECT {called('langtag_matches_basic', range, tag)}, {called('langtag_matches_extended', range, tag)}",
               {"1|1": "both", "1|0": "basic", "0|1": "extended", "0|0": "neither"}.get),
     "order": (lambda a, b: "SELECT " + ", ".join(f"{text(a)} {how} {text(b)} COLLATE langtag" for how in "<=>"),
@@ -149,9 +153,9 @@ TABLE = "CREATE TABLE texts (tag TEXT PRIMARY KEY COLLATE langtag); INSERT INTO 
 # Statements, and SQLite's output for them.
 STATEMENTS = [
     # A function that says yes or no says no for a string that is no tag.
-    ("SELECT langtag_is_well_formed('de_DE'), langtag_is_valid('de_DE'), langtag_is_locale('de_DE'), langtag_is_right_to_left('he_IL'), langtag_is_valid('not a tag at all'), "
+    ("SELECT langtag_is_well_formed('de_DE'), langtag_is_valid('de_DE'), langtag_is_locale('de_DE'), langtag_is_valid('not a tag at all'), "
      "langtag_is_valid(''), langtag_is_valid(X''), langtag_is_valid(5), langtag_is_well_formed(''), langtag_matches_basic('d_', 'de'), langtag_matches_extended('de', 'd_');",
-     "0|0|0|0|0|0|0|0|0|0|0"),
+     "0|0|0|0|0|0|0|0|0|0"),
     ("CREATE TABLE t (tag TEXT); INSERT INTO t VALUES ('de'), ('de_DE'), (NULL), ('not a tag at all'); SELECT count(*), group_concat(tag) FROM t WHERE NOT langtag_is_valid(tag);",
      "2|de_DE,not a tag at all"),
     ("SELECT langtag_set_keyword('d_', 'c1', '') IS NULL;", "1"),

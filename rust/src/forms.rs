@@ -32,6 +32,9 @@ macro_rules! form {
                 $form(self)
             }
         }
+
+        #[cfg(feature = "alloc")]
+        lent! { LangTagBuf: LangTag by as_lang_tag { $form() -> LangTagBuf; } }
     };
     (
         $(#[$text:meta])+

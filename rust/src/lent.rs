@@ -1,5 +1,5 @@
 //! The methods of each borrowed type, on its owned form: `owned.script()` is
-//! `owned.as_lang_tag().script()`.
+//! `owned.as_lang_tag().script()`. Macros that write a method of a tag also write that of the owned tag.
 #[allow(unused_imports)]
 use crate::erased::tag::*;
 #[cfg(feature = "data")]
@@ -7,18 +7,16 @@ use crate::likely::Parents;
 use crate::matching::{Fallbacks, LanguageRange, LanguageRangeBuf};
 #[cfg(feature = "data")]
 use crate::registry::InvalidSubtagBuf;
-#[cfg(feature = "data")]
-use crate::unicode::{AttributesIter, KeywordsIter, Transformation};
 
 macro_rules! lent {
     ($($owned:ident: $name:ident by $lend:ident {
-        $($call:ident $(<$lifetime:lifetime>)?($($argument:ident: $type:ty)?) -> $result:ty;)+
+        $($call:ident $(of $of:lifetime)? $(<$lifetime:lifetime>)?($($argument:ident: $type:ty)?) -> $result:ty;)+
     })+) => {$(
         impl $owned {$(
             #[doc = concat!("Returns what [`", stringify!($name), "::", stringify!($call), "`] returns.")]
             #[inline]
             #[must_use]
-            pub fn $call$(<$lifetime>)?(&self, $($argument: $type)?) -> $result {
+            pub fn $call$(<$of>)?$(<$lifetime>)?(&$($of)? self, $($argument: $type)?) -> $result {
                 self.$lend().$call($($argument)?)
             }
         )+}
@@ -107,19 +105,7 @@ lent! {
 lent! {
     LangTagBuf: LangTag by as_lang_tag {
         is_valid() -> bool;
-        canonical() -> LangTagBuf;
-        extlang_form() -> LangTagBuf;
-        maximized() -> LangTagBuf;
-        minimized() -> LangTagBuf;
-        extensions_form() -> LangTagBuf;
-        locale_form() -> Option<LangTagBuf>;
-        keywords() -> KeywordsIter<'_>;
-        attributes() -> AttributesIter<'_>;
-        transform() -> Option<Transformation<'_>>;
-        is_right_to_left() -> bool;
-        keyword(key: &str) -> Option<&str>;
         distance<'t>(supported: impl Into<LangTag<'t>>) -> u8;
-        parent() -> Option<LangTagBuf>;
         parents() -> Parents<'_>;
     }
 }

@@ -114,6 +114,9 @@ mod memory;
 mod shim;
 #[macro_use]
 mod text_types;
+#[cfg(feature = "alloc")]
+#[macro_use]
+mod lent;
 #[cfg(feature = "data")]
 #[macro_use]
 mod forms;
@@ -151,8 +154,6 @@ mod invalid;
 mod invalid_subtag;
 #[cfg(all(feature = "alloc", feature = "data"))]
 mod keywords;
-#[cfg(feature = "alloc")]
-mod lent;
 mod lists;
 mod message;
 mod methods;

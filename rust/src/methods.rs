@@ -1,12 +1,12 @@
 //! What the modules compute of a tag, as methods of the tag.
-#[cfg(all(feature = "alloc", feature = "data"))]
-use crate::likely::Parents;
 #[cfg(feature = "data")]
 use crate::registry::InvalidSubtag;
 #[cfg(feature = "data")]
 use crate::unicode::{AttributesIter, KeywordsIter, Transformation};
 #[cfg(feature = "data")]
 use crate::{choice, likely, registry, unicode};
+#[cfg(all(feature = "alloc", feature = "data"))]
+use crate::{likely::Parents, LangTagBuf};
 use crate::{matching::LanguageRange, LangTag};
 
 impl LangTag<'_> {
@@ -121,6 +121,9 @@ macro_rules! methods {
                 $module::$name(self $(, $argument)?)
             }
         )+}
+
+        #[cfg(feature = "alloc")]
+        lent! { LangTagBuf: LangTag by as_lang_tag { $($name of 'a ($($argument: $type)?) -> $result;)+ } }
     };
 }
 
@@ -139,10 +142,10 @@ methods! {
     likely: is_right_to_left() -> bool,
     r#"LangTag::new("ar-EG")?.is_right_to_left()"# is "true";
     #[cfg(feature = "alloc")]
-    likely: parent() -> Option<crate::LangTagBuf>,
+    likely: parent() -> Option<LangTagBuf>,
     r#"LangTag::new("zh-TW")?.parent().unwrap()"# is r#""zh-Hant""#;
     #[cfg(feature = "alloc")]
     #[doc(alias = "Locale")]
-    unicode: locale_form() -> Option<crate::LangTagBuf>,
+    unicode: locale_form() -> Option<LangTagBuf>,
     r#"LangTag::new("ger-UK")?.locale_form().unwrap()"# is r#""de-GB""#;
 }

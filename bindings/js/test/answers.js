@@ -272,12 +272,16 @@ const answerTransform = ({ transform }) => transform && [transform.language ?? "
 /** Returns a function that returns the name for a tag, which has to be that for its string. */
 const answerName = (call) => ofTag((tag) => escaped(alike(call(tag), call(tag.text))));
 
+/** The answers of a tag's methods and getters, each by its name without `is`, and with hyphens. */
+const named = Object.entries(Object.getOwnPropertyDescriptors(LanguageTag.prototype)).map(([name, { get }]) => [
+    name.replace(/^is(?=[A-Z])/, "").replace(/\B[A-Z]/g, "-$&").toLowerCase(), ofTag((tag, ...more) => (get ? tag[name] : tag[name](...more)))]);
+
 export const answers = {
+    ...Object.fromEntries(named),
     describe: answerName(describe), autonym: answerName(autonym), "cldr-version": () => CLDR_VERSION,
-    "with-keyword": answerWithKeyword, "extensions-form": ofTag((tag) => formed(tag, (it) => it.extensionsForm())), base: ofTag((tag) => tag.base),
+    "with-keyword": answerWithKeyword, "extensions-form": ofTag((tag) => formed(tag, (it) => it.extensionsForm())),
     "is-locale": ofTag((tag) => tag.isLocale, "no"), "locale-form": ofTag(answerLocaleForm),
-    keyword: ofTag((tag, key) => tag.keyword(key)), keywords: ofTag(answerKeywords),
-    attributes: ofTag((tag) => tag.attributes), transform: ofTag(answerTransform),
+    keywords: ofTag(answerKeywords), transform: ofTag(answerTransform),
     tag: answerTag, scan: answerScan, recommended: (text) => made(LanguageTag, text)?.toRecommended().text, validity: ofTag(answerValidity, "none"),
     suggestion: ofTag((tag) => tag.invalidSubtag?.suggestion), canonical: ofTag(answerCanonical), grandfathered: answerGrandfathered,
     viable: (text) => `${viableLength(text)} ${stopLength(text)}`,
@@ -286,9 +290,9 @@ export const answers = {
     fault: ofTag((tag) => String(tag.invalidSubtag ?? "valid").split(": did")[0]),
     message: messageOf(LanguageTag), "range-message": messageOf(LanguageRange),
     posix: (name) => shown(LanguageTag.fromPosix(name)), "posix-name": ofTag((tag) => tag.toPosix()), "unknown-modifier": answerUnknownModifier,
-    "right-to-left": ofTag((tag) => tag.isRightToLeft), maximized: ofTag((tag) => tag.maximize()), minimized: ofTag((tag) => tag.minimize()),
+    maximized: ofTag((tag) => tag.maximize()), minimized: ofTag((tag) => tag.minimize()),
     distance: (desired, supported) => shown(made(LanguageTag, desired) && made(LanguageTag, supported) && distance(LanguageTag.parse(desired), supported)),
-    best: answerBest, "best-ranges": answerBestRanges, "best-match": answerBestMatch, parents: ofTag((tag) => tag.parents),
+    best: answerBest, "best-ranges": answerBestRanges, "best-match": answerBestMatch,
     "best-accepted": (header, list) => alike(...among((tags) => AcceptLanguage.lenient(header).best(tags), list)),
     suitable: (header, list) => alike(...among((tags) => suitableForHeader(header, tags), list), new Site(wordsOf(list)).suitableForHeader(header)),
     "suitable-ranges": (ranges, list) => alike(...among((tags) => suitableForRanges(wordsOf(ranges), tags), list), new Site(wordsOf(list)).suitableForRanges(wordsOf(ranges))),

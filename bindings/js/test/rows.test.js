@@ -25,5 +25,5 @@ test("the answers of C to random calls", { skip: process.env.LANGTAG_ANSWERS ===
 });
 
 test("each call is asked", () => {
-    assert.deepEqual(Object.keys(answers).filter((call) => !asked[call]), []);
+    assert.deepEqual(Object.keys(answers).filter((call) => calls[call] !== undefined && !asked[call]), []);
 });

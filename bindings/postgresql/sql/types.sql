@@ -43,5 +43,7 @@ ORDER BY 1;
 SELECT string_agg(proname, ' ' ORDER BY proname) FROM pg_proc JOIN pg_depend ON objid = pg_proc.oid AND deptype = 'e' JOIN pg_extension e ON refobjid = e.oid
 WHERE extname = 'langtag' AND pg_depend.classid = 'pg_proc'::regclass AND proleakproof;
 SELECT typname, typcollation FROM pg_type WHERE typname ~ '^langtag' ORDER BY 1;
-SELECT procost, string_agg(proname, ' ' ORDER BY proname) FROM pg_proc JOIN pg_depend ON objid = pg_proc.oid AND deptype = 'e' JOIN pg_extension e ON refobjid = e.oid
-WHERE extname = 'langtag' AND prokind = 'f' AND procost > 1 GROUP BY 1 ORDER BY 1;
+-- The costs of functions. The name of the module with dated functions has the registry's date and CLDR's version, and it has no other functions.
+SELECT procost, probin = '$libdir/langtag-' || langtag_registry_date() || '-cldr' || langtag_cldr_version() AS dated, string_agg(proname, ' ' ORDER BY proname)
+FROM pg_proc JOIN pg_depend ON objid = pg_proc.oid AND deptype = 'e' JOIN pg_extension e ON refobjid = e.oid
+WHERE extname = 'langtag' AND prokind = 'f' AND (procost > 1 OR probin ~ 'langtag-') GROUP BY 1, 2 ORDER BY 1, 2;

@@ -106,16 +106,18 @@ def ranges(asked, names):
 
 
 def of_tag(function):
-    return lambda tag: f"SELECT {function}({text(tag)}::langtag)::text"
+    return lambda tag: f"SELECT {function}(try_langtag({text(tag)}))::text"
 
 
 def yes_or_no(function):
-    return lambda tag: f"SELECT CASE WHEN {function}({text(tag)}::langtag) THEN 'yes' ELSE 'no' END"
+    return lambda tag: f"SELECT CASE {function}(try_langtag({text(tag)})) WHEN true THEN 'yes' WHEN false THEN 'no' END"
 
 
-# Each call of the rows as a query, or None if SQL has no answer.
+FUNCTIONS = re.findall(r"\w+", " ".join(re.findall(r"CREATE FUNCTION (.*)\(langtag\)", (pathlib.Path(__file__).parents[1] / "langtag.sql.in").read_text())))
+# Each call of the rows as a query, or None if SQL has no answer. A function with the name of a call, or with `is_` before it, answers the call.
 QUERIES = {
-    **{call: of_tag(call.replace("-", "_")) for call in ("suggestion", "maximized", "minimized", "describe", "autonym", "extensions-form", "locale-form", "base")},
+    **{call: of_tag(name) for call in rows.CALLS if (name := call.replace("-", "_")) in FUNCTIONS},
+    **{call: yes_or_no(name) for call in rows.CALLS if (name := "is_" + call.replace("-", "_")) in FUNCTIONS},
     "tag": lambda tag: f"SELECT all_of({text(tag)}::langtag)",
     "scan": lambda given: f"SELECT scan({text(given)})",
     "recommended": lambda tag: f"SELECT {text(tag)}::langtag::text",
@@ -142,14 +144,12 @@ QUERIES = {
     "best": chosen("best_for_header", MORE_TAGS), "best-match": chosen("match_for_header"), "suitable": chosen("suitable_for_header"),
     "best-ranges": chosen("best_for_ranges", MORE_TAGS, wanted=LIST), "suitable-ranges": chosen("suitable_for_ranges", wanted=LIST),
     "header": look_up, "ranges": ranges, "edit": edit,
-    "with-keyword": with_keyword,
-    "is-locale": yes_or_no("is_locale"), "right-to-left": yes_or_no("is_right_to_left"),
+    "with-keyword": with_keyword, "is-locale": yes_or_no("is_locale"),
     "cldr-version": lambda: "SELECT langtag_cldr_version()",
 }
 NO_TAG = "22P02"
 # What a row has for a string that is not a tag, and SQL's other answers that rows write in another way.
-REFUSED = {"tag": "none", "validity": "none", "range": "none", "match": "neither",
-           **dict.fromkeys(("suggestion", "canonical", "maximized", "minimized", "describe", "autonym", "parents", "posix-name", "right-to-left"), "-")}
+REFUSED = {"tag": "none", "validity": "none", "range": "none", "match": "neither", "canonical": "-", "parents": "-"}
 WRITTEN = {
     "range": {"range true": "range"},
     "match": {"t t": "both", "t f": "basic", "f t": "extended", "f f": "neither"},

@@ -2,10 +2,9 @@
 #![cfg(all(feature = "alloc", feature = "data"))]
 #![allow(clippy::needless_borrows_for_generic_args)] // references are taken, too
 use langtag::choice::{best_among, best_for_header, best_for_ranges, distance};
-use langtag::likely::{is_right_to_left, maximized, minimized};
 use langtag::matching::{look_up, tag_for_header, LanguageRange, LanguageRangeBuf, WeightedRange};
-use langtag::registry::{canonical, extlang_form, is_canonical, validate};
-use langtag::unicode::{attributes, extensions_form, keyword, keywords, locale_form, transform};
+use langtag::registry::{canonical, is_canonical, validate};
+use langtag::unicode::{keyword, transform};
 use langtag::*;
 
 const TEXTS: [&str; 9] = [
@@ -35,9 +34,7 @@ fn methods_return_what_functions_return() {
     for text in TEXTS {
         let tag = LangTag::new(text).unwrap();
         let owned = tag.to_owned();
-        same! {
-            tag, owned: canonical extlang_form maximized minimized extensions_form locale_form transform is_right_to_left
-        }
+        same! { tag, owned: canonical transform } // one of each macro
         let valid = validate(tag);
         assert_eq!(
             [tag.validate(), validate(&tag), validate(&owned)],
@@ -47,8 +44,6 @@ fn methods_return_what_functions_return() {
         assert_eq!(owned.validate(), valid.map_err(Into::into));
         let found = [tag.keyword("CA"), owned.keyword("ca")];
         assert_eq!(found, [keyword(&owned, "ca"); 2]);
-        assert!(tag.keywords().eq(keywords(&owned)) && owned.keywords().eq(keywords(tag)));
-        assert!(tag.attributes().eq(attributes(&owned)) && owned.attributes().eq(attributes(tag)));
         assert_eq!(is_canonical(&owned), tag == canonical(tag));
         for other in TEXTS {
             let other = LangTag::new(other).unwrap();
