@@ -127,7 +127,7 @@ langtag/__init__.py keywords.txt: tag = `tag`self`._with_keyword(key, text)
 langtag/__init__.py locale.txt=AssertionError: self.`_made(_backend.locale_form(self._data)`_base(_backend.locale_form(self._data) or self._data`)
 langtag/__init__.py posix.txt: [modifier[`0`1`] : sum(modifier)]
 langtag/__init__.py likely.txt: _backend.maximized <> _backend.minimized
-langtag/__init__.py Values.test_copies: return type(self), (`str(self)`""`,)
+langtag/__init__.py Values.test_copies: return type(self), (`getattr(self, "_base", type(self)).__str__(self)`""`,)
 langtag/__init__.py Refusals.test_one_family: raise `InvalidLocale`ValueError`(name)
 langtag/__init__.py Negotiation.test_texts: return `listed[index]`Tag(listed[index])` if
 langtag/__init__.py Threads.test_that_a_list_may_change_during_a_choice: listed = ``tags if type(tags) is list else `list(_several(tags, "tags")) index

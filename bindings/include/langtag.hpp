@@ -759,42 +759,43 @@ inline std::string_view text_of(const range &range) noexcept { return range.text
 
 /* Whether the strings of a list live longer than a call with the list: views do, and owners do in a list that is not a temporary. */
 template <class List, class Element = decltype(*std::begin(std::declval<List &>())), class Plain = std::decay_t<Element>>
-inline constexpr bool stays = std::is_same_v<Plain, tag> || std::is_same_v<Plain, std::string_view> ||
-                              std::is_pointer_v<Plain> ||
+inline constexpr bool stays = std::is_same_v<Plain, tag> || std::is_base_of_v<std::string_view, Plain> || std::is_pointer_v<Plain> ||
                               (std::is_lvalue_reference_v<List> && std::is_lvalue_reference_v<Element>);
 
 /* A list of strings in braces. */
 using texts = std::initializer_list<std::string_view>;
+
+/* A tag or a string of a list in braces. Owners that are temporaries are refused, because the result of the call is a view. */
+struct lasting : std::string_view {
+    template <class Text, class = decltype(text_of(std::declval<const Text &>()))> lasting(const Text &text) : std::string_view(text_of(text)) {}
+    template <class Allocator> lasting(temporary_string<Allocator>) = delete;
+    lasting(const owned_tag &&) = delete;
+};
+using lasting_texts = std::initializer_list<lasting>;
 
 /* Returns the best tag for an Accept-Language header, or std::nullopt if none is suitable: zh-Hant for "zh-TW,zh;q=0.9,en;q=0.8".
  * Malformed elements are read leniently: de_CH is read as de-CH. Among tags at the same distance, the rules of langtag_best_for_header in
  * langtag.h decide, and then the order of the list.
  *
  * The tags are a list of tag, owned_tag, strings or views, such as {"en", "zh-Hant"}. A string that is not a tag is skipped. The
- * result is a view, so the compiler refuses a temporary list of owners. */
-template <class Tags = texts, std::enable_if_t<stays<Tags>, int> = 0>
+ * result is a view, so the compiler refuses temporary owners. */
+template <class Tags = lasting_texts, std::enable_if_t<stays<Tags>, int> = 0>
 std::optional<tag> best_for_header(std::string_view header, Tags &&tags) {
     return listed_tags(tags).chosen(langtag_best_for_header, header);
-}
-inline std::optional<tag> best_for_header(std::string_view header, const std::vector<tag> &tags) {
-    return best_for_header<const std::vector<tag> &>(header, tags);
 }
 
 /* Returns the best tag for a header, as best_for_header does, with its index, the range that it serves, and the distance from that
  * range. A video player needs the index of the track, and the distance shows whether it has the language or only a near one. */
-template <class Tags = texts, std::enable_if_t<stays<Tags>, int> = 0>
+template <class Tags = lasting_texts, std::enable_if_t<stays<Tags>, int> = 0>
 std::optional<best_match> match_for_header(std::string_view header, Tags &&tags) {
     return listed_tags(tags).matched(header);
 }
-inline std::optional<best_match> match_for_header(std::string_view header, const std::vector<tag> &tags) {
-    return match_for_header<const std::vector<tag> &>(header, tags);
-}
-template <class Allocator, class Tags = texts>
+template <class Allocator, class Tags = lasting_texts>
 std::optional<best_match> match_for_header(temporary_string<Allocator>, Tags &&) = delete;
 
 /* Returns the best tag for a list of ranges, in order of preference, as best_for_header does for a header. The ranges are a
  * list of range, strings or views. An extended range is read without its *. A string that is not a range (de;q=0) is skipped. */
-template <class Ranges = texts, class Tags = texts, std::enable_if_t<stays<Tags>, int> = 0>
+template <class Ranges = texts, class Tags = lasting_texts, std::enable_if_t<stays<Tags>, int> = 0>
 std::optional<tag> best_for_ranges(const Ranges &ranges, Tags &&tags) {
     return listed_tags(tags).chosen_for(listed_tags(ranges));
 }
@@ -804,16 +805,13 @@ inline constexpr std::size_t all_suitable = static_cast<std::size_t>(-1);
 
 /* Returns all suitable tags for a header, best first: the tag that best_for_header chooses, the tag that it chooses among the other
  * tags, and so on. If `most` is given, it returns so many of the best. A player offers its tracks in this order. */
-template <class Tags = texts, std::enable_if_t<stays<Tags>, int> = 0>
+template <class Tags = lasting_texts, std::enable_if_t<stays<Tags>, int> = 0>
 std::vector<tag> suitable_for_header(std::string_view header, Tags &&tags, std::size_t most = all_suitable) {
     return listed_tags(tags).suitable(header, most);
 }
-inline std::vector<tag> suitable_for_header(std::string_view header, const std::vector<tag> &tags, std::size_t most = all_suitable) {
-    return suitable_for_header<const std::vector<tag> &>(header, tags, most);
-}
 
 /* Returns all suitable tags for a list of ranges, in order of preference, as suitable_for_header does for a header. */
-template <class Ranges = texts, class Tags = texts, std::enable_if_t<stays<Tags>, int> = 0>
+template <class Ranges = texts, class Tags = lasting_texts, std::enable_if_t<stays<Tags>, int> = 0>
 std::vector<tag> suitable_for_ranges(const Ranges &ranges, Tags &&tags, std::size_t most = all_suitable) {
     return listed_tags(tags).suitable(listed_tags(ranges), most);
 }
@@ -946,7 +944,7 @@ public:
 
     /* Returns the best tag for the ranges by language distance, as best_for_ranges does. Malformed elements and ranges of weight 0 are
      * not among the ranges. So de_CH is not repaired and de-CH;q=0 excludes nothing. best_for_header does both. */
-    template <class Tags = texts, std::enable_if_t<stays<Tags>, int> = 0> std::optional<tag> best(Tags &&tags) const {
+    template <class Tags = lasting_texts, std::enable_if_t<stays<Tags>, int> = 0> std::optional<tag> best(Tags &&tags) const {
         std::vector<range> wanted;
         for (const weighted_range &it : ranges()) wanted.push_back(it.range);
         return best_for_ranges(wanted, std::forward<Tags>(tags));

@@ -620,7 +620,7 @@ export function matchForHeader(header, tags) {
 /** Returns the tags of a list that a call names by their indices. */
 function suitable(choose, wanted, tags, most) {
     const list = [...several(tags, "tags")];
-    return choose(wanted, list.map((tag) => tagOf(tag).text), Math.max(0, Math.min(most, list.length))).map((index) => list[index]);
+    return choose(wanted, list.map((tag) => tagOf(tag).text), Math.max(0, Math.min(most ?? Infinity, list.length) | 0)).map((index) => list[index]);
 }
 /**
  * Returns all suitable tags for a header, best first: the tag that bestForHeader chooses, the tag that it chooses among the other tags, and

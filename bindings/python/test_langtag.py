@@ -86,8 +86,8 @@ class Values(unittest.TestCase):
         for value in values:
             dumps = [pickle.dumps(value, protocol) for protocol in range(pickle.HIGHEST_PROTOCOL + 1)]
             for made in (copy.copy(value), copy.deepcopy(value), *map(pickle.loads, dumps)):
-                self.assertEqual((type(made), repr(made), str(made)), (type(value), repr(value), str(value)))
-                self.assertEqual(getattr(made, "__dict__", None), getattr(value, "__dict__", None))
+                self.assertEqual(*((type(it), repr(it), str(it), getattr(it, "__dict__", None)) for it in (made, value)))
+        self.assertEqual(copy.copy(type("Named", (Tag,), {"__str__": lambda tag: "German"})("de")), Tag("de"))
         again = pickle.loads(pickle.dumps(AcceptLanguage("en;q=0, fr, *;q=0.5"), 0))
         self.assertEqual(again.best(["en", "fr-CA"]), "fr-CA")
 

@@ -37,13 +37,14 @@ constexpr bool is_of_views = is_taken<Call, const char (&)[3], const char *, std
 static_assert(is_of_views<parsed> && is_of_views<read_as_range> && is_of_views<accepted> && is_of_views<walked> && is_of_views<walked_by_extension> && is_of_views<matched> &&
               is_of_views<matched_by_site> && is_of_views<dropped> && is_of_views<refused>);
 
-/* A temporary list that owns its texts is not accepted. */
+/* A temporary list that owns its texts is not accepted, nor is a temporary owner in a list in braces. */
 template <class List> using chosen = decltype(langtag::best_for_header("de", std::declval<List>()));
 template <class List> using chosen_by_ranges = decltype(langtag::best_for_ranges({"de"}, std::declval<List>()));
 template <template <class> class Call>
 constexpr bool is_of_lists = is_taken<Call, std::vector<tag>, std::vector<std::string_view>, std::vector<const char *>, std::vector<std::string> &, const std::set<langtag::owned_tag> &> &&
                              is_refused<Call, std::vector<std::string>, std::vector<langtag::owned_tag>, int>;
-static_assert(is_of_lists<chosen> && is_of_lists<chosen_by_ranges>);
+template <class Text> using chosen_of_one = decltype(langtag::match_for_header("de", {std::declval<Text>()}));
+static_assert(is_of_lists<chosen> && is_of_lists<chosen_by_ranges> && is_of_views<chosen_of_one> && is_taken<chosen_of_one, tag, langtag::owned_tag &> && is_refused<chosen_of_one, langtag::owned_tag>);
 
 /* The tags that a site returns are views of it, so a temporary site returns none. */
 template <class Site> using asked = decltype(std::declval<Site>().best_for_header("de"));

@@ -15,7 +15,7 @@ const SAME = 16; // from this distance on, a tag is of another language
 /** Returns the language that the user picked. A language that is only near the picked one does not count: ?lang=tlh is not
  *  English. */
 function picked(request) {
-    const asked = new URL(request.url, "http://localhost").searchParams.get("lang");
+    const asked = new URLSearchParams(request.url.split("?")[1]).get("lang");
     const kept = /(?:^|; )lang=([\w-]*)/.exec(request.headers.cookie)?.[1];
     return [asked, kept].map((text) => site.matchForHeader(text)).find((match) => match?.distance < SAME)?.tag;
 }

@@ -9,7 +9,7 @@ import { fileURLToPath } from "node:url";
 // The language in the URL, the cookie, the header, the language of the page, and whether a cookie keeps it.
 const PAGES = [
     ["", "", "ger-CH, fr;q=0.5", "de", false], ["?lang=sr", "", "de", "sr-Latn", true], ["?lang=tlh", "", "de", "de", false],
-    ["?lang=tlh", "lang=ar", "de", "ar", true], ["", "a=b; lang=zh_TW", "de", "zh-Hant", true], ["?lang=", "lang=xx", "fi", "en", false],
+    ["?lang=tlh", "lang=ar", "de", "ar", true], ["", "a=b; lang=zh_TW", "de", "zh-Hant", true], ["?lang=", "lang=xx", "fi", "en", false], ["/?lang=sr", "", "de", "sr-Latn", true],
 ];
 
 test("the site answers in the language that its user picked", async () => {

@@ -59,8 +59,8 @@ test("texts that are refused, of any units", () => {
 });
 
 test("lists of tags and of ranges", () => {
-    assert.equal(bestForHeader("fr", [], "en"), "en");
-    assert.equal(bestForHeader("no", [LanguageTag.parse("nb")])?.text, "nb");
+    assert.deepEqual([bestForHeader("fr", [], "en"), bestForHeader("no", [LanguageTag.parse("nb")])?.text], ["en", "nb"]);
+    assert.deepEqual([-1, 0, 1.9, NaN, 2 ** 32, null].map((most) => langtag.suitableForHeader("de,fr", ["fr", "de"], most).length), [0, 0, 1, 0, 2, 2]);
     assert.equal(bestForRanges(new Set([LanguageRange.parse("*-DE"), LanguageRange.parse("de-*-DE")]), ["en", "de"]), "de");
     assert.throws(() => unknownModifier(null), TypeError);
 });

@@ -27,14 +27,15 @@ pub fn invalid(tag: LangTag<'_>, invalid: &InvalidSubtag<&str>) -> String {
     )
 }
 
-/// Returns a text that a terminal can show: without control characters, and shortened if it is
-/// long.
+/// Returns a text that a terminal can show: without control characters and invisible characters, and
+/// shortened if it is long.
 fn shown(text: &[u8]) -> String {
     let text = String::from_utf8_lossy(text);
+    let is_shown = |c: char| c.is_ascii_graphic() || c.escape_debug().len() == 1;
     let mut shown: String = text
         .chars()
         .take(LONGEST)
-        .map(|c| if c.is_control() { '\u{fffd}' } else { c })
+        .map(|c| if is_shown(c) { c } else { '\u{fffd}' })
         .collect();
     if text.chars().nth(LONGEST).is_some() {
         shown.push_str("..");
