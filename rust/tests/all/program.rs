@@ -36,7 +36,7 @@ fn runs() -> Vec<Run> {
         let text = |line| String::from_utf8(unescape(line)).unwrap();
         if let Some(words) = line.strip_prefix("$ langtag") {
             runs.push(Run::default());
-            let words = words.split_whitespace().map(String::from);
+            let words = words.split_whitespace().map(text);
             runs.last_mut().unwrap().arguments = words.collect();
             continue;
         }
