@@ -24,6 +24,8 @@ export declare type Header = string | null | undefined;
 export declare type Kind = "normal" | "private-use" | "irregular";
 /** What is wrong with a subtag: it is not registered, it is a second extended language, or it is repeated. */
 export declare type Fault = "language" | "extlang" | "second-extlang" | "script" | "region" | "variant" | "repeated-variant" | "repeated-singleton";
+/** Tags or ranges, in any iterable but a string. */
+export declare type List<Item> = Iterable<Item> & object;
 /** The subtags of an extension: "co-pinyin", or ["co", "pinyin"]. */
 export declare type Subtags = string | Iterable<string>;
 /** A key of the extension u and its new value: ["ca", "buddhist"]. null removes the key. */
@@ -295,8 +297,8 @@ export declare class LanguageRange {
  *
  *     lookUp(["nl", "ZH-hant-CN"], ["en", "zh-Hant", "zh"]); // "zh-Hant"
  */
-export declare function lookUp<Tag extends Text>(ranges: Iterable<Text>, tags: Iterable<Tag>): Tag | undefined;
-export declare function lookUp<Tag extends Text, Otherwise>(ranges: Iterable<Text>, tags: Iterable<Tag>, otherwise: Otherwise): Tag | Otherwise;
+export declare function lookUp<Tag extends Text>(ranges: List<Text>, tags: List<Tag>): Tag | undefined;
+export declare function lookUp<Tag extends Text, Otherwise>(ranges: List<Text>, tags: List<Tag>, otherwise: Otherwise): Tag | Otherwise;
 /** The ranges of an Accept-Language header (RFC 9110 section 12.5.4). */
 export declare class AcceptLanguage {
     #private;
@@ -308,21 +310,21 @@ export declare class AcceptLanguage {
     /** Parses a header, and skips malformed elements. */
     static lenient(header: Header): AcceptLanguage;
     /** Returns the tag that the ranges find by lookup, the greatest weight first, or the last argument. */
-    lookUp<Tag extends Text>(tags: Iterable<Tag>): Tag | undefined;
-    lookUp<Tag extends Text, Otherwise>(tags: Iterable<Tag>, otherwise: Otherwise): Tag | Otherwise;
+    lookUp<Tag extends Text>(tags: List<Tag>): Tag | undefined;
+    lookUp<Tag extends Text, Otherwise>(tags: List<Tag>, otherwise: Otherwise): Tag | Otherwise;
     /**
      * Returns the best tag for the ranges by language distance, as bestForRanges does, or the last argument. Malformed elements and ranges
      * of weight 0 are not among the ranges. So de_CH is not repaired and de-CH;q=0 excludes nothing. bestForHeader does both.
      */
-    best<Tag extends Text>(tags: Iterable<Tag>): Tag | undefined;
-    best<Tag extends Text, Otherwise>(tags: Iterable<Tag>, otherwise: Otherwise): Tag | Otherwise;
+    best<Tag extends Text>(tags: List<Tag>): Tag | undefined;
+    best<Tag extends Text, Otherwise>(tags: List<Tag>, otherwise: Otherwise): Tag | Otherwise;
 }
 /** Returns the tag that a header finds by lookup, or the last argument; throws AcceptLanguageError if an element is malformed. */
-export declare function tagForHeader<Tag extends Text>(header: Header, tags: Iterable<Tag>): Tag | undefined;
-export declare function tagForHeader<Tag extends Text, Otherwise>(header: Header, tags: Iterable<Tag>, otherwise: Otherwise): Tag | Otherwise;
+export declare function tagForHeader<Tag extends Text>(header: Header, tags: List<Tag>): Tag | undefined;
+export declare function tagForHeader<Tag extends Text, Otherwise>(header: Header, tags: List<Tag>, otherwise: Otherwise): Tag | Otherwise;
 /** Returns the tag that a header finds by lookup, or the last argument. Malformed elements are skipped. */
-export declare function tagForHeaderLenient<Tag extends Text>(header: Header, tags: Iterable<Tag>): Tag | undefined;
-export declare function tagForHeaderLenient<Tag extends Text, Otherwise>(header: Header, tags: Iterable<Tag>, otherwise: Otherwise): Tag | Otherwise;
+export declare function tagForHeaderLenient<Tag extends Text>(header: Header, tags: List<Tag>): Tag | undefined;
+export declare function tagForHeaderLenient<Tag extends Text, Otherwise>(header: Header, tags: List<Tag>, otherwise: Otherwise): Tag | Otherwise;
 /**
  * Returns the distance from the desired tag to a supported tag (UTS #35, Language Matching). It is at most
  * 134, or 255 if the tags differ and one of them is und, a private-use tag, i-default, i-enochian or i-mingo.
@@ -348,28 +350,28 @@ export declare function unknownModifier(name: string): string | undefined;
  *
  *     bestForHeader("gsw", ["fr", "de-CH"], "fr"); // "de-CH"
  */
-export declare function bestForHeader<Tag extends Text>(header: Header, tags: Iterable<Tag>): Tag | undefined;
-export declare function bestForHeader<Tag extends Text, Otherwise>(header: Header, tags: Iterable<Tag>, otherwise: Otherwise): Tag | Otherwise;
+export declare function bestForHeader<Tag extends Text>(header: Header, tags: List<Tag>): Tag | undefined;
+export declare function bestForHeader<Tag extends Text, Otherwise>(header: Header, tags: List<Tag>, otherwise: Otherwise): Tag | Otherwise;
 /**
  * Returns the best tag for a header, as bestForHeader does, with its index, range and distance, or undefined. The distance shows whether
  * the list has the language itself, or only a language near it.
  *
  *     matchForHeader("tlh", ["de", "en"]); // { index: 1, tag: "en", distance: 30, range: "tlh" }
  */
-export declare function matchForHeader<Tag extends Text>(header: Header, tags: Iterable<Tag>): BestMatch<Tag> | undefined;
+export declare function matchForHeader<Tag extends Text>(header: Header, tags: List<Tag>): BestMatch<Tag> | undefined;
 /**
  * Returns all suitable tags for a header, best first: the tag that bestForHeader chooses, the tag that it chooses among the other tags, and
  * so on. A catalogue looks for a message in this order. If `most` is given, it returns so many of the best.
  *
  *     suitableForHeader("de-CH,fr;q=0.7", ["en", "fr", "de", "de-AT"]); // ["de", "de-AT", "fr"]
  */
-export declare function suitableForHeader<Tag extends Text>(header: Header, tags: Iterable<Tag>, most?: number): Tag[];
+export declare function suitableForHeader<Tag extends Text>(header: Header, tags: List<Tag>, most?: number): Tag[];
 /**
  * Returns all suitable tags for a list of ranges in order of preference, best first, as suitableForHeader does for a header.
  *
  *     suitableForRanges(["de_CH", "fr"], ["en", "fr", "de"]); // ["de", "fr"]
  */
-export declare function suitableForRanges<Tag extends Text>(ranges: Iterable<Text>, tags: Iterable<Tag>, most?: number): Tag[];
+export declare function suitableForRanges<Tag extends Text>(ranges: List<Text>, tags: List<Tag>, most?: number): Tag[];
 /** Returns the length of the longest prefix with which some tag begins: 3 for "i-no". */
 export declare function viableLength(text: Text): number;
 /** Returns the length of the shortest prefix with which no tag begins, or of the whole string if there is none: 4 for "i-no". */
@@ -381,8 +383,8 @@ export declare function stopLength(text: Text): number;
  *
  *     bestForRanges(["fi", "zh_TW", "en"], ["en", "zh-Hans", "zh-Hant"]); // "zh-Hant"
  */
-export declare function bestForRanges<Tag extends Text>(ranges: Iterable<Text>, tags: Iterable<Tag>): Tag | undefined;
-export declare function bestForRanges<Tag extends Text, Otherwise>(ranges: Iterable<Text>, tags: Iterable<Tag>, otherwise: Otherwise): Tag | Otherwise;
+export declare function bestForRanges<Tag extends Text>(ranges: List<Text>, tags: List<Tag>): Tag | undefined;
+export declare function bestForRanges<Tag extends Text, Otherwise>(ranges: List<Text>, tags: List<Tag>, otherwise: Otherwise): Tag | Otherwise;
 /**
  * The tags of a site that are known before the requests, such as the languages of its translations. What a choice needs of each tag is
  * computed once, so a choice of one tag takes less time than with a list. The methods return what the functions of the same names return for
@@ -396,19 +398,19 @@ export declare class Site<Tag extends Text = string> {
     #private;
     /** The tags, as they were given. */
     readonly tags: readonly Tag[];
-    constructor(tags: Iterable<Tag>);
+    constructor(tags: List<Tag>);
     /** Returns the best tag for a header, or the last argument. */
     bestForHeader(header: Header): Tag | undefined;
     bestForHeader<Otherwise>(header: Header, otherwise: Otherwise): Tag | Otherwise;
     /** Returns the best tag for a header with its index, range and distance, or undefined. */
     matchForHeader(header: Header): BestMatch<Tag> | undefined;
     /** Returns the best tag for a list of ranges in order of preference, or the last argument. */
-    bestForRanges(ranges: Iterable<Text>): Tag | undefined;
-    bestForRanges<Otherwise>(ranges: Iterable<Text>, otherwise: Otherwise): Tag | Otherwise;
+    bestForRanges(ranges: List<Text>): Tag | undefined;
+    bestForRanges<Otherwise>(ranges: List<Text>, otherwise: Otherwise): Tag | Otherwise;
     /** Returns all suitable tags for a header, best first, or the `most` best, as the function suitableForHeader does, and in the same time. */
     suitableForHeader(header: Header, most?: number): Tag[];
     /** Returns all suitable tags for a list of ranges, best first, or the `most` best, as the function suitableForRanges does. */
-    suitableForRanges(ranges: Iterable<Text>, most?: number): Tag[];
+    suitableForRanges(ranges: List<Text>, most?: number): Tag[];
 }
 /**
  * Returns an English name of a tag, made of CLDR's names for the subtags of its locale form, or of its canonical form if it has none:

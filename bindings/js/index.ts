@@ -34,6 +34,9 @@ export type Kind = "normal" | "private-use" | "irregular";
 export type Fault =
     | "language" | "extlang" | "second-extlang" | "script" | "region" | "variant" | "repeated-variant" | "repeated-singleton";
 
+/** Tags or ranges, in any iterable but a string. */
+export type List<Item> = Iterable<Item> & object;
+
 /** The subtags of an extension: "co-pinyin", or ["co", "pinyin"]. */
 export type Subtags = string | Iterable<string>;
 
@@ -703,8 +706,8 @@ function chosen(choose, wanted, tags, otherwise) {
  *
  *     lookUp(["nl", "ZH-hant-CN"], ["en", "zh-Hant", "zh"]); // "zh-Hant"
  */
-export function lookUp<Tag extends Text>(ranges: Iterable<Text>, tags: Iterable<Tag>): Tag | undefined;
-export function lookUp<Tag extends Text, Otherwise>(ranges: Iterable<Text>, tags: Iterable<Tag>, otherwise: Otherwise): Tag | Otherwise;
+export function lookUp<Tag extends Text>(ranges: List<Text>, tags: List<Tag>): Tag | undefined;
+export function lookUp<Tag extends Text, Otherwise>(ranges: List<Text>, tags: List<Tag>, otherwise: Otherwise): Tag | Otherwise;
 export function lookUp(ranges: any, tags: any, otherwise?: any) {
     const header = [...several(ranges, "ranges")].map((range) => rangeOf(range).text.replaceAll("-*", "")).join();
     return chosen(calls.tagForHeaderLenient, header, tags, otherwise);
@@ -745,8 +748,8 @@ export class AcceptLanguage {
     }
 
     /** Returns the tag that the ranges find by lookup, the greatest weight first, or the last argument. */
-    lookUp<Tag extends Text>(tags: Iterable<Tag>): Tag | undefined;
-    lookUp<Tag extends Text, Otherwise>(tags: Iterable<Tag>, otherwise: Otherwise): Tag | Otherwise;
+    lookUp<Tag extends Text>(tags: List<Tag>): Tag | undefined;
+    lookUp<Tag extends Text, Otherwise>(tags: List<Tag>, otherwise: Otherwise): Tag | Otherwise;
     lookUp(tags: any, otherwise?: any) {
         return lookUp(this.#wanted(), tags, otherwise);
     }
@@ -755,23 +758,23 @@ export class AcceptLanguage {
      * Returns the best tag for the ranges by language distance, as bestForRanges does, or the last argument. Malformed elements and ranges
      * of weight 0 are not among the ranges. So de_CH is not repaired and de-CH;q=0 excludes nothing. bestForHeader does both.
      */
-    best<Tag extends Text>(tags: Iterable<Tag>): Tag | undefined;
-    best<Tag extends Text, Otherwise>(tags: Iterable<Tag>, otherwise: Otherwise): Tag | Otherwise;
+    best<Tag extends Text>(tags: List<Tag>): Tag | undefined;
+    best<Tag extends Text, Otherwise>(tags: List<Tag>, otherwise: Otherwise): Tag | Otherwise;
     best(tags: any, otherwise?: any) {
         return bestForRanges(this.#wanted(), tags, otherwise);
     }
 }
 
 /** Returns the tag that a header finds by lookup, or the last argument; throws AcceptLanguageError if an element is malformed. */
-export function tagForHeader<Tag extends Text>(header: Header, tags: Iterable<Tag>): Tag | undefined;
-export function tagForHeader<Tag extends Text, Otherwise>(header: Header, tags: Iterable<Tag>, otherwise: Otherwise): Tag | Otherwise;
+export function tagForHeader<Tag extends Text>(header: Header, tags: List<Tag>): Tag | undefined;
+export function tagForHeader<Tag extends Text, Otherwise>(header: Header, tags: List<Tag>, otherwise: Otherwise): Tag | Otherwise;
 export function tagForHeader(header: any, tags: any, otherwise?: any) {
     return AcceptLanguage.parse(header).lookUp(tags, otherwise);
 }
 
 /** Returns the tag that a header finds by lookup, or the last argument. Malformed elements are skipped. */
-export function tagForHeaderLenient<Tag extends Text>(header: Header, tags: Iterable<Tag>): Tag | undefined;
-export function tagForHeaderLenient<Tag extends Text, Otherwise>(header: Header, tags: Iterable<Tag>, otherwise: Otherwise): Tag | Otherwise;
+export function tagForHeaderLenient<Tag extends Text>(header: Header, tags: List<Tag>): Tag | undefined;
+export function tagForHeaderLenient<Tag extends Text, Otherwise>(header: Header, tags: List<Tag>, otherwise: Otherwise): Tag | Otherwise;
 export function tagForHeaderLenient(header: any, tags: any, otherwise?: any) {
     return chosen(calls.tagForHeaderLenient, headerText(header), tags, otherwise);
 }
@@ -808,8 +811,8 @@ export function unknownModifier(name: string): string | undefined {
  *
  *     bestForHeader("gsw", ["fr", "de-CH"], "fr"); // "de-CH"
  */
-export function bestForHeader<Tag extends Text>(header: Header, tags: Iterable<Tag>): Tag | undefined;
-export function bestForHeader<Tag extends Text, Otherwise>(header: Header, tags: Iterable<Tag>, otherwise: Otherwise): Tag | Otherwise;
+export function bestForHeader<Tag extends Text>(header: Header, tags: List<Tag>): Tag | undefined;
+export function bestForHeader<Tag extends Text, Otherwise>(header: Header, tags: List<Tag>, otherwise: Otherwise): Tag | Otherwise;
 export function bestForHeader(header: any, tags: any, otherwise?: any) {
     return chosen(calls.bestForHeader, headerText(header), tags, otherwise);
 }
@@ -820,7 +823,7 @@ export function bestForHeader(header: any, tags: any, otherwise?: any) {
  *
  *     matchForHeader("tlh", ["de", "en"]); // { index: 1, tag: "en", distance: 30, range: "tlh" }
  */
-export function matchForHeader<Tag extends Text>(header: Header, tags: Iterable<Tag>): BestMatch<Tag> | undefined {
+export function matchForHeader<Tag extends Text>(header: Header, tags: List<Tag>): BestMatch<Tag> | undefined {
     const list = [...several(tags, "tags")], text = headerText(header);
     const [index, start, length, distance] = calls.matchForHeader(text, list.map((tag) => tagOf(tag).text));
     return index < list.length ? { index, tag: list[index], distance, range: text.slice(start, start + length) } : undefined;
@@ -838,7 +841,7 @@ function suitable(choose, wanted, tags, most) {
  *
  *     suitableForHeader("de-CH,fr;q=0.7", ["en", "fr", "de", "de-AT"]); // ["de", "de-AT", "fr"]
  */
-export function suitableForHeader<Tag extends Text>(header: Header, tags: Iterable<Tag>, most = Infinity): Tag[] {
+export function suitableForHeader<Tag extends Text>(header: Header, tags: List<Tag>, most = Infinity): Tag[] {
     return suitable(calls.suitableForHeader, headerText(header), tags, most);
 }
 
@@ -847,7 +850,7 @@ export function suitableForHeader<Tag extends Text>(header: Header, tags: Iterab
  *
  *     suitableForRanges(["de_CH", "fr"], ["en", "fr", "de"]); // ["de", "fr"]
  */
-export function suitableForRanges<Tag extends Text>(ranges: Iterable<Text>, tags: Iterable<Tag>, most = Infinity): Tag[] {
+export function suitableForRanges<Tag extends Text>(ranges: List<Text>, tags: List<Tag>, most = Infinity): Tag[] {
     return suitable(calls.suitableForRanges, rangeTexts(ranges), tags, most);
 }
 
@@ -868,8 +871,8 @@ export function stopLength(text: Text): number {
  *
  *     bestForRanges(["fi", "zh_TW", "en"], ["en", "zh-Hans", "zh-Hant"]); // "zh-Hant"
  */
-export function bestForRanges<Tag extends Text>(ranges: Iterable<Text>, tags: Iterable<Tag>): Tag | undefined;
-export function bestForRanges<Tag extends Text, Otherwise>(ranges: Iterable<Text>, tags: Iterable<Tag>, otherwise: Otherwise): Tag | Otherwise;
+export function bestForRanges<Tag extends Text>(ranges: List<Text>, tags: List<Tag>): Tag | undefined;
+export function bestForRanges<Tag extends Text, Otherwise>(ranges: List<Text>, tags: List<Tag>, otherwise: Otherwise): Tag | Otherwise;
 export function bestForRanges(ranges: any, tags: any, otherwise?: any) {
     return chosen(calls.bestForRanges, rangeTexts(ranges), tags, otherwise);
 }
@@ -892,7 +895,7 @@ export class Site<Tag extends Text = string> {
     declare readonly tags: readonly Tag[];
     #prepared;
 
-    constructor(tags: Iterable<Tag>) {
+    constructor(tags: List<Tag>) {
         this.tags = Object.freeze([...several(tags, "tags")]);
         this.#prepared = prepareSite(this.tags.map((tag) => tagOf(tag).text));
         Object.freeze(this);
@@ -912,8 +915,8 @@ export class Site<Tag extends Text = string> {
     }
 
     /** Returns the best tag for a list of ranges in order of preference, or the last argument. */
-    bestForRanges(ranges: Iterable<Text>): Tag | undefined;
-    bestForRanges<Otherwise>(ranges: Iterable<Text>, otherwise: Otherwise): Tag | Otherwise;
+    bestForRanges(ranges: List<Text>): Tag | undefined;
+    bestForRanges<Otherwise>(ranges: List<Text>, otherwise: Otherwise): Tag | Otherwise;
     bestForRanges(ranges: any, otherwise?: any) {
         return this.#at(calls.siteBestForRanges(rangeTexts(ranges), this.#prepared), otherwise);
     }
@@ -924,7 +927,7 @@ export class Site<Tag extends Text = string> {
     }
 
     /** Returns all suitable tags for a list of ranges, best first, or the `most` best, as the function suitableForRanges does. */
-    suitableForRanges(ranges: Iterable<Text>, most = Infinity): Tag[] {
+    suitableForRanges(ranges: List<Text>, most = Infinity): Tag[] {
         return suitableForRanges(ranges, this.tags, most);
     }
 

@@ -42,6 +42,8 @@ console.log(ofSite, ofBare, index, ofRanges, script, subtags, form, identifier, 
 LanguageTag.parse(5);
 // @ts-expect-error a number is not a header
 bestForHeader(5, ["de"]);
+// @ts-expect-error a string is not a list
+bestForHeader("de", "en");
 // @ts-expect-error the language can't be taken out
 tag.with({ language: null });
 // @ts-expect-error there is no such part
