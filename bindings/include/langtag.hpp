@@ -961,7 +961,7 @@ private:
 };
 
 /* Returns the distance from the desired tag to a supported tag (UTS #35, Language Matching): 0 from zh-TW to zh-Hant,
- * and at most 134. It is 255 if the tags differ and one of them is und, a private-use tag, i-default, i-enochian or
+ * and at most 134. It is 255 if the tags differ and one of them is only und, a private-use tag, i-default, i-enochian or
  * i-mingo. */
 inline std::uint32_t distance(const tag &desired, const tag &supported) noexcept {
     const std::string_view a = desired.text(), b = supported.text();

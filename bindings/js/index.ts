@@ -781,7 +781,7 @@ export function tagForHeaderLenient(header: any, tags: any, otherwise?: any) {
 
 /**
  * Returns the distance from the desired tag to a supported tag (UTS #35, Language Matching). It is at most
- * 134, or 255 if the tags differ and one of them is und, a private-use tag, i-default, i-enochian or i-mingo.
+ * 134, or 255 if the tags differ and one of them is only und, a private-use tag, i-default, i-enochian or i-mingo.
  *
  *     distance("zh-TW", "zh-Hant"); // 0
  *     distance("de", "en");         // 84

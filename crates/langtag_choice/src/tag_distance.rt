@@ -12,7 +12,7 @@ use langtag::LangTag;
 use langtag_cldr::{TagFields, are_alike, matching_form};
 use langtag_scan::case_insensitive_eq;
 
-/// The distance of two different tags if one of them is `und`, a private-use tag, `i-default`, `i-enochian` or
+/// The distance of two different tags if one of them is only `und`, a private-use tag, `i-default`, `i-enochian` or
 /// `i-mingo`.
 ///
 /// ```
@@ -30,9 +30,9 @@ pub const FORMLESS_DISTANCE: u8 = 255;
 /// of the languages (80 if no rule gives a smaller distance), the scripts (50 if no rule does) and the regions (at most
 /// 5). From 0 to 15 the user reads both: they are the same language, perhaps in another region or script, or nearly the
 /// same. Below 50 most users understand the other language. Case is ignored, and so is everything after the region,
-/// such as variants, extensions and the `oed` of `en-GB-oed`. If one of the tags is `und`, a private-use tag,
-/// `i-default`, `i-enochian` or `i-mingo`, the distance is [`FORMLESS_DISTANCE`](crate::FORMLESS_DISTANCE), or 0 if the
-/// tags are equal, ignoring case.
+/// such as variants, extensions and the `oed` of `en-GB-oed`. If one of the tags is only `und`, a private-use
+/// tag, `i-default`, `i-enochian` or `i-mingo`, the distance is [`FORMLESS_DISTANCE`](crate::FORMLESS_DISTANCE), or 0 if
+/// the tags are equal, ignoring case.
 ///
 /// A language that CLDR replaces, such as `ger`, `deu` or `iw`, is read as its replacement, and so is a deprecated
 /// region. An extended language counts only if it is registered for the language before it (RFC 5646 section 2.2.2):

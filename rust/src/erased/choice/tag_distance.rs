@@ -9,7 +9,7 @@ use crate::erased::cldr::{are_alike, matching_form, TagFields};
 use crate::erased::scan::case_insensitive_eq;
 use crate::erased::tag::LangTag;
 
-/// The distance of two different tags if one of them is `und`, a private-use tag, `i-default`,
+/// The distance of two different tags if one of them is only `und`, a private-use tag, `i-default`,
 /// `i-enochian` or `i-mingo`.
 ///
 /// ```
@@ -32,8 +32,8 @@ pub const FORMLESS_DISTANCE: u8 = 255;
 /// if no rule does) and the regions (at most 5). From 0 to 15 the user reads both: they are the
 /// same language, perhaps in another region or script, or nearly the same. Below 50 most users
 /// understand the other language. Case is ignored, and so is everything after the region, such as
-/// variants, extensions and the `oed` of `en-GB-oed`. If one of the tags is `und`, a private-use
-/// tag, `i-default`, `i-enochian` or `i-mingo`, the distance is
+/// variants, extensions and the `oed` of `en-GB-oed`. If one of the tags is only `und`, a
+/// private-use tag, `i-default`, `i-enochian` or `i-mingo`, the distance is
 /// [`FORMLESS_DISTANCE`](crate::choice::FORMLESS_DISTANCE), or 0 if the tags are equal, ignoring
 /// case.
 ///
