@@ -19,24 +19,24 @@ PATH = re.compile(r"(?:\b(?:crate|langtag\w*)::)(?:[a-z_]+::)*(?=[\w{])")
 CLAIM = re.compile(r":\s`([A-Z]\w*::[^`]+)`\sis\s`([^`]+)`\.")
 # A value in a comment behind an expression becomes an assertion.
 VALUE = re.compile(r"""^(?!\s*let )[^"]*(?:"[^"]*"[^"]*)*;\s+// (?:b?["']|\d|true\b|false\b|None\b|(?:Some|Ok|Err)?\(|[A-Z]\w*::\w)""")
-SAME = re.compile(r"\bassert(?:_eq)?!\((.+)(?:, | == )\1\)")
-ASSERTION = re.compile(r"\bassert\w*!")
+ASSERTION, ALWAYS = re.compile(r"\bassert\w*!"), re.compile(r"\bassert(?:_eq)?!\(\s*(?:true|(.+?)(?:,\s*| == )\1),?\s*\)")
 
 
 class Doc:
     """A doc comment: its words outside of code blocks, and the words after ``` and the number of assertions of each code block."""
 
     def __init__(self, line, counted):
-        self.line, self.counted, self.text, self.fences, self.is_code = line, counted, [], [], False
+        self.line, self.counted, self.text, self.fences, self.is_code, self.code = line, counted, [], [], False, ""
 
     def add(self, text):
         if text.strip().startswith("```"):
-            self.is_code = not self.is_code
+            self.is_code, self.code = not self.is_code, ""
             if self.is_code:
                 self.fences.append([text.strip()[3:], 0])
         elif self.is_code:
-            if SAME.search(text):
-                raise Difference(f"line {self.line}: an assertion compares a value with itself: {text.strip()}")
+            self.code += text.strip()
+            if ALWAYS.search(self.code):
+                raise Difference(f"line {self.line}: an assertion is always true: {text.strip()}")
             self.fences[-1][1] += any(form.search(text) for form in ((ASSERTION, VALUE) if self.fences[-1][0] else self.counted))
         else:
             self.text.append(text.strip())

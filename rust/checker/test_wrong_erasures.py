@@ -58,6 +58,8 @@ WRONG = {
     "an assertion stays a comment": (SCRIPT, 'assert!(Script::new("Latn").is_ok());', 'Script::new("Latn").is_ok(); // true'),
     "an assertion compares a value with itself": (SCRIPT, 'assert!(Script::new("Latn").is_ok());', 'assert_eq!(Script::new("Latn"), Script::new("Latn"));'),
     "an assertion is always true": (SCRIPT, 'assert!(script == Script::new("LATN")?);', "assert!(script == script);"),
+    "an assertion of two lines is always true": (SCRIPT, 'assert!(script == Script::new("LATN")?);', "assert_eq!(\n///     script,\n///     script\n/// );"),
+    "an assertion is `true`": (SCRIPT, 'assert!(script == Script::new("LATN")?);', "assert!(true);"),
     "an example is not run": (SCRIPT, "/// ```\n", "/// ```ignore\n"),
     "an example is no example": ("erased/tag/kind.rs", "/// ```\n", "/// ~~~\n"),
     "a comment says otherwise": (SCRIPT, "/// Returns", "/// Never returns"),
@@ -114,9 +116,7 @@ def is_addition_refused(checker, folder, path, new):
     path.parent.mkdir(exist_ok=True)
     path.write_text(new, encoding="utf-8")
     run = checker.Checker(modules=folder).run(only=path)
-    path.unlink()
-    if new_folder:
-        path.parent.rmdir()
+    shutil.rmtree(path.parent) if new_folder else path.unlink()
     return bool(run.faults)
 
 

@@ -236,7 +236,7 @@ static std::string elements_of(const strings &asked) {
     const auto bad = accepted.bad_element();
     const char *what = bad && bad->part == langtag::element_part::range ? "language range" : "weight";
     strings ranges;
-    for (const auto &it : accepted.ranges()) ranges.push_back(std::string(it.range.text()) + " " + std::to_string(it.weight));
+    for (const auto &it : accepted.ranges()) ranges.push_back(std::string(it.range.text()) + (it.range.is_basic() ? " " : " is extended ") + std::to_string(it.weight));
     return (bad ? "element " + std::to_string(bad->index) + " has a bad " + what + " | " : "") + shown(ranges);
 }
 

@@ -74,6 +74,7 @@ fn in_each_list(tags: &str, best: impl Fn(&dyn TagList) -> Option<usize>) -> Str
     let found = best(&tags);
     let lists: [&dyn TagList; 6] = [&lent_site, &owned, &owned_site, &texts, &strings, &site];
     assert_eq!(lists.map(best), [found; 6]);
+    assert!(langtag::erased::choice::OwnedSite::new(&tags).is_ok());
     shown(found, &tags)
 }
 
@@ -98,8 +99,7 @@ pub fn best_match(header: &[u8], tags: &str) -> String {
     let tags = tags_of(tags);
     let found = match_for_header(header, &tags);
     assert_eq!(found, Site::new(&tags[..]).match_for_header(header));
-    let index = best_for_header(header, &tags);
-    assert_eq!(found.map(|found| found.index), index);
+    assert!(found.map(|found| found.index) == best_for_header(header, &tags));
     word(found.map(|found| {
         let range = std::str::from_utf8(found.range).unwrap();
         assert!(wanted_ranges(header).nth(found.place).unwrap().bytes == found.range);
