@@ -35,13 +35,6 @@ def text(x: float, y: float, words: str, kind: str, anchor: str = "start") -> st
     return f'<text class="{kind}" x="{x:.0f}" y="{y:.0f}" text-anchor="{anchor}">{escape(words)}</text>'
 
 
-def bar(x: float, y: float, width: float, kind: str) -> str:
-    """Returns a bar with a round end."""
-    round_end = min(3.0, width / 2)
-    return (f'<path class="{kind}" d="M{x} {y}h{width - round_end:.1f}a{round_end:.1f} {round_end:.1f} 0 0 1 {round_end:.1f} {round_end:.1f}'
-            f'v{BAR - 2 * round_end:.1f}a{round_end:.1f} {round_end:.1f} 0 0 1 -{round_end:.1f} {round_end:.1f}h-{width - round_end:.1f}z"/>')
-
-
 def column(x: float, name: str, found: dict[str, float | str], scale: float) -> list[str]:
     """Returns the drawing of one list: its title, and for each parser a bar or words."""
     parts = [text(x, TOP - 26, name, "ink"), text(x, TOP - 10, LISTS[name], "quiet small")]
@@ -51,7 +44,8 @@ def column(x: float, name: str, found: dict[str, float | str], scale: float) -> 
             parts.append(text(x + 6, y + 13, ratio, "quiet small"))
             continue
         width = max(ratio * scale, 1.0)
-        parts.append(bar(x, y, width, "ours" if PARSERS[parser][0] == "langtag" else "theirs"))
+        kind = "ours" if PARSERS[parser][0] == "langtag" else "theirs"
+        parts.append(f'<rect class="{kind}" x="{x}" y="{y}" width="{width:.1f}" height="{BAR}" rx="3"/>')
         parts.append(text(x + width + 6, y + 13, shown(ratio), "ink"))
     bottom = TOP + len(PARSERS) * ROW - 6
     return [*parts, f'<path class="axis" d="M{x} {TOP - 4}V{bottom}"/>']
