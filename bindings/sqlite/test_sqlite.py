@@ -279,22 +279,20 @@ class Sqlite(unittest.TestCase):
     def test_memory(self):
         """Makes 20,000 calls of each function. The memory of SQLite's allocator must not grow. For a long tag, there is less and less."""
         numbers = "WITH RECURSIVE n(k) AS (SELECT 1 UNION ALL SELECT k + 1 FROM n WHERE k < {})"
-        calls = ("langtag_best_for_header('de', 'en', 'de-x-a' || k)", "langtag_suitable_for_header('de', 'en', 'de-x-a' || k)", "langtag_best_for_ranges('fi,de', 'de-x-a' || k)",
-                 "langtag_suitable_for_ranges('fi,de', 'de-x-a' || k)", "langtag_canonical('iw-x-' || replace(printf('%.40c', 'a'), 'a', 'abcdefgh-') || k)", "langtag_maximized('de-x-a' || k)",
-                 "langtag_part('de-x-a' || k, 'private_use')", "langtag_canonical('iw-x-a' || k)", "langtag_is_valid('de' || k)",
-                 "langtag_keyword('de-u-ca-a' || k, 'ca')", "langtag_set_keyword('de-u-ca-a', 'ca', 1000 + k)",
-                 "langtag_set_keyword('de-u-a' || k, 'ca', NULL)", "langtag_extensions_form('de-u-kn-ca-a' || k)", "langtag_is_locale('de-x-a' || k)",
-                 "langtag_locale_form('ger-x-a' || k)", "langtag_from_posix('de_x@' || k)", "langtag_unknown_modifier('de@' || k)",
-                 "langtag_matches_basic('de', 'de-x-a' || k)", "langtag_matches_extended('de', 'de-x-a' || k)",
-                 "langtag_describe('de-x-a' || k)", "langtag_autonym('de-x-a' || k)")
+        calls = ("best_for_header('de', 'en', 'de-x-a' || k)", "suitable_for_header('de', 'en', 'de-x-a' || k)", "best_for_ranges('fi,de', 'de-x-a' || k)",
+                 "suitable_for_ranges('fi,de', 'de-x-a' || k)", "canonical('iw-x-' || replace(printf('%.40c', 'a'), 'a', 'abcdefgh-') || k)", "maximized('de-x-a' || k)",
+                 "part('de-x-a' || k, 'private_use')", "canonical('iw-x-a' || k)", "is_valid('de' || k)", "keyword('de-u-ca-a' || k, 'ca')",
+                 "set_keyword('de-u-ca-a', 'ca', 1000 + k)", "set_keyword('de-u-a' || k, 'ca', NULL)", "extensions_form('de-u-kn-ca-a' || k)", "is_locale('de-x-a' || k)",
+                 "locale_form('ger-x-a' || k)", "from_posix('de_x@' || k)", "unknown_modifier('de@' || k)", "matches_basic('de', 'de-x-a' || k)",
+                 "matches_extended('de', 'de-x-a' || k)", "describe('de-x-a' || k)", "autonym('de-x-a' || k)")
         groups = "SELECT count(*) FROM (SELECT langtag_group_best_for_header('de', 'de-x-a' || k) FROM n GROUP BY k / 2)"
-        statements = "".join(f"{numbers.format(count)} SELECT {', '.join(f'count({call})' for call in calls)}, ({groups}) FROM n;\n" for count in (100, 20_000))
+        statements = "".join(f"{numbers.format(count)} SELECT {', '.join(f'count(langtag_{call})' for call in calls)}, ({groups}) FROM n;\n" for count in (100, 20_000))
         said, complaint = sqlite(".stats on\n" + statements)
         before, after = map(int, re.findall(r"Memory Used: +(\d+)", said))
         self.assertEqual(complaint, "")
         self.assertLess(after - before, 20_000)
-        for call in (*calls, *(f"langtag_{name}('de-x-a' || k, 'de-x-a' || k)" for name in ("group_best_for_header", "best_for_ranges", "match_for_header"))):
-            asked = f"SELECT '=' || quote({call}) FROM (SELECT replace(hex(zeroblob(11000)), '00', '-abcdefgh') AS k);\n"
+        for call in (*calls, *(f"{name}('de-x-a' || k, 'de-x-a' || k)" for name in ("group_best_for_header", "best_for_ranges", "match_for_header"))):
+            asked = f"SELECT '=' || quote(langtag_{call}) FROM (SELECT replace(hex(zeroblob(11000)), '00', '-abcdefgh') AS k);\n"
             said, complaint = sqlite(asked + "".join(f"PRAGMA hard_heap_limit = {limit};\n{asked}" for limit in range(1_800_000, 300_000, -10_000)))
             answers, errors = re.findall("(?m)^=.*$", said), re.findall("(?m)^.* line [0-9]+: ([a-z ]*[a-z])", complaint)
             self.assertEqual((len(set(answers)), set(errors), len(answers) + len(errors)), (1, {"out of memory"}, 151), call)
