@@ -153,9 +153,7 @@ TABLE = "CREATE TABLE texts (tag TEXT PRIMARY KEY COLLATE langtag); INSERT INTO 
 # Statements, and SQLite's output for them.
 STATEMENTS = [
     # A function that says yes or no says no for a string that is no tag.
-    ("SELECT langtag_is_well_formed('de_DE'), langtag_is_valid('de_DE'), langtag_is_locale('de_DE'), langtag_is_valid('not a tag at all'), "
-     "langtag_is_valid(''), langtag_is_valid(X''), langtag_is_valid(5), langtag_is_well_formed(''), langtag_matches_basic('d_', 'de'), langtag_matches_extended('de', 'd_');",
-     "0|0|0|0|0|0|0|0|0|0"),
+    ("SELECT langtag_is_locale('de_DE'), langtag_is_valid(X''), langtag_is_valid(5), langtag_matches_basic('d_', 'de'), langtag_matches_extended('de', 'd_');", "0|0|0|0|0"),
     ("CREATE TABLE t (tag TEXT); INSERT INTO t VALUES ('de'), ('de_DE'), (NULL), ('not a tag at all'); SELECT count(*), group_concat(tag) FROM t WHERE NOT langtag_is_valid(tag);",
      "2|de_DE,not a tag at all"),
     ("SELECT langtag_set_keyword('d_', 'c1', '') IS NULL;", "1"),
@@ -294,7 +292,7 @@ class Sqlite(unittest.TestCase):
         for call in (*calls, *(f"{name}('de-x-a' || k, 'de-x-a' || k)" for name in ("group_best_for_header", "best_for_ranges", "match_for_header"))):
             asked = f"SELECT '=' || quote(langtag_{call}) FROM (SELECT replace(hex(zeroblob(11000)), '00', '-abcdefgh') AS k);\n"
             said, complaint = sqlite(asked + "".join(f"PRAGMA hard_heap_limit = {limit};\n{asked}" for limit in range(1_800_000, 300_000, -10_000)))
-            answers, errors = re.findall("(?m)^=.*$", said), re.findall("(?m)^.* line [0-9]+: ([a-z ]*[a-z])", complaint)
+            answers, errors = re.findall("(?m)^=.*$", said), re.findall(r"line \d+: ([a-z ]*[a-z])", complaint)
             self.assertEqual((len(set(answers)), set(errors), len(answers) + len(errors)), (1, {"out of memory"}, 151), call)
 
 
