@@ -1,5 +1,5 @@
 -- The first extension of a singleton, by where it stands in a tag.
-use Rattle.langtag_keyword.proofs.Common.{◌≡◌, ◌+◌, ◌-◌, ◌≤◌, ℕ, Bool, List, [], length, unwrap_or, arith, ◌<◌, ◌∷◌, take, drop, map, find, Option, None, Some, refl, ap, sym, subst, ◌∙◌, position_or_len, eqb_tells, nat_tests, length-drop, take_all, drop-drop, drop-take, option_map_or, fold_byte, length-slice_split, is_extension_subtag, ends_of, EachRecord, Extension, Record, IsWellFormed, is_hyphen, subtags, of_extension_subtag, each_subtag, extension_texts, IsExtension, SpellsExtensions, extension_spelling, find_extension, extension_found, option_map, join, inl, inr, true, false, cond, join, length_with_hyphens, drop_all, IsTrue, false≢true, value_of, zero, suc}
+use Rattle.langtag_keyword.proofs.Common.{◌≡◌, ◌+◌, ◌-◌, ◌≤◌, ℕ, Bool, List, [], length, unwrap_or, arith, ◌<◌, ◌∷◌, take, drop, map, find, Option, None, Some, refl, ap, sym, subst, ◌∙◌, position_or_len, eqb_tells, nat_tests, length-drop, take_all, drop-drop, drop-take, option_map_or, fold_byte, length-slice_split, is_extension_subtag, ends_of, EachRecord, Extension, Record, IsWellFormed, is_hyphen, subtags, of_extension_subtag, each_subtag, extension_texts, IsExtension, SpellsExtensions, extension_spelling, find_extension, extension_found, option_map, join, inl, inr, true, false, join, length_with_hyphens, drop_all, IsTrue, false≢true, value_of, zero, suc}
 use Rattle.langtag_scan.proofs.Prelude.{eqb, slice_index_or, Bor, after_first, cases_lt}
 use Rattle.langtag_scan.specs.Grammar.{text_between, extensions_part, segments, HasEnds, IsNormal, Spells}
 use Rattle.std.proofs.lemmas.List.{drop_min}

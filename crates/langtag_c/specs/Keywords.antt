@@ -1,5 +1,5 @@
 -- The keywords of `u` and the fields of `t` (RFC 6067 section 2.1, RFC 6497 section 2.2) that are left after a walk has
--- passed some subtags.
+-- passed some subtags, and where they are in the tag.
 use Rattle.std.specs.Prelude.{◌≡◌, ℕ, ◌+◌, ◌-◌, ◌==◌, ◌&&◌, Bool, IsTrue, List, [], ◌∷◌, if◌then◌else◌, drop, length, map, take}
 use Rattle.langtag_scan.specs.Grammar.{after_first, are_alike, fold_byte, AllByRecursion, Extension, Record, ends_of, join, subtags}
 use Rattle.langtag_scan.proofs.SubtagFacts.{IsSubtag}

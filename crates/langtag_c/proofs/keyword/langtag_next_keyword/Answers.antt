@@ -14,9 +14,10 @@ returns-clause-place c ok r spells =
     let is = subtags.ensures.subtags.part r spells in
     let place = c.in-Some.ensures.place in
     let n = c.next_key.new.passed in
-    let some = some-left is_key c.args.passed.now _ _ _ c.in-Some.ensures.some in
-    (subst (λ ss. IsTrue (is_new_key is_key (take (n - 1) ss) (span_text text c.in-Some.place.key))) is place.0,
-    begins-with 117 text subtags.result c.in-Some.place.key (drop (n - 1) (subtags_of 117 r)) r spells subtags.ensures.end some
-    (subst (λ ss. c.in-Some.place.key.start + length (join (drop (n - 1) ss)) ≡ end_of subtags.result) is place.1),
-    begins-with 117 text subtags.result c.in-Some.place.value (drop n (subtags_of 117 r)) r spells subtags.ensures.end some
-    (subst (λ ss. c.in-Some.place.value.start + length (join (drop n ss)) ≡ end_of subtags.result) is place.2))
+    let some = some-left is_key c.args.passed.now _ _ _ c.in-Some.ensures.some in (
+      subst (λ ss. IsTrue (is_new_key is_key (take (n - 1) ss) (span_text text c.in-Some.place.key))) is place.0,
+      begins-with 117 text subtags.result c.in-Some.place.key (drop (n - 1) (subtags_of 117 r)) r spells subtags.ensures.end some
+          (subst (λ ss. c.in-Some.place.key.start + length (join (drop (n - 1) ss)) ≡ end_of subtags.result) is place.1),
+      begins-with 117 text subtags.result c.in-Some.place.value (drop n (subtags_of 117 r)) r spells subtags.ensures.end some
+          (subst (λ ss. c.in-Some.place.value.start + length (join (drop n ss)) ≡ end_of subtags.result) is place.2),
+    )
