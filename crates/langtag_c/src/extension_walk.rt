@@ -1,31 +1,8 @@
 //! Where the subtags of an extension are in a tag (RFC 5646 section 2.2.6).
-ghost use Rattle.std.specs.Prelude.{
-  ◌≡◌,
-  ◌∷◌,
-  ◌+◌,
-  ◌-◌,
-  ◌<◌,
-  IsTrue,
-  List,
-  [],
-  None,
-  MatchOption,
-  IfSome,
-  drop,
-  length,
-  option_map,
-  take,
-};
-ghost use Rattle.langtag_scan.specs.Grammar.{
-  after_first,
-  ends_of,
-  option_map_or,
-  extensions_part,
-  EachRecord,
-  Extension,
-  join,
-  IsNormal,
-};
+ghost use Rattle.std.specs.Prelude.{◌≡◌, ◌∷◌, ◌+◌, ◌-◌, ◌<◌, List, [], None, MatchOption, IfSome, IsTrue};
+ghost use Rattle.std.specs.Prelude.{drop, length, option_map, take};
+ghost use Rattle.langtag_scan.specs.Grammar.{option_map_or, extensions_part, EachRecord, Extension, join, IsNormal};
+ghost use Rattle.langtag_scan.specs.Grammar.{after_first, ends_of};
 ghost use Rattle.langtag_extension.specs.Decided.{opens_alike};
 ghost use Rattle.langtag_extension.specs.ExtensionTexts.{extension_texts};
 ghost use Rattle.langtag.specs.Definitions.{PartOf, IsExtensions, SpellsExtensions, find_extension};
