@@ -55,4 +55,3 @@ CHROMIUM=$(command -v chromium || command -v google-chrome)
 js_in_browser() { (cd js && node --test --test-reporter=spec test/browser.test.js test/page.test.js); }
 needs '[ -n "$CHROMIUM" ]' "there is no chromium (in Debian: apt-get install chromium)" \
     "JavaScript: the rows, a worker and the page in $("$CHROMIUM" --version 2>/dev/null | sed 's/ built.*//')" js_in_browser
-check "JavaScript: parsing with six parts takes at most half the time of Intl.Locale" node js/test/speed.js

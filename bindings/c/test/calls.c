@@ -442,10 +442,20 @@ OF_TWO(ranges, a, b) {
 typedef bool find_value(const char *, size_t, const char *, size_t, langtag_span *);
 typedef bool next_pair(const char *, size_t, size_t *, langtag_span *, langtag_span *);
 
+/* Says so if a span is not in the first extension with a singleton, behind the singleton. */
+static void put_place(text *to, text tag, char singleton, langtag_span span) {
+    langtag_parts parts;
+    langtag_span extension = {0, 0};
+    langtag_parse(tag.at, tag.len, &parts);
+    while (langtag_next_extension(tag.at, tag.len, &parts.extensions, &extension) && (tag.at[extension.start] | 32) != singleton) continue;
+    bool is_in = span.start > extension.start + 1 && span.start + span.len <= extension.start + extension.len;
+    if (!is_in) put_word(to, " in another place");
+}
+
 OF_TWO(keyword, tag, key) {
     langtag_span value = {1, 2};
     bool is_found = langtag_keyword(tag.at, tag.len, key.at, key.len, &value);
-    put_found(to, tag, is_found, value);
+    if (put_found(to, tag, is_found, value)) put_place(to, tag, 'u', value);
 }
 
 /* Calls langtag_without_keyword if the value is -, otherwise langtag_with_keyword. */
@@ -466,7 +476,7 @@ static void answer_with_keyword(text *to, const text *arguments) {
 }
 
 /* Writes KEY=VALUE for each, and checks that each is found by its key. */
-static int put_pairs(text *to, text tag, next_pair *next, find_value *find) {
+static int put_pairs(text *to, text tag, char singleton, next_pair *next, find_value *find) {
     size_t passed = 0;
     langtag_span key, value, found;
     int count = 0;
@@ -475,16 +485,18 @@ static int put_pairs(text *to, text tag, next_pair *next, find_value *find) {
         if (value.len > 0) put(to, tag.at + value.start, value.len);
         if (!find(tag.at, tag.len, tag.at + key.start, key.len, &found) || found.start != value.start || found.len != value.len)
             put_word(to, " which has another value");
+        put_place(to, tag, singleton, key), put_place(to, tag, singleton, value);
     }
     return count;
 }
 
-OF_ONE(keywords, a) { if (put_pairs(to, a, langtag_next_keyword, langtag_keyword) == 0) put_word(to, " -"); }
+OF_ONE(keywords, a) { if (put_pairs(to, a, 'u', langtag_next_keyword, langtag_keyword) == 0) put_word(to, " -"); }
 
 /* Writes each attribute once: an attribute that equals an earlier one is left out. */
 OF_ONE(attributes, tag) {
     langtag_span rest, one, earlier, before, all;
     if (!langtag_attributes(tag.at, tag.len, &all)) put_word(to, all.len == 0 ? " -" : " - with a span");
+    else put_place(to, tag, 'u', all);
     for (rest = all; langtag_next_subtag(tag.at, tag.len, &rest, &one);) {
         bool is_new = true;
         for (before = all; langtag_next_subtag(tag.at, tag.len, &before, &earlier) && earlier.start < one.start;)
@@ -496,7 +508,9 @@ OF_ONE(attributes, tag) {
 OF_ONE(transform, tag) {
     langtag_span language = {1, 2};
     bool is_found = langtag_transform(tag.at, tag.len, &language);
-    if (put_found(to, tag, is_found, language)) put_pairs(to, tag, langtag_next_field, langtag_field);
+    if (!put_found(to, tag, is_found, language)) return;
+    put_place(to, tag, 't', language);
+    put_pairs(to, tag, 't', langtag_next_field, langtag_field);
 }
 
 static langtag_prepared_tag site[MOST_TAGS], stale[MOST_TAGS];

@@ -8,7 +8,7 @@ use Rattle.langtag_c.specs.Spans.{HasBytes, end_of, span_between, span_text, IsW
 use Rattle.langtag_c.specs.declared.span.Span.{Span}
 use Rattle.langtag_range.specs.Element.{is_comma, is_ows, items}
 use Rattle.langtag_c.specs.Negotiation.{filled_items}
-use Rattle.langtag_scan.proofs.SubtagLists.{length-subtags, subtags-segments}
+use Rattle.langtag_scan.proofs.SubtagLists.{join-subtags, length-subtags, subtags-segments}
 use Rattle.langtag_keyword.proofs.SubtagTexts.{segments-cut, segments-whole, length-before_key, take-before_key, keywords-other}
 use Rattle.langtag_c.specs.Keywords.{HasSubtags, keywords_from, subtags_in}
 
@@ -64,6 +64,14 @@ first-taken e es text len spells some is = elim (cases_lt len (length text.now))
 
 pub length-span : (text : List ℕ) (span : Span) → HasBytes text span → length (span_text text span) ≡ span.len
 length-span text span has = omega (arith, length-take (end_of span - span.start) (drop span.start text), length-drop span.start text, has.1)
+
+-- the subtags of a span, joined, have its length
+pub length-in : (text : List ℕ) (span : Span) → IsWithin text span → length (join (subtags_in text span)) ≡ span.len
+length-in text span within = ap length (join-subtags (span_text text span)) ∙ omega (arith, length-take (end_of span - span.start) (drop span.start text), length-drop span.start text, within)
+
+-- so they go up to its end
+pub up-to : (text : List ℕ) (span : Span) (start : ℕ) (ss : List (List ℕ)) → IsWithin text span → subtags_in text span ≡ ss → start ≡ span.start → start + length (join ss) ≡ end_of span
+up-to text span start ss within is same = omega (arith, same, ap (λ ts. length (join ts)) is, length-in text span within)
 
 -- some first bytes of a span
 pub span-first :

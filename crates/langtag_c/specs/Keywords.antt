@@ -1,9 +1,11 @@
 -- The keywords of `u` and the fields of `t` (RFC 6067 section 2.1, RFC 6497 section 2.2) that are left after a walk has
--- passed some subtags.
-use Rattle.std.specs.Prelude.{ℕ, Bool, List, drop, take}
-use Rattle.langtag_scan.specs.Grammar.{AllByRecursion, subtags}
+-- passed some subtags, and where they are in the tag.
+use Rattle.std.specs.Prelude.{◌≡◌, ℕ, ◌+◌, ◌-◌, ◌==◌, ◌&&◌, Bool, IsTrue, List, [], ◌∷◌, if◌then◌else◌, drop, length, map, take}
+use Rattle.langtag_scan.specs.Grammar.{after_first, are_alike, fold_byte, AllByRecursion, Extension, Record, ends_of, join, subtags}
 use Rattle.langtag_scan.proofs.SubtagFacts.{IsSubtag}
-use Rattle.langtag_keyword.specs.Keywords.{Keyword, keywords_after}
+use Rattle.langtag_extension.specs.Spelling.{extension_spelling}
+use Rattle.langtag_keyword.specs.Keys.{length_with_hyphens}
+use Rattle.langtag_keyword.specs.Keywords.{Keyword, is_new_key, keywords_after, subtags_of}
 use Rattle.langtag_c.specs.Spans.{IsWithin, span_text}
 use Rattle.langtag_c.specs.declared.span.Span.{Span}
 
@@ -14,6 +16,29 @@ subtags_in text span = subtags (span_text text span)
 -- the keywords after the first `passed` subtags: each key that equals no subtag before it, with its value
 abbrev pub keywords_from : (List ℕ → Bool) → List (List ℕ) → ℕ → List Keyword
 keywords_from opens subtags passed = keywords_after opens (take passed subtags) (drop passed subtags)
+
+-- the subtags after the first occurrence of a key, ignoring case
+abbrev pub after_key : (List ℕ → Bool) → List ℕ → List (List ℕ) → List (List ℕ)
+after_key opens key [] = []
+after_key opens key (subtag ∷ subtags) = if opens subtag && are_alike subtag key then subtags else after_key opens key subtags
+
+-- the extensions after the first one with a singleton, ignoring case
+abbrev pub extensions_after : ℕ → List Extension → List Extension
+extensions_after singleton es = after_first (λ e. fold_byte e.singleton == fold_byte singleton) es
+
+-- where the first extension with a singleton ends: behind it are the other extensions, each after a hyphen
+abbrev pub IsEnd : ℕ → Record → ℕ → Type 0
+IsEnd singleton r end = end + length_with_hyphens (map extension_spelling (extensions_after singleton r.extensions)) ≡ (ends_of r).extensions
+
+-- a span begins where the subtags `left` begin, which are the last ones of the first extension with a singleton
+abbrev pub BeginsWith : ℕ → List (List ℕ) → Record → Span → Type 0
+BeginsWith singleton left r span = IsEnd singleton r (span.start + length (join left))
+
+-- a walk went up to a key that equals no subtag before it, and to its value, which follows it
+abbrev pub AreAfter : (List ℕ → Bool) → ℕ → ℕ → List ℕ → Record → Span → Span → Type 0
+AreAfter opens singleton passed text r key value =
+    IsTrue (is_new_key opens (take (passed - 1) (subtags_of singleton r)) (span_text text key))
+    × BeginsWith singleton (drop (passed - 1) (subtags_of singleton r)) r key × BeginsWith singleton (drop passed (subtags_of singleton r)) r value
 
 -- the span is within the text, and its subtags have one to eight letters and digits
 pub record HasSubtags (text : List ℕ) (span : Span) : Type 0 where

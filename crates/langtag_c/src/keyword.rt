@@ -4,7 +4,7 @@ ghost use Rattle.langtag_scan.specs.Grammar.{EachRecord, join, IsNormal};
 ghost use Rattle.langtag.specs.Definitions.{PartOf};
 ghost use Rattle.langtag_keyword.specs.Keywords as spec;
 ghost use Rattle.langtag_c.specs.Answers.{answered};
-ghost use Rattle.langtag_c.specs.Keywords.{keywords_from};
+ghost use Rattle.langtag_c.specs.Keywords.{AreAfter, BeginsWith, after_key, keywords_from};
 ghost use Rattle.langtag_c.specs.Spans.{IsWithin, span_text};
 
 use crate::extension_walk::{before_key, extension_subtags, next_key, value_of};
@@ -31,6 +31,8 @@ pub extern "C" fn langtag_keyword(bytes: &[u8], key: &[u8], value: &mut Span) ->
     ensures value { PartOf bytes.now (λ r. option_map join (spec.value_of spec.is_key key.now (spec.subtags_of 117 r))) None
         (answered result (span_text bytes.now value.new)) }
     ensures within { IsTrue result → IsWithin bytes.now value.new }
+    ensures place { IsTrue result → EachRecord bytes.now (λ r. BeginsWith 117 (after_key spec.is_key key.now (spec.subtags_of 117 r)) r
+        value.new) }
     ensures nothing { result ≡ false → value.new ≡ value.old }
 {
     let subtags = extension_subtags(bytes, b'u');
@@ -70,6 +72,7 @@ pub extern "C" fn langtag_next_keyword(
     // law: there is none if and only if none is left
     ensures end { result ≡ false → EachRecord bytes.now (λ r. keywords_from spec.is_key (spec.subtags_of 117 r) passed.old ≡ []) }
     ensures within { IsTrue result → IsWithin bytes.now key.new × IsWithin bytes.now value.new }
+    ensures place { IsTrue result → EachRecord bytes.now (λ r. AreAfter spec.is_key 117 passed.new bytes.now r key.new value.new) }
     ensures nothing { result ≡ false → (passed.new ≡ passed.old) × (key.new ≡ key.old) × (value.new ≡ value.old) }
 {
     let subtags = extension_subtags(bytes, b'u');
@@ -92,6 +95,7 @@ pub extern "C" fn langtag_attributes(bytes: &[u8], attributes: &mut Span) -> boo
         (span_text bytes.now attributes.new) }
     ensures some { IsTrue result ↔ 0 < attributes.new.len }
     ensures within { IsWithin bytes.now attributes.new }
+    ensures place { IsTrue result → EachRecord bytes.now (λ r. BeginsWith 117 (spec.subtags_of 117 r) r attributes.new) }
 {
     let subtags = extension_subtags(bytes, b'u');
     *attributes = before_key(bytes, subtags, Keys::Unicode);

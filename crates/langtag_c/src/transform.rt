@@ -5,7 +5,7 @@ ghost use Rattle.langtag.specs.Definitions.{PartOf, find_extension};
 ghost use Rattle.langtag_keyword.specs.Keywords as spec;
 ghost use Rattle.langtag_keyword.specs.Transform.{is_field_key};
 ghost use Rattle.langtag_c.specs.Answers.{answered};
-ghost use Rattle.langtag_c.specs.Keywords.{keywords_from};
+ghost use Rattle.langtag_c.specs.Keywords.{AreAfter, BeginsWith, after_key, keywords_from};
 ghost use Rattle.langtag_c.specs.Spans.{IsWithin, span_text};
 
 use crate::extension_walk::{before_key, extension_subtags, next_key, value_of};
@@ -22,6 +22,7 @@ pub extern "C" fn langtag_transform(bytes: &[u8], language: &mut Span) -> bool
     ensures language { PartOf bytes.now (λ r. option_map (λ e. join (spec.before_key is_field_key e.subtags))
         (find_extension 116 r.extensions)) None (answered result (span_text bytes.now language.new)) }
     ensures within { IsTrue result → IsWithin bytes.now language.new }
+    ensures place { IsTrue result → EachRecord bytes.now (λ r. BeginsWith 116 (spec.subtags_of 116 r) r language.new) }
     ensures nothing { result ≡ false → language.new ≡ language.old }
 {
     let subtags = extension_subtags(bytes, b't');
@@ -39,6 +40,8 @@ pub extern "C" fn langtag_field(bytes: &[u8], key: &[u8], value: &mut Span) -> b
     ensures value { PartOf bytes.now (λ r. option_map join (spec.value_of is_field_key key.now (spec.subtags_of 116 r))) None
         (answered result (span_text bytes.now value.new)) }
     ensures within { IsTrue result → IsWithin bytes.now value.new }
+    ensures place { IsTrue result → EachRecord bytes.now (λ r. BeginsWith 116 (after_key is_field_key key.now (spec.subtags_of 116 r)) r
+        value.new) }
     ensures nothing { result ≡ false → value.new ≡ value.old }
 {
     let subtags = extension_subtags(bytes, b't');
@@ -67,6 +70,7 @@ pub extern "C" fn langtag_next_field(
     ensures end { result ≡ false → EachRecord bytes.now
         (λ r. keywords_from is_field_key (spec.subtags_of 116 r) passed.old ≡ []) }
     ensures within { IsTrue result → IsWithin bytes.now key.new × IsWithin bytes.now value.new }
+    ensures place { IsTrue result → EachRecord bytes.now (λ r. AreAfter is_field_key 116 passed.new bytes.now r key.new value.new) }
     ensures nothing { result ≡ false → (passed.new ≡ passed.old) × (key.new ≡ key.old) × (value.new ≡ value.old) }
 {
     let subtags = extension_subtags(bytes, b't');

@@ -82,8 +82,9 @@ impl<'a> Iterator for WantedRanges<'a> {
     }
 }
 
-/// Returns the first range of a header, as [`wanted_ranges`] reads it, and the string after its comma. Returns `None`
-/// if there is no range. Use it instead of the iterator if the state of your loop has to be a `Copy` value.
+/// Returns the first range of a header, as [`wanted_ranges`] reads it, and a string that has the other ranges, such as
+/// what stands after its comma. Returns `None` if there is no range. Use it instead of the iterator if the state of
+/// your loop has to be a `Copy` value.
 ///
 /// ```
 /// use langtag_match::split_wanted;

@@ -1,8 +1,10 @@
 use Rattle.langtag_scan.proofs.Prelude.{cases_lt}
-use Rattle.langtag_keyword.proofs.Common.{refl, sym, subst, ap, ◌∙◌, arith, nat_tests, extension_texts, subtags}
+use Rattle.langtag_keyword.proofs.Common.{refl, sym, subst, ap, ◌∙◌, arith, nat_tests, extension_texts, length_with_hyphens, subtags}
+use Rattle.langtag_scan.specs.Grammar.{after_first}
+use Rattle.langtag_extension.specs.Decided.{opens_alike}
 use Rattle.std.proofs.Common.{eq-eqb, ne_eqb}
 use Rattle.langtag_c.specs.Spans.{end_of, span_text}
-use Rattle.langtag_c.proofs.FoundExtension.{after-singleton, extension-step, opens-text, subtags-first, subtags-none, without-singleton}
+use Rattle.langtag_c.proofs.FoundExtension.{after-opening, after-other, after-singleton, end-first, extension-step, opens-text, subtags-first, subtags-none, without-singleton}
 use Rattle.langtag_c.proofs.ExtensionSpans.{AreSubtags}
 use Rattle.langtag_c.proofs.extension_walk.find_extension.Goals as goal
 
@@ -38,6 +40,19 @@ returns-then-into_smallcase-clause-some c =
       some = subst (λ t. AreSubtags (subtags t)) (sym is) (after-singleton _ step.first).0;
     }
 
+pub returns-then-into_smallcase-clause-end : goal.returns-then-into_smallcase-clause-end
+returns-then-into_smallcase-clause-end c some =
+    let part = c.in-Some.ensures in
+    let taken = c.take_first-extension.ensures in
+    let text = c.args.bytes.now in
+    let byte = c.args.singleton in
+    let step = extension-step _ c.loop-part.rest _ _ c.in-Some.part _ c.loop-part.invariant.extensions part.0 part.1 c.first_extension_end.ensures taken.first taken.rest in
+    let opened = opens-text byte _ c.in-Some.part.now c.first_extension_end.result step.bytes (omega (arith, step.place.1, ap (λ span. span.len) taken.first))
+    ∙ eq-eqb _ _ (sym c.into_smallcase.ensures ∙ c.if-into_smallcase.true ∙ c.into_smallcase-in-Some.ensures) in
+    let others = sym c.loop-part.invariant.after ∙ ap (after_first (opens_alike byte)) step.texts ∙ after-opening (opens_alike byte) (span_text text c.take_first-extension.result) (extension_texts (span_text text c.take_first-extension.new.self)) opened in
+    let end = end-first text c.in-Some.part.now c.loop-part.rest c.take_first-extension.new.self c.take_first-extension.result c.first_extension_end.result part.0 part.1 c.first_extension_end.ensures taken.first taken.rest in
+    omega (arith, ap length_with_hyphens others, end, c.loop-part.invariant.ends, ap end_of c.without_singleton.ensures, step.place.1)
+
 pub loop-part-preserved : goal.loop-part-preserved
 loop-part-preserved c =
     let part = c.in-Some.ensures in
@@ -50,6 +65,8 @@ loop-part-preserved c =
     record {
       within = omega (arith, taken.ends, c.loop-part.invariant.within);
       extensions = step.left;
+      ends = taken.ends ∙ c.loop-part.invariant.ends;
+      after = sym (ap (after_first (opens_alike byte)) step.texts ∙ after-other (opens_alike byte) (span_text text c.take_first-extension.result) (extension_texts (span_text text c.take_first-extension.new.self)) other) ∙ c.loop-part.invariant.after;
       same = rw (step.texts, other) at c.loop-part.invariant.same;
     }
 

@@ -1,11 +1,11 @@
-use Rattle.langtag_keyword.proofs.Common.{◌≡◌, ◌≤◌, true, false, not, ◌&&◌, [], ◌∷◌, ◌++◌, take, ap, sym, subst, ◌∙◌, arith, length-drop, nat_tests, HasKeys, opens_keyword, is_new_key, keywords_after}
+use Rattle.langtag_keyword.proofs.Common.{◌≡◌, ◌≤◌, ◌+◌, ◌-◌, true, false, not, ◌&&◌, [], ◌∷◌, ◌++◌, drop, take, ap, sym, subst, ◌∙◌, arith, length-drop, nat_tests, HasKeys, opens_keyword, is_new_key, keywords_after}
 use Rattle.std.proofs.Math.Bool.{and-false}
 use Rattle.langtag_keyword.specs.KeySets.{has_key}
 use Rattle.langtag_keyword.proofs.KeySetLaws.{is_new-met, met-more, met-none}
 use Rattle.langtag_keyword.proofs.SubtagTexts.{keywords-new, take-turn}
 use Rattle.langtag_c.specs.Keywords.{subtags_in}
 use Rattle.langtag_c.specs.Spans.{span_text}
-use Rattle.langtag_c.proofs.ExtensionSpans.{AreSubtags, drop-next, keywords-step, length-subtags_in}
+use Rattle.langtag_c.proofs.ExtensionSpans.{AreSubtags, drop-next, keywords-step, length-subtags_in, up-to}
 use Rattle.langtag_c.proofs.extension_walk.next_key.Goals.{else-count-passed-via-then-count-passed+then-has+else-is_new, else-count-passed-via-then-count-passed+else-has, else-count-passed-via-else-count-passed}
 use Rattle.langtag_c.proofs.extension_walk.next_key.Goals as goal
 
@@ -35,6 +35,24 @@ returns-then-is_new-clause-some c =
     (sym (is_new-met c.args.keys c.loop-key.met.seconds before s fits c.loop-key.invariant.met) ∙ open_new) c.before_key-value.ensures.text in
     grind (arith, new, drop-next all c.loop-key.count _ _ left, c.in-Some.ensures.subtags, c.in-Some.ensures.place, c.loop-key.invariant.same c.if-count-passed.true)
 
+pub returns-then-is_new-clause-place : goal.returns-then-is_new-clause-place
+returns-then-is_new-clause-place c =
+    let text = c.args.bytes.now in
+    let all = subtags_in text c.args.subtags in
+    let s = c.in-Some.subtag.now in
+    let n = c.loop-key.count in
+    let seconds = c.loop-key.met.seconds in
+    let fits = (subst AreSubtags c.in-Some.ensures.subtags c.loop-key.invariant.some.some).0 in
+    let left = sym c.loop-key.invariant.left ∙ c.in-Some.ensures.subtags in
+    let open_new : (opens_keyword c.args.keys s && not (has_key seconds s)) ≡ true =
+    ap (λ b. b && not (has_key seconds s)) (sym c.has.ensures.is_key ∙ c.if-has.true) ∙ sym c.insert-is_new.ensures.new ∙ c.if-is_new.true in
+    let new = sym (is_new-met c.args.keys seconds (take n all) s fits c.loop-key.invariant.met) ∙ open_new in
+    let back : n + 1 - 1 ≡ n = omega arith in
+    let key = up-to text c.loop-key.rest c.in-Some.key.start (drop n all) c.loop-key.invariant.some.within c.loop-key.invariant.left c.in-Some.ensures.start ∙ c.loop-key.invariant.ends in
+    let value = up-to text c.take_subtag.new.rest c.before_key-value.result.start (drop (n + 1) all) c.in-Some.ensures.left.within (drop-next all n s _ left) c.before_key-value.ensures.start
+    ∙ c.in-Some.ensures.end ∙ c.loop-key.invariant.ends in
+    (rw (back, c.in-Some.ensures.place.1) new, rw back key, value)
+
 pub loop-key-preserved : goal.loop-key-preserved
 loop-key-preserved c =
     let opens = opens_keyword c.args.keys in
@@ -55,6 +73,7 @@ loop-key-preserved c =
     ] in
     record {
       some = c.in-Some.ensures.left;
+      ends = c.in-Some.ensures.end ∙ c.loop-key.invariant.ends;
       left = drop-next all c.loop-key.count s _ left;
       met =
           subst (HasKeys c.insert-is_new.new.self.seconds) (take-turn all c.loop-key.count s _ left)
