@@ -153,7 +153,8 @@ TABLE = "CREATE TABLE texts (tag TEXT PRIMARY KEY COLLATE langtag); INSERT INTO 
 # Statements, and SQLite's output for them.
 STATEMENTS = [
     # A function that says yes or no says no for a string that is no tag.
-    ("SELECT langtag_is_locale('de_DE'), langtag_is_valid(X''), langtag_is_valid(5), langtag_matches_basic('d_', 'de'), langtag_matches_extended('de', 'd_');", "0|0|0|0|0"),
+    ("SELECT langtag_is_well_formed('de_DE'), langtag_is_locale('de_DE'), langtag_is_valid(X''), langtag_is_valid(5), langtag_matches_basic('d_', 'de'), "
+     "langtag_matches_extended('de', 'd_');", "0|0|0|0|0|0"),
     ("CREATE TABLE t (tag TEXT); INSERT INTO t VALUES ('de'), ('de_DE'), (NULL), ('not a tag at all'); SELECT count(*), group_concat(tag) FROM t WHERE NOT langtag_is_valid(tag);",
      "2|de_DE,not a tag at all"),
     ("SELECT langtag_set_keyword('d_', 'c1', '') IS NULL;", "1"),
