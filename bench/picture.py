@@ -1,10 +1,7 @@
 #!/usr/bin/env python3
 """Draws the times of one run: picture.py TIMES >times.svg. A line of TIMES has a list of tags, `/`, a parser, and the nanoseconds for a tag,
 or words in place of a number. The picture has ratios, since times of another machine or another run would differ. The text of a line that
-begins with # is shown below the picture.
-
-`bench/run` measures the times, and calls this program.
-"""
+begins with # is shown below the picture. `bench/run` calls it."""
 from __future__ import annotations
 
 import pathlib

@@ -426,8 +426,13 @@ class Copy:
         return asked
 
 
+# The tests that have to find the faults of a language.
+TESTS = {"C": "bindings/c/test/*.c", "C++": "bindings/c/test/*.cc", "Python": "bindings/python/test_*.py", "JavaScript": "bindings/js/test/*.js",
+         "PostgreSQL": "bindings/postgresql/sql/*.sql", "SQLite": "bindings/sqlite/test_*.py", "Rust": "rust/tests/**/*.rs"}
+
+
 class Record:
-    """For each language whose faults were all found: a hash of these, of the files that they change, and of langtag_c."""
+    """For each language whose faults were all found: a hash of these, of the files that they change, of the tests, and of langtag_c."""
 
     def __init__(self, repository: str):
         self.repository = pathlib.Path(repository)
@@ -437,7 +442,8 @@ class Record:
 
     def hash_of(self, language: str) -> str:
         found = hashlib.sha256(repr(FAULTS[language]).encode())
-        for path in [*sorted({ROOT / fault.file for fault in FAULTS[language]}), *sorted(self.repository.glob("crates/langtag_c/src/**/*.rt"))]:
+        read = [*self.repository.glob("crates/langtag_c/src/**/*.rt"), *self.repository.glob(TESTS[language])]
+        for path in [*sorted({ROOT / fault.file for fault in FAULTS[language]}), *sorted(read)]:
             found.update(path.read_bytes())
         return found.hexdigest()[:12]
 

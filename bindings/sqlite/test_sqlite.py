@@ -276,7 +276,7 @@ class Sqlite(unittest.TestCase):
         self.assertIn("NOT NULL constraint failed", sqlite("CREATE TABLE t (tag TEXT NOT NULL CHECK (langtag_is_valid(tag))); INSERT INTO t VALUES (NULL);")[1])
 
     def test_memory(self):
-        """Makes 20,000 calls of each function. The memory of SQLite's allocator must not grow. For a long tag, there is less and less."""
+        """20,000 calls of each function must not make SQLite's memory grow. For a long tag, there is less and less."""
         numbers = "WITH RECURSIVE n(k) AS (SELECT 1 UNION ALL SELECT k + 1 FROM n WHERE k < {})"
         calls = ("best_for_header('de', 'en', 'de-x-a' || k)", "suitable_for_header('de', 'en', 'de-x-a' || k)", "best_for_ranges('fi,de', 'de-x-a' || k)",
                  "suitable_for_ranges('fi,de', 'de-x-a' || k)", "canonical('iw-x-' || replace(printf('%.40c', 'a'), 'a', 'abcdefgh-') || k)", "maximized('de-x-a' || k)",

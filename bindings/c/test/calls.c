@@ -442,7 +442,7 @@ OF_TWO(ranges, a, b) {
 typedef bool find_value(const char *, size_t, const char *, size_t, langtag_span *);
 typedef bool next_pair(const char *, size_t, size_t *, langtag_span *, langtag_span *);
 
-/* Says so if a span is not in the first extension with a singleton, behind the singleton. */
+/* Says so if a span is not in the first extension with a singleton. */
 static void put_place(text *to, text tag, char singleton, langtag_span span) {
     langtag_parts parts;
     langtag_span extension = {0, 0};
