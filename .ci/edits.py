@@ -121,14 +121,15 @@ def proofs_of(item):
     return sorted((crate / "proofs" / item.file.path.relative_to(crate / "src").with_suffix("") / name).glob("**/*.antt"))
 
 
-def definitions(items):
-    """Returns what items import, and a hash of each page with definitions that they name, and of each page below these."""
+def definitions(items, with_data=True):
+    """Returns what items import, and a hash of each page with definitions that they name, and of each page below these. Pages that a
+    generator writes from data may be left out."""
     named = sorted(imported(items))
     pages, more = set(), pages_for(named)
     while more:
         pages |= more
         more = {below for page in more for below in Page.at(page).below} - pages
-    return [*named, *(Page.at(page).hash for page in sorted(pages))]
+    return [*named, *(Page.at(page).hash for page in sorted(pages) if with_data or not Page.at(page).is_data)]
 
 
 def imported(items):
@@ -147,6 +148,7 @@ class Page:
 
     def __init__(self, crate, declared, name):
         path = next((CRATES / crate / "src").glob(f"**/{name}.rt"), None) if declared else page_of(crate, name)
+        self.is_data = bool(path) and path.is_file() and "Do not edit." in path.read_text()[:400]
         if declared:
             items = [it for it in (file_of(path).items.values() if path else ()) if it.kind == "type" or it.pieces[-1].name == "value"]
             self.hash, self.below = digest(*(word for item in items for word in all_words(item))), pages_for(imported(items))

@@ -426,9 +426,10 @@ class Copy:
         return asked
 
 
-# The tests that have to find the faults of a language.
-TESTS = {"C": "bindings/c/test/*.c", "C++": "bindings/c/test/*.cc", "Python": "bindings/python/test_*.py", "JavaScript": "bindings/js/test/*.js",
-         "PostgreSQL": "bindings/postgresql/sql/*.sql", "SQLite": "bindings/sqlite/test_*.py", "Rust": "rust/tests/**/*.rs"}
+# The tests that have to find the faults of a language, with the rows that they ask.
+TESTS = {"C": ["bindings/c/test/*.[ch]"], "C++": ["bindings/c/test/*.cc", "bindings/c/test/*.h"], "Python": ["bindings/python/*.py"],
+         "JavaScript": ["bindings/js/test/*.js"], "PostgreSQL": ["bindings/postgresql/sql/*.sql"],
+         "SQLite": ["bindings/sqlite/test_*.py", "bindings/python/rows.py"], "Rust": ["rust/tests/**/*.rs"]}
 
 
 class Record:
@@ -442,7 +443,7 @@ class Record:
 
     def hash_of(self, language: str) -> str:
         found = hashlib.sha256(repr(FAULTS[language]).encode())
-        read = [*self.repository.glob("crates/langtag_c/src/**/*.rt"), *self.repository.glob(TESTS[language])]
+        read = [path for files in ("crates/langtag_c/src/**/*.rt", "rows/*.txt", *TESTS[language]) for path in self.repository.glob(files)]
         for path in [*sorted({ROOT / fault.file for fault in FAULTS[language]}), *sorted(read)]:
             found.update(path.read_bytes())
         return found.hexdigest()[:12]

@@ -9,6 +9,7 @@ import sys
 import threading
 import time
 import types
+import gc
 import unittest
 import unittest.mock
 import weakref
@@ -221,6 +222,34 @@ class Sites(unittest.TestCase):
             self.assertEqual((type(again), repr(again)), (type(value), repr(value)))
         self.assertEqual(list(map(type, pickle.loads(pickle.dumps(Site(["en", Tag("de")]))).tags)), [str, Tag])
         self.assertEqual((len(Site(["en"] * 65)), Site([]).best_for_header("de", default=7), len(Site([]))), (65, 7, 0))
+
+
+class SecondWays(unittest.TestCase):
+    def test_each(self):
+        """The second ways to a call, subclasses, and texts longer than usual."""
+        class Own(Site):
+            __slots__ = ()
+
+        class Found(BestMatch):
+            __slots__ = ()
+
+        class Octets(bytes):
+            pass
+
+        def failing():
+            yield "de"
+            raise KeyError("of the iterator")
+
+        site, long = Own(["de"] * 150), b"de-x-" + b"abcdefgh-" * 20 + b"a"
+        self.assertEqual((repr(Own(["de"])), len(site.suitable_for_header("de")), len(site.suitable_for_ranges(["de"], most=3))), ("Own(['de'])", 150, 3))
+        self.assertEqual((Found(1, "en", 30, "tlh"), str(Tag(Octets(long)))), (Found(1, "en", 30, "tlh"), long.decode()))
+        self.assertRaises(KeyError, langtag.best_for_header, "de", failing())
+        self.assertIn(80 * "\u20ac" + "...", str(langtag.InvalidTag(120 * "\u20ac")))
+        tag = Tag("de-x-a")
+        gone = weakref.ref(tag)
+        del tag
+        gc.collect()
+        self.assertIsNone(gone())
 
 
 class Names(unittest.TestCase):

@@ -152,6 +152,11 @@ def adapted(row):
 TABLE = "CREATE TABLE texts (tag TEXT PRIMARY KEY COLLATE langtag); INSERT INTO texts VALUES ('zh-Hant'), ('de'), ('zh'), ('');"
 # Statements, and SQLite's output for them.
 STATEMENTS = [
+    # Ranges beyond the third for tags that are kept, beyond the twentieth, more than a hundred tags, NUL, and an index below 0.
+    ("WITH h(x) AS (VALUES ('fi,sv,nb,de'), ('fi,sv,nb,de')) SELECT group_concat(langtag_best_for_ranges(x, 'en', 'de')) FROM h;", "de,de"),
+    ("SELECT langtag_suitable_for_ranges(replace(hex(zeroblob(25)), '00', 'fi,') || 'en;q=0.9,de', 'en', 'de');", '["de"]'),
+    (f"SELECT json_extract(langtag_match_for_header('de', {'NULL, ' * 110}'de'), '$.index');", "110"),
+    ("SELECT langtag_nth_parent('de-AT', -4294967296) IS NULL, langtag_is_well_formed(CAST(X'646500' AS TEXT)), langtag_is_valid(CAST(X'646500' AS TEXT));", "1|0|0"),
     # A function that says yes or no says no for a string that is no tag.
     ("SELECT langtag_is_well_formed('de_DE'), langtag_is_locale('de_DE'), langtag_is_valid(X''), langtag_is_valid(5), langtag_matches_basic('d_', 'de'), "
      "langtag_matches_extended('de', 'd_');", "0|0|0|0|0|0"),

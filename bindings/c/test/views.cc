@@ -1,3 +1,5 @@
+#include <tuple>
+#include <vector>
 /* Tests what only langtag.hpp has: views, texts of which no view may be made, walks, and tags as keys. rows.cc runs the rows. */
 #include <langtag.hpp>
 
@@ -71,6 +73,21 @@ static void check_views() {
     const std::string_view none[] = {{}, "de", {}};
     const langtag::site site(none);
     CHECK(site.best_for_header("de")->text() == "de" && langtag::suitable_for_ranges(none, none).size() == 1 && langtag::suitable_for_header("de", {"de-CH", "de", "de-AT"}, 2).size() == 2 && site.suitable_for_ranges(none, 0).empty() && !langtag::accept_language({}).look_up({*cut}));
+    const std::vector<std::string_view> nothing, many(150, "de");
+    const langtag::site empty(nothing);
+    CHECK(!site.best_for_header({}) && !empty.best_for_header({}) && langtag::suitable_for_header({}, nothing).empty() &&
+          langtag::suitable_for_header("de", many).size() == 150 && !langtag::unknown_modifier({}) && !langtag::owned_tag::parse(std::string_view("de\0_", 4)));
+    const langtag::accept_language equal("aa,ab,ac,ad,ae,af,ag,ah,ai,aj,ak,al,am,an,ao,ap,aq,ar,as,at,au,av,aw,ax;q=0.9,ay");
+    std::string order;
+    for (const auto &it : equal.ranges()) order += it.range.text().back();
+    CHECK(order == "abcdefghijklmnopqrstuvwyx");
+    for (const auto &[part, given, said] : {std::tuple(langtag::part::extensions, "u\t", "invalid extensions `u\\t`"), std::tuple(langtag::part::private_use, "u", "invalid private use `u`")})
+        try {
+            langtag::owned_tag::parse("de")->with(part, given);
+            CHECK(false);
+        } catch (const std::invalid_argument &error) {
+            CHECK(error.what() == std::string_view(said));
+        }
     CHECK(!langtag::from_parts("") && !langtag::from_parts("de", "Latin") && !langtag::from_parts("x-a") &&
           langtag::from_parts("de") == "de" && langtag::refused({})->message() == "unexpected end: expected a subtag");
 }

@@ -1,8 +1,8 @@
 //! Methods of tags, conversions, and lists with entries that are not tags or ranges.
 #![cfg(all(feature = "alloc", feature = "data"))]
 #![allow(clippy::needless_borrows_for_generic_args)] // references are taken, too
-use langtag::choice::{best_among, best_for_header, best_for_ranges, distance};
-use langtag::matching::{look_up, tag_for_header, LanguageRange, LanguageRangeBuf, WeightedRange};
+use langtag::choice::{best_among, best_for_header, best_for_ranges, distance, match_for_header, Site};
+use langtag::matching::{look_up, AcceptLanguage, tag_for_header, LanguageRange, LanguageRangeBuf, WeightedRange};
 use langtag::registry::{canonical, is_canonical, validate};
 use langtag::unicode::{keyword, transform};
 use langtag::*;
@@ -125,4 +125,29 @@ fn weighted_ranges_of_weight_0() {
         let found = best_for_header("de, de-CH;q=0, de-CH-1996;q=0.5", &tags);
         assert_eq!(found, index, "{tags:?}");
     }
+}
+
+/// The second ways to a call, and texts longer than usual: a `Site` made in each way, bytes that are not UTF-8, blanks and NUL.
+#[test]
+fn second_ways() {
+    let many: Vec<String> = (0..100).map(|k| format!("de-x-a{k}")).chain([String::from("fr"), String::new()]).collect();
+    for site in [Site::new(many.clone()), many.iter().cloned().collect(), Site::from(many.clone())] {
+        assert_eq!((site.len(), site.best_for_header(b"\xff, fr").map(String::as_str)), (102, Some("fr")));
+    }
+    assert_eq!(best_for_header("de", &[String::from(" de"), String::from("de ")]), None);
+    let long = format!("de-{}-CH", "Latn");
+    let long = [format!("{long}-1996-u-co-phonebk-x-{}", ["abcdefgh"; 40].join("-"))];
+    let lent: Vec<&String> = long.iter().collect();
+    assert_eq!(best_for_header(&long[0], &lent), Some(0));
+    assert_eq!(match_for_header(&long[0], &lent).map(|found| found.distance), Some(0));
+    assert_eq!(look_up(&[&long[0]], &lent, &&String::new()), &&long[0]);
+    assert_eq!(look_up(&["de\0"], &["de"], &"none"), &"none");
+    #[cfg(feature = "names")]
+    assert_eq!(names::describe(LangTag::new("de-a-bbb-u-co-phonebk-A-ccc").unwrap()), "German (a-bbb, u-co-phonebk)");
+    assert!(LangTag::new(&long[0]).unwrap().matches("de-CH"));
+    let repeated: LangTagBuf = "de-a-aaa-b-bbb-c-ccc-d-ddd-A-aaa".parse().unwrap();
+    assert_eq!(repeated.validate().unwrap_err().start(), 27);
+    assert_eq!(AcceptLanguage::new("de,\td\0_e\t").unwrap_err().to_string().split(": ").last(), Some("`d\\u{0}_e`"));
+    let error = LangTagBuf::from(LangTag::UND).set_keyword("ca", "islamic-civil-b").unwrap_err();
+    assert_eq!(error, langtag::unicode::SetKeywordError::Value("islamic-civil-b".into(), 14));
 }
