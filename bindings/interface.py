@@ -97,7 +97,7 @@ class Interface(NamedTuple):
 
     def prototype(self, function: Function) -> str:
         taken = ", ".join(f"{kind}{'' if kind.endswith('*') else ' '}{name}" for kind, name in self.parameters_in_c(function))
-        return f"{'LANGTAG_PURE ' if function.is_pure() else ''}{INTEGERS[function.result]} {function.name}({taken or 'void'});"
+        return f"{'LANGTAG_PURE ' if function.is_pure() else ''}{INTEGERS[function.result]} {function.name}({taken or 'void'}){' LANGTAG_NONNULL' if '*' in taken else ''};"
 
 
 class Call:

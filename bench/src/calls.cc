@@ -37,6 +37,7 @@ static icu::Locale locale_of(const std::string &text) {
 static size_t icu_parse(const std::string &text) {
     const icu::Locale locale = locale_of(text);
     size_t sum = 0;
+    if (locale.isBogus()) return sum; /* It refused the string, and its variant is no pointer. */
     for (const char *part : {locale.getLanguage(), locale.getScript(), locale.getCountry(), locale.getVariant()}) sum += std::char_traits<char>::length(part);
     return sum;
 }

@@ -23,7 +23,8 @@ def translations(domain: str, folder: pathlib.Path, locale: str) -> gettext.Null
         tag = langtag.Tag.from_posix(locale)
     except langtag.InvalidLocale:  # C, POSIX, C.UTF-8: the messages of the program itself
         return gettext.NullTranslations()
-    chain = dict.fromkeys([*tag.parents, *(tag.locale_form() or tag).parents])  # of iw_IL: iw-IL, iw, he-IL, he
+    form = tag.locale_form() or tag
+    chain = dict.fromkeys([*tag.parents, *form.parents, *form.maximized().parents])  # iw_IL: .. he; zh_CN: .. zh-Hans
     files = [folder / name / "LC_MESSAGES" / f"{domain}.mo" for member in chain for name in names(member)]
     found: gettext.NullTranslations | None = None
     for path in filter(pathlib.Path.is_file, files):

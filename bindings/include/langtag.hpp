@@ -519,9 +519,8 @@ public:
     }
 
     /* Returns the index of the tag of a site that this list of ranges chooses. */
-    std::size_t chosen_in(const std::string &text, const std::vector<langtag_prepared_tag> &tags) const {
-        return langtag_site_best_for_ranges(text_.data(), text_.size(), spans_.data(), given_.size(), text.data(), text.size(), tags.data(),
-                                            tags.size());
+    std::size_t chosen_in(const std::string &text, const langtag_prepared_tag *tags, std::size_t count) const {
+        return langtag_site_best_for_ranges(text_.data(), text_.size(), spans_.data(), given_.size(), text.data(), text.size(), tags, count);
     }
 
     /* Returns the best tag for a header, with its index, range and distance, or std::nullopt. */
@@ -847,7 +846,7 @@ public:
 
     /* Returns the best tag for a header, as langtag::best_for_header does. */
     std::optional<tag> best_for_header(std::string_view header) const & {
-        return at(langtag_site_best_for_header(langtag_bytes(header.data()), header.size(), text_.data(), text_.size(), tags_.data(),
+        return at(langtag_site_best_for_header(langtag_bytes(header.data()), header.size(), text_.data(), text_.size(), prepared(),
                                                tags_.size()));
     }
 
@@ -857,7 +856,7 @@ public:
     std::optional<best_match> match_for_header(std::string_view header) const & {
         langtag_best_match match;
         const std::size_t index = langtag_site_match_for_header(langtag_bytes(header.data()), header.size(), text_.data(), text_.size(),
-                                                                tags_.data(), tags_.size(), &match);
+                                                                prepared(), tags_.size(), &match);
         return langtag::matched(at(index), index, header, match);
     }
     std::optional<best_match> match_for_header(std::string_view) const && = delete;
@@ -865,7 +864,7 @@ public:
 
     /* Returns the best tag for a list of ranges, as langtag::best_for_ranges does. */
     template <class Ranges = texts> std::optional<tag> best_for_ranges(const Ranges &ranges) const & {
-        return at(listed_tags(ranges).chosen_in(text_, tags_));
+        return at(listed_tags(ranges).chosen_in(text_, prepared(), tags_.size()));
     }
     template <class Ranges = texts> std::optional<tag> best_for_ranges(const Ranges &) const && = delete;
 
@@ -887,6 +886,12 @@ private:
     }
 
     std::optional<tag> at(std::size_t index) const { return index < tags_.size() ? (*this)[index] : std::nullopt; }
+
+    /* Returns the prepared tags. The pointer is not null, as data() of an empty vector is. */
+    const langtag_prepared_tag *prepared() const {
+        static constexpr langtag_prepared_tag none = {};
+        return tags_.empty() ? &none : tags_.data();
+    }
 
     std::string text_;
     std::vector<langtag_prepared_tag> tags_;

@@ -40,6 +40,9 @@
 #include "utils/sortsupport.h"
 #if PG_VERSION_NUM >= 160000
 #include "varatt.h"
+#else
+#define errsave(context, rest) \
+    do { (void)(context); ereport(ERROR, rest); } while (0)
 #endif
 
 PG_MODULE_MAGIC;
@@ -75,7 +78,7 @@ static struct varlena *value_of(const char *bytes, size_t len) {
     return (struct varlena *)cstring_to_text_with_len(bytes, (int)len);
 }
 
-/* ---- what is refused ---- */
+/* ---- what is refused: an input function reports it to its caller, so COPY with ON_ERROR ignore skips the row ---- */
 
 /* Returns whether a character is a control character, is invisible, or changes the direction of the string: Unicode's categories Cc, Cf,
  * Zl, Zp and Zs (except for the space), and the property Default_Ignorable_Code_Point. All languages have this list. */
@@ -136,7 +139,7 @@ static char *quoted_start(const char *text, size_t len, int most) {
 
 static char *quoted(const char *text, size_t len) { return quoted_start(text, len, 80); }
 
-static void refuse_tag(const char *text, size_t len) {
+static void refuse_tag(Node *context, const char *text, size_t len) {
     langtag_span subtag;
     size_t offset = 0;
     uint32 answer = langtag_refused(text, len, &subtag, &offset);
@@ -145,19 +148,22 @@ static void refuse_tag(const char *text, size_t len) {
                       : answer == LANGTAG_REFUSED_END ? "unexpected end: expected a subtag"
                       : subtag.len == 0               ? "empty subtag"
                                                       : psprintf("unexpected subtag %s", quoted(text + subtag.start, subtag.len));
-    ereport(ERROR, (errcode(ERRCODE_INVALID_TEXT_REPRESENTATION), errmsg_internal("invalid language tag %s: %s", quoted(text, len), why),
+    errsave(context, (errcode(ERRCODE_INVALID_TEXT_REPRESENTATION), errmsg_internal("invalid language tag %s: %s", quoted(text, len), why),
                     errdetail("The error is at character %d.", pg_mbstrlen_with_len(text, (int)offset) + 1)));
 }
 
-static void refuse(const char *what, const char *text, size_t len, const char *rule) {
-    ereport(ERROR, (errcode(ERRCODE_INVALID_TEXT_REPRESENTATION), errmsg_internal("invalid %s %s", what, quoted(text, len)),
-                    errdetail_internal("%s", rule)));
+static struct varlena *refuse(Node *context, const char *what, const char *text, size_t len, const char *rule) {
+    errsave(context, (errcode(ERRCODE_INVALID_TEXT_REPRESENTATION), errmsg_internal("invalid %s %s", what, quoted(text, len)),
+                      errdetail_internal("%s", rule)));
+    return NULL;
 }
 
 /* ---- the types ---- */
 
-static void check_tag(const char *text, size_t len) {
-    if (langtag_kind(text, len) == LANGTAG_NONE) refuse_tag(text, len);
+static bool check_tag(Node *context, const char *text, size_t len) {
+    if (langtag_kind(text, len) != LANGTAG_NONE) return true;
+    refuse_tag(context, text, len);
+    return false;
 }
 
 static struct varlena *tag_of(const char *text, size_t len) {
@@ -166,25 +172,24 @@ static struct varlena *tag_of(const char *text, size_t len) {
     return tag;
 }
 
-static struct varlena *checked_tag(const char *text, size_t len) {
-    check_tag(text, len);
-    return tag_of(text, len);
+static struct varlena *checked_tag(Node *context, const char *text, size_t len) {
+    return check_tag(context, text, len) ? tag_of(text, len) : NULL;
 }
 
-static struct varlena *checked_range(const char *text, size_t len) {
+static struct varlena *checked_range(Node *context, const char *text, size_t len) {
     if (langtag_range_kind(text, len) == LANGTAG_RANGE_NONE)
-        refuse("language range", text, len,
-               "A language range is subtags of 1 to 8 letters or digits, or *, with hyphens between them.");
+        return refuse(context, "language range", text, len,
+                      "A language range is subtags of 1 to 8 letters or digits, or *, with hyphens between them.");
     return value_of(text, len);
 }
 
 /* Whether a string is a list of subtags, which may be empty: exactly what may follow the x- of a private-use tag. */
-static struct varlena *checked_part(const char *text, size_t len) {
+static struct varlena *checked_part(Node *context, const char *text, size_t len) {
     char *tag = palloc(len + 2);
     memcpy(tag, "x-", 2);
     memcpy(tag + 2, text, len);
     if (len > 0 && langtag_kind(tag, len + 2) != LANGTAG_PRIVATE_USE)
-        refuse("part", text, len, "A part is subtags of 1 to 8 letters or digits with hyphens between them.");
+        return refuse(context, "part", text, len, "A part is subtags of 1 to 8 letters or digits with hyphens between them.");
     pfree(tag);
     return value_of(text, len);
 }
@@ -193,15 +198,15 @@ static struct varlena *checked_part(const char *text, size_t len) {
 #define INPUT(type, checked)                                                                                           \
     FUNCTION(pg_##type##_in) {                                                                                         \
         const char *text = PG_GETARG_CSTRING(0);                                                                       \
-        PG_RETURN_POINTER(checked(text, strlen(text)));                                                                \
+        PG_RETURN_POINTER(checked(fcinfo->context, text, strlen(text)));                                               \
     }                                                                                                                  \
     FUNCTION(pg_##type##_recv) {                                                                                       \
         StringInfo message = (StringInfo)PG_GETARG_POINTER(0);                                                         \
         int len;                                                                                                       \
         const char *text = pq_getmsgtext(message, message->len - message->cursor, &len);                               \
-        PG_RETURN_POINTER(checked(text, (size_t)len));                                                                 \
+        PG_RETURN_POINTER(checked(fcinfo->context, text, (size_t)len));                                                \
     }                                                                                                                  \
-    OF_ONE(pg_##type##_from_text, given) { PG_RETURN_POINTER(checked(BYTES(given), LEN(given))); }
+    OF_ONE(pg_##type##_from_text, given) { PG_RETURN_POINTER(checked(fcinfo->context, BYTES(given), LEN(given))); }
 INPUT(langtag, checked_tag)
 INPUT(langtag_range, checked_range)
 INPUT(langtag_part, checked_part)
@@ -792,7 +797,7 @@ static offered values_of(ArrayType *array) {
 /* Returns the tags of an array, or its strings, which have to be tags. */
 static offered tags_of(ArrayType *array) {
     offered all = values_of(array);
-    for (int k = 0; ARR_ELEMTYPE(array) == TEXTOID && k < all.count; k++) check_tag(BYTES(all.tags[k]), LEN(all.tags[k]));
+    for (int k = 0; ARR_ELEMTYPE(array) == TEXTOID && k < all.count; k++) check_tag(NULL, BYTES(all.tags[k]), LEN(all.tags[k]));
     return all;
 }
 

@@ -65,7 +65,7 @@ def english_names() -> dict[str, str]:
 
 
 def head() -> str:
-    return (f"The names of Unicode's CLDR {cldr_version(files_of(DATA))} (the notice: LICENSE-UNICODE) and of IANA's registry. "
+    return (f"The names of Unicode's CLDR {cldr_version([*files_of(DATA), ALIASES])} (the notice: LICENSE-UNICODE) and of IANA's registry. "
             "Written by data/names/generate.py. Do not edit.")
 
 

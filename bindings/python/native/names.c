@@ -2,15 +2,22 @@
 #include "native.h"
 #include "langtag_names.h"
 
-/* Returns the form of a tag whose subtags have the names, as bytes that nobody else has, or NULL with an exception. */
+/* Returns the form of a tag whose subtags have the names, as bytes that nobody else has, or NULL with an exception. Its time is quadratic. */
 static PyObject *named_form(const Text *tag) {
-    LET_GO(tag->len);
-    const size_t len = langtag_name_form(tag->data, tag->len, NULL, 0);
-    TAKE_BACK();
+    char none; /* no pointer may be NULL */
+    size_t len;
+    {
+        LET_GO(tag->len);
+        len = langtag_name_form(tag->data, tag->len, &none, 0);
+        TAKE_BACK();
+    }
     PyObject *form = PyBytes_FromStringAndSize(NULL, (Py_ssize_t)len);
     if (!form) return NULL;
-    langtag_name_form(tag->data, tag->len, PyBytes_AsString(form), len);
-    langtag_recommend(PyBytes_AsString(form), len);
+    char *data = PyBytes_AsString(form);
+    LET_GO(tag->len);
+    langtag_name_form(tag->data, tag->len, data, len);
+    langtag_recommend(data, len);
+    TAKE_BACK();
     return form;
 }
 

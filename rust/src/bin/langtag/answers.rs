@@ -134,13 +134,14 @@ fn show(tag: LangTag<'_>, options: &Options) -> Answer {
             let parts = parts_of(&tag);
             let mut columns = vec!["normal"];
             columns.extend(parts.map(|(_, part)| part));
-            let named = parts.map(|(name, part)| format!(" {name}={part}"));
-            Answer::of(
-                text,
-                &columns,
-                &format!("normal{}", named.concat()),
-                options,
-            )
+            let mut named = String::with_capacity(text.len() + 80);
+            named.push_str("normal");
+            for (name, part) in parts {
+                for piece in [" ", name, "=", part] {
+                    named.push_str(piece);
+                }
+            }
+            Answer::of(text, &columns, &named, options)
         }
         TypedLangTag::PrivateUse(tag) => {
             let columns = ["private", "", "", "", "", "", &tag, ""];
