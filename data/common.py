@@ -140,7 +140,7 @@ def each(name: str, premise: str, holds: Callable, rows: Iterable) -> None:
     """Refuses data with a row that does not have a property."""
     for row in rows:
         if not holds(row):
-            raise Refused(f"{name}: {premise}: {row if isinstance(row, (str, int)) else ' '.join(str(it) or '-' for it in row)}")
+            raise Refused(f"{name}: a row breaks the premise: {premise}: {row if isinstance(row, (str, int)) else ' '.join(str(it) or '-' for it in row)}")
 
 
 def once(name: str, rows: Iterable) -> None:

@@ -15,8 +15,8 @@
  * langtag_next_field read the string from its start in each call. So a walk reads it once for each different key, of
  * which there are at most 1,296.
  *
- * langtag_validity, langtag_canonical, langtag_is_canonical and langtag_locale_form use the IANA registry. Other functions use at most its
- * extended languages.
+ * langtag_validity, langtag_canonical, langtag_is_canonical and langtag_locale_form use the IANA registry. The choice of a tag,
+ * distance, direction and likely subtags use its extended languages and the tags that it replaces as a whole.
  *
  * WHAT THE CALLER MUST ENSURE. Nothing checks these rules at run time.
  *
@@ -600,8 +600,8 @@ LANGTAG_PURE uint32_t langtag_distance(const char *desired, size_t desired_len, 
  * chosen (langtag_distance). If there is no such range, the limit is 50, and after that, lookup is tried (RFC 4647
  * section 3.4). A tag whose longest matching range has the weight 0 is not chosen. A range "*" chooses nothing, so the
  * program's default is used. Among tags at the same distance, the best has the most variants of the range. If several have
- * as many, it is the tag for which lookup removes the fewest subtags from the range, then a tag with the most likely region
- * of its language, then one of CLDR's paradigm locales, such as es-419, then the first in the list. So list the tags in the
+ * as many, it is the tag for which lookup removes the fewest subtags from the range, where eng is read as en, then the tag with the
+ * range's own code, then a tag with the most likely region of its language, then one of CLDR's paradigm locales, such as es-419, then the first in the list. So list the tags in the
  * order that you prefer.
  *
  * Malformed elements are read leniently: _ is read as a hyphen, everything after ., @ or _# is dropped, and a weight
@@ -649,9 +649,9 @@ size_t langtag_match_for_header(const char *header, size_t header_len, const cha
                                 const langtag_span *tags, size_t tags_len, langtag_best_match *found);
 
 /*
- * Writes the indices of the suitable tags for an Accept-Language header to `found` (out), best first, and returns
- * their number: the tag that langtag_best_for_header chooses, the tag that it chooses among the other tags, and so on,
- * as long as one is suitable. If there are more than `found_len`, it writes the best.
+ * Writes the indices of the suitable tags for an Accept-Language header to `found` (out), best first, and returns how
+ * many it wrote, at most `found_len`. The first is the tag that langtag_best_for_header chooses, the next is the tag
+ * that it chooses among the others, and so on, as long as one is suitable. `tags_len` entries are always enough.
  *
  *     const char *header = "de-CH,fr;q=0.7", *have = "en fr de de-AT";
  *     const langtag_span tags[] = {{0, 2}, {3, 2}, {6, 2}, {9, 5}};

@@ -10,7 +10,7 @@
  *     bestForHeader("zh-TW,zh;q=0.9,en;q=0.8", ["en", "zh-Hans", "zh-Hant"]);     // "zh-Hant"
  *
  * Offsets and lengths count UTF-16 code units, as in JavaScript's strings. `isValid`, `invalidSubtag`, `isCanonical`, `canonical`,
- * `localeForm`, `describe` and `autonym` use the IANA registry, and other calls at most its extended languages. Functions that take a tag or a range also accept a string. An invalid string throws `InvalidTag` or
+ * `localeForm`, `describe` and `autonym` use the IANA registry, and other calls at most its extended languages and the tags that it replaces as a whole. Functions that take a tag or a range also accept a string. An invalid string throws `InvalidTag` or
  * `InvalidRange`, and any other value throws a `TypeError`.
  */
 /** A string, or an object with a `text`, such as a tag or a range, also from another copy of this module or from `structuredClone`. */
@@ -235,7 +235,7 @@ export declare class LanguageTag {
      * goes first, and comes back before the language alone. Extensions and private use go next, then the variants one by one, and then the
      * region. The variants come back with each parent. All tags are written in the same script if CLDR lists the language.
      *
-     * If a catalogue's folders name scripts, such as zh-Hans, ask for the parents of `maximized()`, which names the script of zh-CN. CLDR does
+     * If a catalogue's folders name scripts, such as zh-Hans, ask for the parents of `maximize()`, which names the script of zh-CN. CLDR does
      * not list replaced codes such as iw and cmn, nor extended languages: ask for the parents of `localeForm()`.
      */
     get parents(): LanguageTag[];
@@ -344,8 +344,8 @@ export declare function unknownModifier(name: string): string | undefined;
 /**
  * Returns the best tag for a header by language distance, or the last argument if none is suitable. Malformed elements are read
  * leniently: de_CH is read as de-CH. A tag whose longest matching range has the weight 0 is not chosen, and * chooses nothing. Of several
- * tags at the same distance, the first is chosen, unless one has more of the range's variants, needs fewer subtags removed, has the most
- * likely region, or is one of CLDR's paradigm locales, such as es-419. Throws InvalidTag if one of the tags is not a tag: a Site throws it
+ * tags at the same distance, the first is chosen, unless one has more of the range's variants, needs fewer subtags removed, has the range's
+ * own code, has the most likely region, or is one of CLDR's paradigm locales, such as es-419. Throws InvalidTag if one of the tags is not a tag: a Site throws it
  * once, when the program starts. Time is at most proportional to the length of the header times the length of the tags.
  *
  *     bestForHeader("gsw", ["fr", "de-CH"], "fr"); // "de-CH"

@@ -10,7 +10,7 @@
  *     bestForHeader("zh-TW,zh;q=0.9,en;q=0.8", ["en", "zh-Hans", "zh-Hant"]);     // "zh-Hant"
  *
  * Offsets and lengths count UTF-16 code units, as in JavaScript's strings. `isValid`, `invalidSubtag`, `isCanonical`, `canonical`,
- * `localeForm`, `describe` and `autonym` use the IANA registry, and other calls at most its extended languages. Functions that take a tag or a range also accept a string. An invalid string throws `InvalidTag` or
+ * `localeForm`, `describe` and `autonym` use the IANA registry, and other calls at most its extended languages and the tags that it replaces as a whole. Functions that take a tag or a range also accept a string. An invalid string throws `InvalidTag` or
  * `InvalidRange`, and any other value throws a `TypeError`.
  */
 import * as calls from "./calls.js";
@@ -391,7 +391,7 @@ export class LanguageTag {
      * goes first, and comes back before the language alone. Extensions and private use go next, then the variants one by one, and then the
      * region. The variants come back with each parent. All tags are written in the same script if CLDR lists the language.
      *
-     * If a catalogue's folders name scripts, such as zh-Hans, ask for the parents of `maximized()`, which names the script of zh-CN. CLDR does
+     * If a catalogue's folders name scripts, such as zh-Hans, ask for the parents of `maximize()`, which names the script of zh-CN. CLDR does
      * not list replaced codes such as iw and cmn, nor extended languages: ask for the parents of `localeForm()`.
      */
     get parents() {

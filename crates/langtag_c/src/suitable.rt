@@ -9,9 +9,9 @@ use crate::spanned_ranges::SpannedRanges;
 use crate::spanned_tags::SpannedTags;
 use langtag_choice::write_suitable;
 
-/// Writes the indices of the suitable tags for an Accept-Language header to `found` (out), best first, and returns
-/// their number: the tag that `langtag_best_for_header` chooses, the tag that it chooses among the other tags, and so on,
-/// as long as one is suitable. If there are more than `found_len`, it writes the best.
+/// Writes the indices of the suitable tags for an Accept-Language header to `found` (out), best first, and returns how
+/// many it wrote, at most `found_len`. The first is the tag that `langtag_best_for_header` chooses, the next is the tag
+/// that it chooses among the others, and so on, as long as one is suitable. `tags_len` entries are always enough.
 ///
 /// ```c
 /// const char *header = "de-CH,fr;q=0.7", *have = "en fr de de-AT";
