@@ -1,4 +1,2 @@
-pub mod Examples
 pub mod KindAnswers
-pub mod Verdicts
 pub mod Written

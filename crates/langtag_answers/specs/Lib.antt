@@ -1,5 +1,3 @@
-pub mod CheckAnswer
-pub mod CheckLaws
 pub mod Lines
 pub mod Report
 pub mod RunError

@@ -30,9 +30,8 @@
 //! For each call of `put_line`, the lemma `Answers-one` of `proofs/Written` proves that the answer is added to the
 //! page.
 //!
-//! The answers of the programs `langtag_show` and `langtag_check` to a line. The answer of [`Show`] is the kind and
-//! the parts of a tag (RFC 5646 section 2.1). The answer of [`Check`] says whether a tag is valid (section 2.2.9),
-//! and has its canonical form (section 4.5).
+//! The answer of the program `langtag_show` to a line, which is that of [`Show`], is the kind and the parts of a tag
+//! (RFC 5646 section 2.1).
 //!
 //! ```
 //! let mut input = b"fr-FR\n".as_slice();
@@ -44,7 +43,6 @@
 
 mod answerer;
 mod answering;
-mod check;
 mod gathered_line;
 mod outcome;
 mod page;
@@ -54,7 +52,6 @@ mod show;
 
 pub use answerer::Answerer;
 pub use answering::{answer_lines, answer_lines_in};
-pub use check::Check;
 pub use gathered_line::GatheredLine;
 pub use outcome::conclude;
 pub use page::Page;
