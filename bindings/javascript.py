@@ -18,14 +18,14 @@ HEAD = """\
  * - If C writes numbers to an array, the list of the numbers that it wrote is returned. `room` is the length of the array.
  * - `site`, which prepareSite of memory.js returns, is passed for a string and the prepared tags in it.
  */
-import {{ aligned, close, count, lengthOf, module, open, prepare, read, readSizes, size, SPAN, WORD, write, writeBytes, writeList, written }} from "./memory.js";
+import {{ aligned, close, count, lengthOf, module, open, prepare, read, readSizes, SPAN, WORD, write, writeBytes, writeList, written }} from "./memory.js";
 """
 
 RESULTS = {"bool": "{} !== 0", "u32": "{} >>> 0", "usize": "count({})", "u64": "BigInt.asUintN(64, {})"}
 LONGER = 32  # how many bytes longer than its arguments a written string may be before it needs a second call
 # The length of a parameter in bytes, what passes it after its address, and what writes it and returns the address after it.
 LENGTHS = {"text": "{0}.length", "list": "{0}Length", "site": "site.text.length"}
-PASSED = {"text": "size({0}.length)", "list": "size({0}Length), size({0}At), size({0}.length)", "site": "size(site.text.length), size(siteAt), size(site.count)"}
+PASSED = {"text": "{0}.length", "list": "{0}Length, {0}At, {0}.length", "site": "site.text.length, siteAt, site.count"}
 STEPS = {"text": "write({0}, at{1})", "list": "writeList({0}, at{1}, {0}At)", "site": "writeBytes(site.text, at{1})"}
 
 
@@ -42,16 +42,16 @@ def arguments(call: Call) -> str:
     """Returns what is passed: strings by the address where they are written, and what C writes by the addresses of its numbers."""
     passed, steps, outs = [], 0, 0
     for name, kind in parameters(call):
-        place = f"size(at{steps})" if steps else "module.begin"
+        place = f"at{steps}" if steps else "module.begin"
         passed.append(f"{place}, {PASSED[kind].format(name)}" if kind in PASSED else name)
         steps += kind in PASSED
     for of in call.state + call.written:
         passed.append(f"module.outs[{outs}]")
         outs += len(call.it.numbers_of(of.name, of.target()))
     if call.has_buffer:
-        passed.append(f"{f'size(at{steps})' if steps else 'module.begin'}, size(room)")
+        passed.append(f"{f'at{steps}' if steps else 'module.begin'}, room")
     if call.has_array:
-        passed.append("size(foundAt), size(room)")
+        passed.append("foundAt, room")
     return ", ".join(passed)
 
 

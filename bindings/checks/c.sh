@@ -4,9 +4,6 @@ with_make() { make -s -C c ARCHIVE="$archive" "$@"; }
 check "C: tests, static and shared, under sanitizers and valgrind" with_make check BUILD="$work/c"
 needs 'has valgrind && has_header valgrind/callgrind.h' "valgrind is not there, or its headers are not" \
     "C: twice the text takes at most 2.2 times the instructions, and a choice for 8 kB at most what growth.py says" with_make growth BUILD="$work/c"
-lacks "C: the stack" '! cargo_built' "cargo built the archive, and the header's figures are those of the proved one" ||
-    needs 'has objdump && [ -x "$root/.ci/stack" ]' "there is no objdump, or no .ci/stack" \
-        "C: no function takes more of the stack than the header says" python3 "$root/.ci/stack" "$archive" --header include/langtag.h
 needs 'has clang && has clang++' "it is not there" \
     "C: the same by clang" with_make check CC=clang CXX=clang++ VALGRIND= BUILD="$work/clang"
 check "C: forms, suggestions, distances, choices and refusals of each length to 4,200 bytes, and to 2 MB" with_make sweep BUILD="$work/c"

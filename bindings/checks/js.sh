@@ -1,27 +1,6 @@
-# Checks the JavaScript package and its page, in Node and in headless Chromium.
-wasm_archive=${LANGTAG_WASM_ARCHIVE:-$(python3 "$here/targets.py" archive wasm64-unknown-unknown 2>"$work/log")}
-# why_without_archive: prints why the module cannot be made from an archive.
-why_without_archive() {
-    if [ -z "$wasm_archive" ]; then
-        echo "there is no archive for WebAssembly: $(tail -1 "$work/log")"
-    elif ! has wasm-opt; then
-        echo "there is no wasm-opt (in Debian: apt-get install binaryen)"
-    elif ! has rt; then
-        echo "there is no rt, which links the module"
-    fi
-}
-without_archive=$(why_without_archive)
-# Without the archive, everything runs over the module that cargo builds. The copy keeps the package.json of a clone, of which the parts
-# after this make packages.
-js_build() {
-    local from=$wasm_archive
-    if [ -n "$without_archive" ]; then from=--cargo; fi
-    "$here/js/build" "$from" "$PWD/js" && cp "$here/js/package.json" js
-}
-if [ -n "$without_archive" ]; then
-    js_build >"$work/log" 2>&1 || { not_run "JavaScript: everything" "$without_archive; $(tail -1 "$work/log")" && return 0; }
-    not_run "JavaScript: the proved module" "$without_archive"
-fi
+# Checks the package for JavaScript, over the module that cargo builds.
+js_build() { "$here/js/build" "$PWD/js" && cp "$here/js/package.json" js; }
+js_build >"$work/log" 2>&1 || { not_run "JavaScript: everything" "$(tail -1 "$work/log")" && return 0; }
 js_built() { js_build && cp js/module.js "$work/module.js" && js_build && cmp js/module.js "$work/module.js"; }
 check "JavaScript: the module and the page, twice the same" js_built
 # wasm_without_imports FILE: the module imports nothing, and exports what the header declares.

@@ -26,7 +26,7 @@ postgresql_released() {
 postgresql_regress() { make -s -C "$pg_folder/first" installcheck PG_CONFIG="$pg_config" || { cat "$pg_folder/first/regression.diffs"; return 1; }; }
 # What SQL says of the library in the extension, and what it has to say of the archive that was given.
 postgresql_says() { psql -X -q -At -c "CREATE EXTENSION IF NOT EXISTS langtag; SELECT langtag_proved(), langtag_version()" postgres; }
-postgresql_proved() { postgresql_says | diff - <(echo "$([ -n "$prover" ] && echo t || echo f)|$(cd python && versions)"); }
+postgresql_proved() { postgresql_says | diff - <(echo "f|$(cd python && versions)"); }
 
 # Installs from the clone of checks/clone.sh, by cargo. The second `make install` is that of root, who may have no cargo.
 postgresql_clone() {

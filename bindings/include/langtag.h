@@ -61,8 +61,10 @@ extern "C" {
 /* Marks a function that only reads memory, and whose only effect is its result. */
 #if defined(__GNUC__) || defined(__clang__)
 #define LANGTAG_PURE __attribute__((pure, warn_unused_result))
+#define LANGTAG_NONNULL __attribute__((nonnull)) /* rule 2 */
 #else
 #define LANGTAG_PURE
+#define LANGTAG_NONNULL
 #endif
 
 /* Returns a valid pointer for NULL, which some programs use for an empty string, and every other pointer unchanged. */
@@ -99,7 +101,7 @@ typedef struct langtag_parts {
 } langtag_parts;
 
 /* Returns what langtag_parse returns, without the parts. */
-LANGTAG_PURE uint32_t langtag_kind(const char *bytes, size_t len);
+LANGTAG_PURE uint32_t langtag_kind(const char *bytes, size_t len) LANGTAG_NONNULL;
 
 /*
  * Parses a tag (RFC 5646 section 2.1): returns an enum langtag_kind_answer, and writes where the parts are (out).
@@ -110,26 +112,26 @@ LANGTAG_PURE uint32_t langtag_kind(const char *bytes, size_t len);
  * - For a private-use tag such as x-fr-CH, `private_use` is the whole string, and all other members are 0.
  * - For an irregular tag, and for a string that is not a tag, all members are 0.
  */
-uint32_t langtag_parse(const char *bytes, size_t len, langtag_parts *parts);
+uint32_t langtag_parse(const char *bytes, size_t len, langtag_parts *parts) LANGTAG_NONNULL;
 
 /*
  * Returns the length of a tag without its extensions and private use, which is 10 for de-CH-1996-u-co-phonebk-x-mine.
  * A private-use tag and an irregular tag have no extensions, so this is their length. Returns 0 for bytes that are not
  * a tag.
  */
-LANGTAG_PURE size_t langtag_base_len(const char *bytes, size_t len);
+LANGTAG_PURE size_t langtag_base_len(const char *bytes, size_t len) LANGTAG_NONNULL;
 
 /*
  * Returns the length of the longest prefix with which some tag begins: 3 for "i-no" and for "en-". It is `len` if and
  * only if the string is a tag, or more bytes can make it one.
  */
-LANGTAG_PURE size_t langtag_viable_len(const char *bytes, size_t len);
+LANGTAG_PURE size_t langtag_viable_len(const char *bytes, size_t len) LANGTAG_NONNULL;
 
 /*
  * Returns the length of the shortest prefix with which no tag begins, or `len` if there is none: 4 for "i-no", 3 for
  * "en-". A program that reads the string byte by byte can stop there.
  */
-LANGTAG_PURE size_t langtag_stop_len(const char *bytes, size_t len);
+LANGTAG_PURE size_t langtag_stop_len(const char *bytes, size_t len) LANGTAG_NONNULL;
 
 /* What langtag_refused returns: that a string is a tag, or why it is not. */
 enum langtag_refused_answer {
@@ -153,7 +155,7 @@ enum langtag_refused_answer {
  * LANGTAG_REFUSED_NONE and LANGTAG_REFUSED_END the subtag is empty, and subtag and offset are at the end of the
  * string.
  */
-uint32_t langtag_refused(const char *bytes, size_t len, langtag_span *subtag, size_t *offset);
+uint32_t langtag_refused(const char *bytes, size_t len, langtag_span *subtag, size_t *offset) LANGTAG_NONNULL;
 
 #define LANGTAG_HASH UINT64_C(0xcbf29ce484222325)
 
@@ -161,7 +163,7 @@ uint32_t langtag_refused(const char *bytes, size_t len, langtag_span *subtag, si
  * Returns whether two strings are equal, ignoring case, which has no meaning in tags (RFC 5646 section 2.1.1). They
  * may be any bytes.
  */
-LANGTAG_PURE bool langtag_eq(const char *a, size_t a_len, const char *b, size_t b_len);
+LANGTAG_PURE bool langtag_eq(const char *a, size_t a_len, const char *b, size_t b_len) LANGTAG_NONNULL;
 
 /*
  * Compares two strings, ignoring case: returns -1, 0 or 1, and 0 if and only if langtag_eq returns true. They may be
@@ -170,7 +172,7 @@ LANGTAG_PURE bool langtag_eq(const char *a, size_t a_len, const char *b, size_t 
  * A string sorts after every longer string that begins with it: zh sorts after zh-Latn. For alphabetical order (de
  * before de-AT), change copies with langtag_fold, and compare these as strings.
  */
-LANGTAG_PURE int32_t langtag_cmp(const char *a, size_t a_len, const char *b, size_t b_len);
+LANGTAG_PURE int32_t langtag_cmp(const char *a, size_t a_len, const char *b, size_t b_len) LANGTAG_NONNULL;
 
 /*
  * Returns the 64-bit FNV-1a hash of a string in lowercase. `state` is LANGTAG_HASH, or the hash of the bytes that come
@@ -179,10 +181,10 @@ LANGTAG_PURE int32_t langtag_cmp(const char *a, size_t a_len, const char *b, siz
  * An attacker who controls the strings can cause collisions. To prevent that, change a copy with langtag_fold and use
  * a keyed hash.
  */
-LANGTAG_PURE uint64_t langtag_hash(uint64_t state, const char *bytes, size_t len);
+LANGTAG_PURE uint64_t langtag_hash(uint64_t state, const char *bytes, size_t len) LANGTAG_NONNULL;
 
 /* Changes the ASCII uppercase letters among any bytes to lowercase, in place. */
-void langtag_fold(char *bytes, size_t len);
+void langtag_fold(char *bytes, size_t len) LANGTAG_NONNULL;
 
 /*
  * Changes a string to the case that RFC 5646 section 2.1.1 recommends, in place: zh-hant-tw becomes zh-Hant-TW.
@@ -191,7 +193,7 @@ void langtag_fold(char *bytes, size_t len);
  * one uppercase letter (Latn). The exceptions do not apply to the first subtag, or to any subtag that comes after a
  * subtag of one byte. The string may be any bytes. A tag keeps its kind, and its parts keep their offsets.
  */
-void langtag_recommend(char *bytes, size_t len);
+void langtag_recommend(char *bytes, size_t len) LANGTAG_NONNULL;
 
 /*
  * Removes the first subtag from `rest`, and writes it to `subtag` (out). `rest` then begins after the next hyphen.
@@ -209,14 +211,15 @@ void langtag_recommend(char *bytes, size_t len);
  * an empty subtag after the last hyphen is not returned: "a-" has one subtag. In "a--b", the second of three subtags
  * is empty.
  */
-bool langtag_next_subtag(const char *bytes, size_t len, langtag_span *rest, langtag_span *subtag);
+bool langtag_next_subtag(const char *bytes, size_t len, langtag_span *rest, langtag_span *subtag) LANGTAG_NONNULL;
 
 /*
  * Removes the first extension, such as u-co-pinyin, from `rest`, as langtag_next_subtag removes a subtag. Begin with
  * `parts.extensions`. From any other span, the bytes before the first hyphen that is followed by a subtag of one byte
  * are removed.
  */
-bool langtag_next_extension(const char *bytes, size_t len, langtag_span *rest, langtag_span *extension);
+bool langtag_next_extension(const char *bytes, size_t len, langtag_span *rest,
+                            langtag_span *extension) LANGTAG_NONNULL;
 
 /*
  * Returns whether the extension u has a key (RFC 6067 section 2.1), ignoring case, and writes where its value is
@@ -232,7 +235,8 @@ bool langtag_next_extension(const char *bytes, size_t len, langtag_span *rest, l
  *
  * Returns false and leaves `value` unchanged if the key is absent, or the string is not a tag.
  */
-bool langtag_keyword(const char *bytes, size_t len, const char *key, size_t key_len, langtag_span *value);
+bool langtag_keyword(const char *bytes, size_t len, const char *key, size_t key_len,
+                     langtag_span *value) LANGTAG_NONNULL;
 
 /*
  * Writes where the key and the value of the next keyword of the extension u are (out). The value may be empty. Each
@@ -247,7 +251,8 @@ bool langtag_keyword(const char *bytes, size_t len, const char *key, size_t key_
  *
  * Returns false and leaves all three unchanged if no keyword is left, or the string is not a tag.
  */
-bool langtag_next_keyword(const char *bytes, size_t len, size_t *passed, langtag_span *key, langtag_span *value);
+bool langtag_next_keyword(const char *bytes, size_t len, size_t *passed, langtag_span *key,
+                          langtag_span *value) LANGTAG_NONNULL;
 
 /*
  * Writes where the attributes of the extension u are (out), which come before its first key (RFC 6067 section 2.1):
@@ -256,7 +261,7 @@ bool langtag_next_keyword(const char *bytes, size_t len, size_t *passed, langtag
  *
  * Returns false, and writes an empty span, if there are none.
  */
-bool langtag_attributes(const char *bytes, size_t len, langtag_span *attributes);
+bool langtag_attributes(const char *bytes, size_t len, langtag_span *attributes) LANGTAG_NONNULL;
 
 /*
  * Returns whether a tag has the extension t (RFC 6497 section 2.2), and writes where the language of t is (out),
@@ -265,13 +270,15 @@ bool langtag_attributes(const char *bytes, size_t len, langtag_span *attributes)
  *
  * Returns false and leaves `language` unchanged if there is no t.
  */
-bool langtag_transform(const char *bytes, size_t len, langtag_span *language);
+bool langtag_transform(const char *bytes, size_t len, langtag_span *language) LANGTAG_NONNULL;
 
 /* Finds the value of a field of the extension t, as langtag_keyword does for u: hepburn for m0 in und-t-ja-m0-hepburn. */
-bool langtag_field(const char *bytes, size_t len, const char *key, size_t key_len, langtag_span *value);
+bool langtag_field(const char *bytes, size_t len, const char *key, size_t key_len,
+                   langtag_span *value) LANGTAG_NONNULL;
 
 /* Writes the next field of the extension t, as langtag_next_keyword does for the keywords of u. */
-bool langtag_next_field(const char *bytes, size_t len, size_t *passed, langtag_span *key, langtag_span *value);
+bool langtag_next_field(const char *bytes, size_t len, size_t *passed, langtag_span *key,
+                        langtag_span *value) LANGTAG_NONNULL;
 
 /* The parts of a normal tag, by number. */
 enum langtag_part {
@@ -299,7 +306,7 @@ enum langtag_part {
  * the string is not such a part: Latin is not a script. The language cannot be removed.
  */
 size_t langtag_with_part(const char *tag, size_t tag_len, uint32_t part, const char *text, size_t text_len,
-                         char *buffer, size_t buffer_len);
+                         char *buffer, size_t buffer_len) LANGTAG_NONNULL;
 
 /*
  * Writes a normal tag with a value of a key of the extension u to `buffer` (RFC 6067 section 2.1), and returns the
@@ -324,7 +331,7 @@ size_t langtag_with_part(const char *tag, size_t tag_len, uint32_t part, const c
  * 3. Otherwise the tag is not LANGTAG_NORMAL, and has no place for a keyword.
  */
 size_t langtag_with_keyword(const char *tag, size_t tag_len, const char *key, size_t key_len, const char *value,
-                            size_t value_len, char *buffer, size_t buffer_len);
+                            size_t value_len, char *buffer, size_t buffer_len) LANGTAG_NONNULL;
 
 /*
  * Writes a normal tag without a key of the extension u to `buffer`, and returns its length, as langtag_with_keyword
@@ -335,7 +342,7 @@ size_t langtag_with_keyword(const char *tag, size_t tag_len, const char *key, si
  * and then a letter.
  */
 size_t langtag_without_keyword(const char *tag, size_t tag_len, const char *key, size_t key_len, char *buffer,
-                               size_t buffer_len);
+                               size_t buffer_len) LANGTAG_NONNULL;
 
 /*
  * Writes a tag with its extensions u and t in canonical form to `buffer` (UTS #35, part 1, Annex C), and returns its
@@ -359,7 +366,7 @@ size_t langtag_without_keyword(const char *tag, size_t tag_len, const char *key,
  *
  * Returns 0 and writes nothing if the string is not a tag.
  */
-size_t langtag_extensions_form(const char *bytes, size_t len, char *buffer, size_t buffer_len);
+size_t langtag_extensions_form(const char *bytes, size_t len, char *buffer, size_t buffer_len) LANGTAG_NONNULL;
 
 /*
  * Returns whether a string is a Unicode locale identifier (UTS #35, part 1, section "Unicode Locale Identifier"), as
@@ -371,7 +378,7 @@ size_t langtag_extensions_form(const char *bytes, size_t len, char *buffer, size
  *
  * Time is quadratic beyond 1,152 variants, and beyond 512 in the language of t: less than a second for 1 MB.
  */
-LANGTAG_PURE bool langtag_is_locale(const char *bytes, size_t len);
+LANGTAG_PURE bool langtag_is_locale(const char *bytes, size_t len) LANGTAG_NONNULL;
 
 /*
  * Writes the canonical form of a tag as a Unicode locale identifier to `buffer` (UTS #35, part 1, Annex C), and
@@ -396,7 +403,7 @@ LANGTAG_PURE bool langtag_is_locale(const char *bytes, size_t len);
  * Returns 0 and writes nothing if the tag has no form, such as x-a, i-default and und-t-m0, or if the string is not a
  * tag.
  */
-size_t langtag_locale_form(const char *bytes, size_t len, char *buffer, size_t buffer_len);
+size_t langtag_locale_form(const char *bytes, size_t len, char *buffer, size_t buffer_len) LANGTAG_NONNULL;
 
 /* The bits of the result of langtag_repeats. */
 enum langtag_repeats_answer { LANGTAG_REPEATED_VARIANT = 1, LANGTAG_REPEATED_SINGLETON = 2 };
@@ -415,7 +422,7 @@ typedef struct langtag_repeated {
  * Beyond 1,152 variants, the time is quadratic in the length: less than a second for 1 MB, 20 s for 10 MB. Limit the
  * length of untrusted strings.
  */
-uint32_t langtag_repeats(const char *bytes, size_t len, langtag_repeated *repeated);
+uint32_t langtag_repeats(const char *bytes, size_t len, langtag_repeated *repeated) LANGTAG_NONNULL;
 
 /* What langtag_validity returns: that a tag is valid, or what is wrong with its first invalid subtag. */
 enum langtag_validity_answer {
@@ -444,7 +451,7 @@ enum langtag_validity_answer {
  * date langtag_registry_date returns. Deprecated subtags are valid. Whether a variant follows one of its prefixes is
  * not checked.
  */
-uint32_t langtag_validity(const char *bytes, size_t len, langtag_span *invalid);
+uint32_t langtag_validity(const char *bytes, size_t len, langtag_span *invalid) LANGTAG_NONNULL;
 
 /*
  * Writes the registered code that is probably meant by a subtag that is not registered, and returns its length, which
@@ -462,7 +469,8 @@ uint32_t langtag_validity(const char *bytes, size_t len, langtag_span *invalid);
  * neither LANGTAG_INVALID_LANGUAGE nor LANGTAG_INVALID_REGION. If `buffer` is too short, nothing is written, and the
  * result is the size that is needed. No NUL is written.
  */
-size_t langtag_suggestion(uint32_t fault, const char *subtag, size_t subtag_len, char *buffer, size_t buffer_len);
+size_t langtag_suggestion(uint32_t fault, const char *subtag, size_t subtag_len, char *buffer,
+                          size_t buffer_len) LANGTAG_NONNULL;
 
 /*
  * Writes the canonical form of a tag to `buffer` (RFC 5646 section 4.5), and returns its length: iw becomes he, zh-yue
@@ -484,13 +492,13 @@ size_t langtag_suggestion(uint32_t fault, const char *subtag, size_t subtag_len,
  *
  * Returns 0 and writes nothing if the string is not a tag.
  */
-size_t langtag_canonical(const char *bytes, size_t len, char *buffer, size_t buffer_len);
+size_t langtag_canonical(const char *bytes, size_t len, char *buffer, size_t buffer_len) LANGTAG_NONNULL;
 
 /*
  * Returns whether a string is a tag that equals its canonical form, ignoring case: true for HE and x-iw, false for iw,
  * for en-b-ccc-a-aaa, and for a string that is not a tag.
  */
-LANGTAG_PURE bool langtag_is_canonical(const char *bytes, size_t len);
+LANGTAG_PURE bool langtag_is_canonical(const char *bytes, size_t len) LANGTAG_NONNULL;
 
 /*
  * Returns the date of the IANA registry inside this library (its File-Date, RFC 5646 section 3.1.1) as one number:
@@ -514,21 +522,21 @@ LANGTAG_PURE uint32_t langtag_registry_date(void);
  *
  * Returns 0 and writes nothing if the string is not a tag.
  */
-size_t langtag_maximized(const char *bytes, size_t len, char *buffer, size_t buffer_len);
+size_t langtag_maximized(const char *bytes, size_t len, char *buffer, size_t buffer_len) LANGTAG_NONNULL;
 
 /*
  * Writes a tag without its likely subtags to `buffer` (UTS #35, part 1, Remove Likely Subtags), and returns its
  * length, as langtag_maximized does: zh-Hant-TW becomes zh-TW, en-Latn-US becomes en, and iw-Hebr-IL becomes iw. If it
  * is enough to keep either the script or the region, the region is kept.
  */
-size_t langtag_minimized(const char *bytes, size_t len, char *buffer, size_t buffer_len);
+size_t langtag_minimized(const char *bytes, size_t len, char *buffer, size_t buffer_len) LANGTAG_NONNULL;
 
 /*
  * Writes the version of Unicode's CLDR inside this library to `buffer`, such as 48.2, and returns its length. Likely
  * subtags, distances and aliases come from that version. As with langtag_canonical, nothing is written if the buffer
  * is too short.
  */
-size_t langtag_cldr_version(char *buffer, size_t buffer_len);
+size_t langtag_cldr_version(char *buffer, size_t buffer_len) LANGTAG_NONNULL;
 
 /*
  * Writes the parent of a tag in CLDR to `buffer` (UTS #35, part 1, Parent Locales), and returns its length: pt-PT for
@@ -538,7 +546,7 @@ size_t langtag_cldr_version(char *buffer, size_t buffer_len);
  *
  * Returns 0 and writes nothing if the tag has no parent, such as pt and x-a, or if the string is not a tag.
  */
-size_t langtag_parent(const char *bytes, size_t len, char *buffer, size_t buffer_len);
+size_t langtag_parent(const char *bytes, size_t len, char *buffer, size_t buffer_len) LANGTAG_NONNULL;
 
 /*
  * Writes the tag at an index of the chain of a tag and its parents in CLDR to `buffer`, and returns its length. At 0 is
@@ -561,13 +569,14 @@ size_t langtag_parent(const char *bytes, size_t len, char *buffer, size_t buffer
  *
  * Returns 0 and writes nothing if the chain has no more tags, or if the string is not a tag.
  */
-size_t langtag_nth_parent(const char *bytes, size_t len, uint32_t index, char *buffer, size_t buffer_len);
+size_t langtag_nth_parent(const char *bytes, size_t len, uint32_t index, char *buffer,
+                          size_t buffer_len) LANGTAG_NONNULL;
 
 /*
  * Returns whether a tag is written from right to left, by its script or, if it has none, by its likely script: true
  * for he, pa-PK and az-Arab, false for ar-Latn, for und, for a private-use tag, and for a string that is not a tag.
  */
-LANGTAG_PURE bool langtag_is_right_to_left(const char *bytes, size_t len);
+LANGTAG_PURE bool langtag_is_right_to_left(const char *bytes, size_t len) LANGTAG_NONNULL;
 
 #define LANGTAG_NO_DISTANCE UINT32_MAX
 
@@ -585,7 +594,7 @@ LANGTAG_PURE bool langtag_is_right_to_left(const char *bytes, size_t len);
  * Returns LANGTAG_NO_DISTANCE if one of the strings is not a tag.
  */
 LANGTAG_PURE uint32_t langtag_distance(const char *desired, size_t desired_len, const char *supported,
-                                       size_t supported_len);
+                                       size_t supported_len) LANGTAG_NONNULL;
 
 /*
  * Returns the index of the best tag for an Accept-Language header, or `tags_len` if none is suitable. The tags are
@@ -611,7 +620,7 @@ LANGTAG_PURE uint32_t langtag_distance(const char *desired, size_t desired_len, 
  * most servers do.
  */
 LANGTAG_PURE size_t langtag_best_for_header(const char *header, size_t header_len, const char *bytes, size_t len,
-                                            const langtag_span *tags, size_t tags_len);
+                                            const langtag_span *tags, size_t tags_len) LANGTAG_NONNULL;
 
 /*
  * Returns the index of the best tag for a list of language ranges, in order of preference, or `tags_len` if none is
@@ -624,7 +633,7 @@ LANGTAG_PURE size_t langtag_best_for_header(const char *header, size_t header_le
  */
 LANGTAG_PURE size_t langtag_best_for_ranges(const char *text, size_t text_len, const langtag_span *ranges,
                                             size_t ranges_len, const char *bytes, size_t len, const langtag_span *tags,
-                                            size_t tags_len);
+                                            size_t tags_len) LANGTAG_NONNULL;
 
 /* The range of a header that the best tag serves, and the distance from the range to the tag. */
 typedef struct langtag_best_match {
@@ -646,7 +655,7 @@ typedef struct langtag_best_match {
  * `found` is always written.
  */
 size_t langtag_match_for_header(const char *header, size_t header_len, const char *bytes, size_t len,
-                                const langtag_span *tags, size_t tags_len, langtag_best_match *found);
+                                const langtag_span *tags, size_t tags_len, langtag_best_match *found) LANGTAG_NONNULL;
 
 /*
  * Writes the indices of the suitable tags for an Accept-Language header to `found` (out), best first, and returns how
@@ -662,7 +671,8 @@ size_t langtag_match_for_header(const char *header, size_t header_len, const cha
  * each tag with each earlier index, so `found_len` limits the time.
  */
 size_t langtag_suitable_for_header(const char *header, size_t header_len, const char *bytes, size_t len,
-                                   const langtag_span *tags, size_t tags_len, size_t *found, size_t found_len);
+                                   const langtag_span *tags, size_t tags_len, size_t *found,
+                                   size_t found_len) LANGTAG_NONNULL;
 
 /*
  * Writes the indices of the suitable tags for a list of language ranges, as langtag_suitable_for_header does for a
@@ -670,7 +680,7 @@ size_t langtag_suitable_for_header(const char *header, size_t header_len, const 
  */
 size_t langtag_suitable_for_ranges(const char *text, size_t text_len, const langtag_span *ranges, size_t ranges_len,
                                    const char *bytes, size_t len, const langtag_span *tags, size_t tags_len,
-                                   size_t *found, size_t found_len);
+                                   size_t *found, size_t found_len) LANGTAG_NONNULL;
 
 /*
  * A tag of a site, with what a choice computes of it. It is plain data without pointers: it may be copied, stored, and
@@ -695,7 +705,7 @@ typedef struct langtag_prepared_tag {
  * Prepare the tags again if the string changes, or the version of the library. A span that is not a tag, or reaches
  * beyond the string, is never chosen.
  */
-void langtag_prepare(const char *bytes, size_t len, langtag_prepared_tag *tag);
+void langtag_prepare(const char *bytes, size_t len, langtag_prepared_tag *tag) LANGTAG_NONNULL;
 
 /*
  * Returns what langtag_best_for_header returns for the same string and the spans of the tags. For 40 tags it takes
@@ -703,7 +713,7 @@ void langtag_prepare(const char *bytes, size_t len, langtag_prepared_tag *tag);
  * A tag that was not is skipped: any values of `opaque` are safe.
  */
 LANGTAG_PURE size_t langtag_site_best_for_header(const char *header, size_t header_len, const char *bytes, size_t len,
-                                                 const langtag_prepared_tag *tags, size_t tags_len);
+                                                 const langtag_prepared_tag *tags, size_t tags_len) LANGTAG_NONNULL;
 
 /*
  * Returns what langtag_best_for_ranges returns, among tags that langtag_prepare prepared, as
@@ -711,14 +721,15 @@ LANGTAG_PURE size_t langtag_site_best_for_header(const char *header, size_t head
  */
 LANGTAG_PURE size_t langtag_site_best_for_ranges(const char *text, size_t text_len, const langtag_span *ranges,
                                                  size_t ranges_len, const char *bytes, size_t len,
-                                                 const langtag_prepared_tag *tags, size_t tags_len);
+                                                 const langtag_prepared_tag *tags, size_t tags_len) LANGTAG_NONNULL;
 
 /*
  * Returns what langtag_match_for_header returns, among tags that langtag_prepare prepared, as
  * langtag_site_best_for_header does.
  */
 size_t langtag_site_match_for_header(const char *header, size_t header_len, const char *bytes, size_t len,
-                                     const langtag_prepared_tag *tags, size_t tags_len, langtag_best_match *found);
+                                     const langtag_prepared_tag *tags, size_t tags_len,
+                                     langtag_best_match *found) LANGTAG_NONNULL;
 
 /*
  * Writes the tag for a POSIX locale name to `buffer` (IEEE Std 1003.1, section 8.2), and returns its length:
@@ -740,7 +751,7 @@ size_t langtag_site_match_for_header(const char *header, size_t header_len, cons
  * Android folder come after the region (en-rGB-land). Also if what follows # is no script and no extension, or if
  * extensions would come after an extension or private use.
  */
-size_t langtag_from_posix(const char *name, size_t name_len, char *buffer, size_t buffer_len);
+size_t langtag_from_posix(const char *name, size_t name_len, char *buffer, size_t buffer_len) LANGTAG_NONNULL;
 
 /*
  * Writes the POSIX locale name for a tag to `buffer` (IEEE Std 1003.1, section 8.2), and returns its length, which is
@@ -761,7 +772,7 @@ size_t langtag_from_posix(const char *name, size_t name_len, char *buffer, size_
  * another extension, private use, or a language of more than three letters. Also for und, and if the string is not a
  * tag. To leave extensions out, ask for the first langtag_base_len bytes of the tag.
  */
-size_t langtag_to_posix(const char *bytes, size_t len, char *buffer, size_t buffer_len);
+size_t langtag_to_posix(const char *bytes, size_t len, char *buffer, size_t buffer_len) LANGTAG_NONNULL;
 
 /*
  * Returns whether langtag_from_posix drops the modifier of a name because it is not known, and writes where the
@@ -770,7 +781,7 @@ size_t langtag_to_posix(const char *bytes, size_t len, char *buffer, size_t buff
  * Returns false and leaves `modifier` unchanged if there is no modifier, if langtag_from_posix reads it, or if it is
  * not about the language, such as euro.
  */
-bool langtag_unknown_modifier(const char *name, size_t name_len, langtag_span *modifier);
+bool langtag_unknown_modifier(const char *name, size_t name_len, langtag_span *modifier) LANGTAG_NONNULL;
 
 #define LANGTAG_GRANDFATHERED_COUNT 26u
 
@@ -785,7 +796,7 @@ bool langtag_unknown_modifier(const char *name, size_t name_len, langtag_span *m
  *   17 art-lojban  18 cel-gaulish 19 no-bok        20 no-nyn      21 zh-guoyu    22 zh-hakka    23 zh-min
  *   24 zh-min-nan  25 zh-xiang
  */
-LANGTAG_PURE uint32_t langtag_grandfathered(const char *bytes, size_t len);
+LANGTAG_PURE uint32_t langtag_grandfathered(const char *bytes, size_t len) LANGTAG_NONNULL;
 
 /* What langtag_range_kind returns (RFC 4647 section 2). */
 enum langtag_range_kind_answer {
@@ -795,7 +806,7 @@ enum langtag_range_kind_answer {
 };
 
 /* Returns which kind of language range a string is, as an enum langtag_range_kind_answer. */
-LANGTAG_PURE uint32_t langtag_range_kind(const char *bytes, size_t len);
+LANGTAG_PURE uint32_t langtag_range_kind(const char *bytes, size_t len) LANGTAG_NONNULL;
 
 /*
  * Returns whether a range matches a tag by basic filtering (RFC 4647 section 3.3.1): the range is *, or equals the
@@ -804,7 +815,8 @@ LANGTAG_PURE uint32_t langtag_range_kind(const char *bytes, size_t len);
  *
  * Returns false if the first string is not a language range, or the second is not a tag.
  */
-LANGTAG_PURE bool langtag_matches_basic(const char *range, size_t range_len, const char *tag, size_t tag_len);
+LANGTAG_PURE bool langtag_matches_basic(const char *range, size_t range_len, const char *tag,
+                                        size_t tag_len) LANGTAG_NONNULL;
 
 /*
  * Returns whether a range matches a tag by extended filtering (RFC 4647 section 3.3.2): de-DE and de-*-DE match
@@ -812,7 +824,8 @@ LANGTAG_PURE bool langtag_matches_basic(const char *range, size_t range_len, con
  *
  * Returns false if the first string is not a language range, or the second is not a tag.
  */
-LANGTAG_PURE bool langtag_matches_extended(const char *range, size_t range_len, const char *tag, size_t tag_len);
+LANGTAG_PURE bool langtag_matches_extended(const char *range, size_t range_len, const char *tag,
+                                           size_t tag_len) LANGTAG_NONNULL;
 
 /*
  * Shortens `rest` to its next fallback in a lookup (RFC 4647 section 3.4); for a catalogue of strings, call
@@ -831,7 +844,7 @@ LANGTAG_PURE bool langtag_matches_extended(const char *range, size_t range_len, 
  * A lookup reads an extended range as the basic range without each "-*" (section 3.2). So remove each "-*" from a
  * fallback before you compare it: de-*-DE finds the tag de-DE, and then de. A range that begins with * finds nothing.
  */
-bool langtag_next_fallback(const char *bytes, size_t len, langtag_span *rest);
+bool langtag_next_fallback(const char *bytes, size_t len, langtag_span *rest) LANGTAG_NONNULL;
 
 /* What langtag_next_accepted returns. */
 enum langtag_accepted_answer {
@@ -865,7 +878,7 @@ enum langtag_accepted_answer {
  * then writes nothing.
  */
 uint32_t langtag_next_accepted(const char *bytes, size_t len, langtag_span *rest, langtag_span *range,
-                               uint32_t *weight);
+                               uint32_t *weight) LANGTAG_NONNULL;
 
 /*
  * Looks up a tag as langtag_tag_for_header_lenient does, but refuses a header with a malformed element. Returns an
@@ -877,7 +890,8 @@ uint32_t langtag_next_accepted(const char *bytes, size_t len, langtag_span *rest
  *   string of that element, without the spaces and tabs around it.
  */
 uint32_t langtag_tag_for_header(const char *header, size_t header_len, const char *bytes, size_t len,
-                                const langtag_span *tags, size_t tags_len, size_t *index, langtag_span *bad);
+                                const langtag_span *tags, size_t tags_len, size_t *index,
+                                langtag_span *bad) LANGTAG_NONNULL;
 
 /*
  * Returns the index of the tag that lookup finds for an Accept-Language header (RFC 4647 section 3.4), or `tags_len`
@@ -898,7 +912,7 @@ uint32_t langtag_tag_for_header(const char *header, size_t header_len, const cha
  * Time is at most proportional to the length of the header times the length of the tags.
  */
 LANGTAG_PURE size_t langtag_tag_for_header_lenient(const char *header, size_t header_len, const char *bytes, size_t len,
-                                                   const langtag_span *tags, size_t tags_len);
+                                                   const langtag_span *tags, size_t tags_len) LANGTAG_NONNULL;
 
 #ifdef __cplusplus
 }

@@ -12,45 +12,45 @@
  * - If C writes numbers to an array, the list of the numbers that it wrote is returned. `room` is the length of the array.
  * - `site`, which prepareSite of memory.js returns, is passed for a string and the prepared tags in it.
  */
-import { aligned, close, count, lengthOf, module, open, prepare, read, readSizes, size, SPAN, WORD, write, writeBytes, writeList, written } from "./memory.js";
+import { aligned, close, count, lengthOf, module, open, prepare, read, readSizes, SPAN, WORD, write, writeBytes, writeList, written } from "./memory.js";
 
 export function kind(text) {
     const at0 = open(text.length);
     write(text, at0);
-    return close(module.calls.langtag_kind(module.begin, size(text.length)) >>> 0);
+    return close(module.calls.langtag_kind(module.begin, text.length) >>> 0);
 }
 
 /** Returns [result, parts.language.start, parts.language.len, parts.script.start, parts.script.len, parts.region.start, parts.region.len, parts.variants.start, parts.variants.len, parts.extensions.start, parts.extensions.len, parts.private_use.start, parts.private_use.len]. */
 export function parse(text) {
     const at0 = open(text.length);
     write(text, at0);
-    const result = module.calls.langtag_parse(module.begin, size(text.length), module.outs[0]) >>> 0;
+    const result = module.calls.langtag_parse(module.begin, text.length, module.outs[0]) >>> 0;
     return close([result, written(0), written(1), written(2), written(3), written(4), written(5), written(6), written(7), written(8), written(9), written(10), written(11)]);
 }
 
 export function baseLen(text) {
     const at0 = open(text.length);
     write(text, at0);
-    return close(count(module.calls.langtag_base_len(module.begin, size(text.length))));
+    return close(count(module.calls.langtag_base_len(module.begin, text.length)));
 }
 
 export function viableLen(text) {
     const at0 = open(text.length);
     write(text, at0);
-    return close(count(module.calls.langtag_viable_len(module.begin, size(text.length))));
+    return close(count(module.calls.langtag_viable_len(module.begin, text.length)));
 }
 
 export function stopLen(text) {
     const at0 = open(text.length);
     write(text, at0);
-    return close(count(module.calls.langtag_stop_len(module.begin, size(text.length))));
+    return close(count(module.calls.langtag_stop_len(module.begin, text.length)));
 }
 
 /** Returns [result, subtag.start, subtag.len, offset]. */
 export function refused(text) {
     const at0 = open(text.length);
     write(text, at0);
-    const result = module.calls.langtag_refused(module.begin, size(text.length), module.outs[0], module.outs[2]) >>> 0;
+    const result = module.calls.langtag_refused(module.begin, text.length, module.outs[0], module.outs[2]) >>> 0;
     return close([result, written(0), written(1), written(2)]);
 }
 
@@ -58,27 +58,27 @@ export function eq(a, b) {
     const at0 = open(a.length + b.length);
     const at1 = write(a, at0);
     write(b, at1);
-    return close(module.calls.langtag_eq(module.begin, size(a.length), size(at1), size(b.length)) !== 0);
+    return close(module.calls.langtag_eq(module.begin, a.length, at1, b.length) !== 0);
 }
 
 export function cmp(a, b) {
     const at0 = open(a.length + b.length);
     const at1 = write(a, at0);
     write(b, at1);
-    return close(module.calls.langtag_cmp(module.begin, size(a.length), size(at1), size(b.length)));
+    return close(module.calls.langtag_cmp(module.begin, a.length, at1, b.length));
 }
 
 export function hash(state, text) {
     const at0 = open(text.length);
     write(text, at0);
-    return close(BigInt.asUintN(64, module.calls.langtag_hash(state, module.begin, size(text.length))));
+    return close(BigInt.asUintN(64, module.calls.langtag_hash(state, module.begin, text.length)));
 }
 
 /** Returns the changed string. */
 export function fold(text) {
     const at0 = open(text.length);
     write(text, at0);
-    module.calls.langtag_fold(module.begin, size(text.length));
+    module.calls.langtag_fold(module.begin, text.length);
     return close(read(at0, text.length));
 }
 
@@ -86,7 +86,7 @@ export function fold(text) {
 export function recommend(text) {
     const at0 = open(text.length);
     write(text, at0);
-    module.calls.langtag_recommend(module.begin, size(text.length));
+    module.calls.langtag_recommend(module.begin, text.length);
     return close(read(at0, text.length));
 }
 
@@ -96,7 +96,7 @@ export function everySubtag(text) {
     write(text, at0);
     prepare(0, text.length);
     const items = [];
-    while (module.calls.langtag_next_subtag(module.begin, size(text.length), module.outs[0], module.outs[2]) !== 0) {
+    while (module.calls.langtag_next_subtag(module.begin, text.length, module.outs[0], module.outs[2]) !== 0) {
         items.push([written(2), written(3)]);
     }
     return close(items);
@@ -108,7 +108,7 @@ export function everyExtension(text) {
     write(text, at0);
     prepare(0, text.length);
     const items = [];
-    while (module.calls.langtag_next_extension(module.begin, size(text.length), module.outs[0], module.outs[2]) !== 0) {
+    while (module.calls.langtag_next_extension(module.begin, text.length, module.outs[0], module.outs[2]) !== 0) {
         items.push([written(2), written(3)]);
     }
     return close(items);
@@ -119,7 +119,7 @@ export function keyword(text, key) {
     const at0 = open(text.length + key.length);
     const at1 = write(text, at0);
     write(key, at1);
-    return close(module.calls.langtag_keyword(module.begin, size(text.length), size(at1), size(key.length), module.outs[0]) !== 0 ? [written(0), written(1)] : undefined);
+    return close(module.calls.langtag_keyword(module.begin, text.length, at1, key.length, module.outs[0]) !== 0 ? [written(0), written(1)] : undefined);
 }
 
 /** Returns a list of [key.start, key.len, value.start, value.len]. */
@@ -128,7 +128,7 @@ export function everyKeyword(text) {
     write(text, at0);
     prepare(0);
     const items = [];
-    while (module.calls.langtag_next_keyword(module.begin, size(text.length), module.outs[0], module.outs[1], module.outs[3]) !== 0) {
+    while (module.calls.langtag_next_keyword(module.begin, text.length, module.outs[0], module.outs[1], module.outs[3]) !== 0) {
         items.push([written(1), written(2), written(3), written(4)]);
     }
     return close(items);
@@ -138,14 +138,14 @@ export function everyKeyword(text) {
 export function attributes(text) {
     const at0 = open(text.length);
     write(text, at0);
-    return close(module.calls.langtag_attributes(module.begin, size(text.length), module.outs[0]) !== 0 ? [written(0), written(1)] : undefined);
+    return close(module.calls.langtag_attributes(module.begin, text.length, module.outs[0]) !== 0 ? [written(0), written(1)] : undefined);
 }
 
 /** Returns [language.start, language.len] or undefined. */
 export function transform(text) {
     const at0 = open(text.length);
     write(text, at0);
-    return close(module.calls.langtag_transform(module.begin, size(text.length), module.outs[0]) !== 0 ? [written(0), written(1)] : undefined);
+    return close(module.calls.langtag_transform(module.begin, text.length, module.outs[0]) !== 0 ? [written(0), written(1)] : undefined);
 }
 
 /** Returns [value.start, value.len] or undefined. */
@@ -153,7 +153,7 @@ export function field(text, key) {
     const at0 = open(text.length + key.length);
     const at1 = write(text, at0);
     write(key, at1);
-    return close(module.calls.langtag_field(module.begin, size(text.length), size(at1), size(key.length), module.outs[0]) !== 0 ? [written(0), written(1)] : undefined);
+    return close(module.calls.langtag_field(module.begin, text.length, at1, key.length, module.outs[0]) !== 0 ? [written(0), written(1)] : undefined);
 }
 
 /** Returns a list of [key.start, key.len, value.start, value.len]. */
@@ -162,7 +162,7 @@ export function everyField(text) {
     write(text, at0);
     prepare(0);
     const items = [];
-    while (module.calls.langtag_next_field(module.begin, size(text.length), module.outs[0], module.outs[1], module.outs[3]) !== 0) {
+    while (module.calls.langtag_next_field(module.begin, text.length, module.outs[0], module.outs[1], module.outs[3]) !== 0) {
         items.push([written(1), written(2), written(3), written(4)]);
     }
     return close(items);
@@ -173,7 +173,7 @@ export function withPart(tag, part, text, room = tag.length + text.length + 32) 
     const at0 = open(tag.length + text.length + room);
     const at1 = write(tag, at0);
     const at2 = write(text, at1);
-    const length = count(module.calls.langtag_with_part(module.begin, size(tag.length), part, size(at1), size(text.length), size(at2), size(room)));
+    const length = count(module.calls.langtag_with_part(module.begin, tag.length, part, at1, text.length, at2, room));
     if (length <= room) return close(read(at2, length));
     close();
     return withPart(tag, part, text, length);
@@ -185,7 +185,7 @@ export function withKeyword(tag, key, value, room = tag.length + key.length + va
     const at1 = write(tag, at0);
     const at2 = write(key, at1);
     const at3 = write(value, at2);
-    const length = count(module.calls.langtag_with_keyword(module.begin, size(tag.length), size(at1), size(key.length), size(at2), size(value.length), size(at3), size(room)));
+    const length = count(module.calls.langtag_with_keyword(module.begin, tag.length, at1, key.length, at2, value.length, at3, room));
     if (length <= room) return close(read(at3, length));
     close();
     return withKeyword(tag, key, value, length);
@@ -196,7 +196,7 @@ export function withoutKeyword(tag, key, room = tag.length + key.length + 32) {
     const at0 = open(tag.length + key.length + room);
     const at1 = write(tag, at0);
     const at2 = write(key, at1);
-    const length = count(module.calls.langtag_without_keyword(module.begin, size(tag.length), size(at1), size(key.length), size(at2), size(room)));
+    const length = count(module.calls.langtag_without_keyword(module.begin, tag.length, at1, key.length, at2, room));
     if (length <= room) return close(read(at2, length));
     close();
     return withoutKeyword(tag, key, length);
@@ -206,7 +206,7 @@ export function withoutKeyword(tag, key, room = tag.length + key.length + 32) {
 export function extensionsForm(text, room = text.length + 32) {
     const at0 = open(text.length + room);
     const at1 = write(text, at0);
-    const length = count(module.calls.langtag_extensions_form(module.begin, size(text.length), size(at1), size(room)));
+    const length = count(module.calls.langtag_extensions_form(module.begin, text.length, at1, room));
     if (length <= room) return close(read(at1, length));
     close();
     return extensionsForm(text, length);
@@ -215,14 +215,14 @@ export function extensionsForm(text, room = text.length + 32) {
 export function isLocale(text) {
     const at0 = open(text.length);
     write(text, at0);
-    return close(module.calls.langtag_is_locale(module.begin, size(text.length)) !== 0);
+    return close(module.calls.langtag_is_locale(module.begin, text.length) !== 0);
 }
 
 /** Returns the written string. */
 export function localeForm(text, room = text.length + 32) {
     const at0 = open(text.length + room);
     const at1 = write(text, at0);
-    const length = count(module.calls.langtag_locale_form(module.begin, size(text.length), size(at1), size(room)));
+    const length = count(module.calls.langtag_locale_form(module.begin, text.length, at1, room));
     if (length <= room) return close(read(at1, length));
     close();
     return localeForm(text, length);
@@ -232,7 +232,7 @@ export function localeForm(text, room = text.length + 32) {
 export function repeats(text) {
     const at0 = open(text.length);
     write(text, at0);
-    const result = module.calls.langtag_repeats(module.begin, size(text.length), module.outs[0]) >>> 0;
+    const result = module.calls.langtag_repeats(module.begin, text.length, module.outs[0]) >>> 0;
     return close([result, written(0), written(1), written(2), written(3)]);
 }
 
@@ -240,7 +240,7 @@ export function repeats(text) {
 export function validity(text) {
     const at0 = open(text.length);
     write(text, at0);
-    const result = module.calls.langtag_validity(module.begin, size(text.length), module.outs[0]) >>> 0;
+    const result = module.calls.langtag_validity(module.begin, text.length, module.outs[0]) >>> 0;
     return close([result, written(0), written(1)]);
 }
 
@@ -248,7 +248,7 @@ export function validity(text) {
 export function suggestion(fault, subtag, room = subtag.length + 32) {
     const at0 = open(subtag.length + room);
     const at1 = write(subtag, at0);
-    const length = count(module.calls.langtag_suggestion(fault, module.begin, size(subtag.length), size(at1), size(room)));
+    const length = count(module.calls.langtag_suggestion(fault, module.begin, subtag.length, at1, room));
     if (length <= room) return close(read(at1, length));
     close();
     return suggestion(fault, subtag, length);
@@ -258,7 +258,7 @@ export function suggestion(fault, subtag, room = subtag.length + 32) {
 export function canonical(text, room = text.length + 32) {
     const at0 = open(text.length + room);
     const at1 = write(text, at0);
-    const length = count(module.calls.langtag_canonical(module.begin, size(text.length), size(at1), size(room)));
+    const length = count(module.calls.langtag_canonical(module.begin, text.length, at1, room));
     if (length <= room) return close(read(at1, length));
     close();
     return canonical(text, length);
@@ -267,7 +267,7 @@ export function canonical(text, room = text.length + 32) {
 export function isCanonical(text) {
     const at0 = open(text.length);
     write(text, at0);
-    return close(module.calls.langtag_is_canonical(module.begin, size(text.length)) !== 0);
+    return close(module.calls.langtag_is_canonical(module.begin, text.length) !== 0);
 }
 
 export function registryDate() {
@@ -279,7 +279,7 @@ export function registryDate() {
 export function maximized(text, room = text.length + 32) {
     const at0 = open(text.length + room);
     const at1 = write(text, at0);
-    const length = count(module.calls.langtag_maximized(module.begin, size(text.length), size(at1), size(room)));
+    const length = count(module.calls.langtag_maximized(module.begin, text.length, at1, room));
     if (length <= room) return close(read(at1, length));
     close();
     return maximized(text, length);
@@ -289,7 +289,7 @@ export function maximized(text, room = text.length + 32) {
 export function minimized(text, room = text.length + 32) {
     const at0 = open(text.length + room);
     const at1 = write(text, at0);
-    const length = count(module.calls.langtag_minimized(module.begin, size(text.length), size(at1), size(room)));
+    const length = count(module.calls.langtag_minimized(module.begin, text.length, at1, room));
     if (length <= room) return close(read(at1, length));
     close();
     return minimized(text, length);
@@ -298,7 +298,7 @@ export function minimized(text, room = text.length + 32) {
 /** Returns the written string. */
 export function cldrVersion(room = 32) {
     const at0 = open(room);
-    const length = count(module.calls.langtag_cldr_version(module.begin, size(room)));
+    const length = count(module.calls.langtag_cldr_version(module.begin, room));
     if (length <= room) return close(read(at0, length));
     close();
     return cldrVersion(length);
@@ -308,7 +308,7 @@ export function cldrVersion(room = 32) {
 export function parent(text, room = text.length + 32) {
     const at0 = open(text.length + room);
     const at1 = write(text, at0);
-    const length = count(module.calls.langtag_parent(module.begin, size(text.length), size(at1), size(room)));
+    const length = count(module.calls.langtag_parent(module.begin, text.length, at1, room));
     if (length <= room) return close(read(at1, length));
     close();
     return parent(text, length);
@@ -318,7 +318,7 @@ export function parent(text, room = text.length + 32) {
 export function nthParent(text, index, room = text.length + 32) {
     const at0 = open(text.length + room);
     const at1 = write(text, at0);
-    const length = count(module.calls.langtag_nth_parent(module.begin, size(text.length), index, size(at1), size(room)));
+    const length = count(module.calls.langtag_nth_parent(module.begin, text.length, index, at1, room));
     if (length <= room) return close(read(at1, length));
     close();
     return nthParent(text, index, length);
@@ -327,14 +327,14 @@ export function nthParent(text, index, room = text.length + 32) {
 export function isRightToLeft(text) {
     const at0 = open(text.length);
     write(text, at0);
-    return close(module.calls.langtag_is_right_to_left(module.begin, size(text.length)) !== 0);
+    return close(module.calls.langtag_is_right_to_left(module.begin, text.length) !== 0);
 }
 
 export function distance(desired, supported) {
     const at0 = open(desired.length + supported.length);
     const at1 = write(desired, at0);
     write(supported, at1);
-    return close(module.calls.langtag_distance(module.begin, size(desired.length), size(at1), size(supported.length)) >>> 0);
+    return close(module.calls.langtag_distance(module.begin, desired.length, at1, supported.length) >>> 0);
 }
 
 export function bestForHeader(header, tags) {
@@ -343,7 +343,7 @@ export function bestForHeader(header, tags) {
     const tagsAt = aligned(at0 + header.length + tagsLength);
     const at1 = write(header, at0);
     writeList(tags, at1, tagsAt);
-    return close(count(module.calls.langtag_best_for_header(module.begin, size(header.length), size(at1), size(tagsLength), size(tagsAt), size(tags.length))));
+    return close(count(module.calls.langtag_best_for_header(module.begin, header.length, at1, tagsLength, tagsAt, tags.length)));
 }
 
 export function bestForRanges(ranges, tags) {
@@ -354,7 +354,7 @@ export function bestForRanges(ranges, tags) {
     const tagsAt = aligned(rangesAt + SPAN * ranges.length);
     const at1 = writeList(ranges, at0, rangesAt);
     writeList(tags, at1, tagsAt);
-    return close(count(module.calls.langtag_best_for_ranges(module.begin, size(rangesLength), size(rangesAt), size(ranges.length), size(at1), size(tagsLength), size(tagsAt), size(tags.length))));
+    return close(count(module.calls.langtag_best_for_ranges(module.begin, rangesLength, rangesAt, ranges.length, at1, tagsLength, tagsAt, tags.length)));
 }
 
 /** Returns [result, found.range.start, found.range.len, found.distance]. */
@@ -364,7 +364,7 @@ export function matchForHeader(header, tags) {
     const tagsAt = aligned(at0 + header.length + tagsLength);
     const at1 = write(header, at0);
     writeList(tags, at1, tagsAt);
-    const result = count(module.calls.langtag_match_for_header(module.begin, size(header.length), size(at1), size(tagsLength), size(tagsAt), size(tags.length), module.outs[0]));
+    const result = count(module.calls.langtag_match_for_header(module.begin, header.length, at1, tagsLength, tagsAt, tags.length, module.outs[0]));
     return close([result, written(0), written(1), written(2)]);
 }
 
@@ -376,7 +376,7 @@ export function suitableForHeader(header, tags, room) {
     const foundAt = tagsAt + SPAN * tags.length;
     const at1 = write(header, at0);
     writeList(tags, at1, tagsAt);
-    return close(readSizes(foundAt, count(module.calls.langtag_suitable_for_header(module.begin, size(header.length), size(at1), size(tagsLength), size(tagsAt), size(tags.length), size(foundAt), size(room)))));
+    return close(readSizes(foundAt, count(module.calls.langtag_suitable_for_header(module.begin, header.length, at1, tagsLength, tagsAt, tags.length, foundAt, room))));
 }
 
 /** Returns the numbers that C writes. */
@@ -389,7 +389,7 @@ export function suitableForRanges(ranges, tags, room) {
     const foundAt = tagsAt + SPAN * tags.length;
     const at1 = writeList(ranges, at0, rangesAt);
     writeList(tags, at1, tagsAt);
-    return close(readSizes(foundAt, count(module.calls.langtag_suitable_for_ranges(module.begin, size(rangesLength), size(rangesAt), size(ranges.length), size(at1), size(tagsLength), size(tagsAt), size(tags.length), size(foundAt), size(room)))));
+    return close(readSizes(foundAt, count(module.calls.langtag_suitable_for_ranges(module.begin, rangesLength, rangesAt, ranges.length, at1, tagsLength, tagsAt, tags.length, foundAt, room))));
 }
 
 export function siteBestForHeader(header, site) {
@@ -398,7 +398,7 @@ export function siteBestForHeader(header, site) {
     writeBytes(site.tags, siteAt);
     const at1 = write(header, at0);
     writeBytes(site.text, at1);
-    return close(count(module.calls.langtag_site_best_for_header(module.begin, size(header.length), size(at1), size(site.text.length), size(siteAt), size(site.count))));
+    return close(count(module.calls.langtag_site_best_for_header(module.begin, header.length, at1, site.text.length, siteAt, site.count)));
 }
 
 export function siteBestForRanges(ranges, site) {
@@ -409,7 +409,7 @@ export function siteBestForRanges(ranges, site) {
     writeBytes(site.tags, siteAt);
     const at1 = writeList(ranges, at0, rangesAt);
     writeBytes(site.text, at1);
-    return close(count(module.calls.langtag_site_best_for_ranges(module.begin, size(rangesLength), size(rangesAt), size(ranges.length), size(at1), size(site.text.length), size(siteAt), size(site.count))));
+    return close(count(module.calls.langtag_site_best_for_ranges(module.begin, rangesLength, rangesAt, ranges.length, at1, site.text.length, siteAt, site.count)));
 }
 
 /** Returns [result, found.range.start, found.range.len, found.distance]. */
@@ -419,7 +419,7 @@ export function siteMatchForHeader(header, site) {
     writeBytes(site.tags, siteAt);
     const at1 = write(header, at0);
     writeBytes(site.text, at1);
-    const result = count(module.calls.langtag_site_match_for_header(module.begin, size(header.length), size(at1), size(site.text.length), size(siteAt), size(site.count), module.outs[0]));
+    const result = count(module.calls.langtag_site_match_for_header(module.begin, header.length, at1, site.text.length, siteAt, site.count, module.outs[0]));
     return close([result, written(0), written(1), written(2)]);
 }
 
@@ -427,7 +427,7 @@ export function siteMatchForHeader(header, site) {
 export function fromPosix(name, room = name.length + 32) {
     const at0 = open(name.length + room);
     const at1 = write(name, at0);
-    const length = count(module.calls.langtag_from_posix(module.begin, size(name.length), size(at1), size(room)));
+    const length = count(module.calls.langtag_from_posix(module.begin, name.length, at1, room));
     if (length <= room) return close(read(at1, length));
     close();
     return fromPosix(name, length);
@@ -437,7 +437,7 @@ export function fromPosix(name, room = name.length + 32) {
 export function toPosix(text, room = text.length + 32) {
     const at0 = open(text.length + room);
     const at1 = write(text, at0);
-    const length = count(module.calls.langtag_to_posix(module.begin, size(text.length), size(at1), size(room)));
+    const length = count(module.calls.langtag_to_posix(module.begin, text.length, at1, room));
     if (length <= room) return close(read(at1, length));
     close();
     return toPosix(text, length);
@@ -447,33 +447,33 @@ export function toPosix(text, room = text.length + 32) {
 export function unknownModifier(name) {
     const at0 = open(name.length);
     write(name, at0);
-    return close(module.calls.langtag_unknown_modifier(module.begin, size(name.length), module.outs[0]) !== 0 ? [written(0), written(1)] : undefined);
+    return close(module.calls.langtag_unknown_modifier(module.begin, name.length, module.outs[0]) !== 0 ? [written(0), written(1)] : undefined);
 }
 
 export function grandfathered(text) {
     const at0 = open(text.length);
     write(text, at0);
-    return close(module.calls.langtag_grandfathered(module.begin, size(text.length)) >>> 0);
+    return close(module.calls.langtag_grandfathered(module.begin, text.length) >>> 0);
 }
 
 export function rangeKind(text) {
     const at0 = open(text.length);
     write(text, at0);
-    return close(module.calls.langtag_range_kind(module.begin, size(text.length)) >>> 0);
+    return close(module.calls.langtag_range_kind(module.begin, text.length) >>> 0);
 }
 
 export function matchesBasic(range, tag) {
     const at0 = open(range.length + tag.length);
     const at1 = write(range, at0);
     write(tag, at1);
-    return close(module.calls.langtag_matches_basic(module.begin, size(range.length), size(at1), size(tag.length)) !== 0);
+    return close(module.calls.langtag_matches_basic(module.begin, range.length, at1, tag.length) !== 0);
 }
 
 export function matchesExtended(range, tag) {
     const at0 = open(range.length + tag.length);
     const at1 = write(range, at0);
     write(tag, at1);
-    return close(module.calls.langtag_matches_extended(module.begin, size(range.length), size(at1), size(tag.length)) !== 0);
+    return close(module.calls.langtag_matches_extended(module.begin, range.length, at1, tag.length) !== 0);
 }
 
 /** Returns a list of [rest.start, rest.len]. */
@@ -482,7 +482,7 @@ export function everyFallback(text) {
     write(text, at0);
     prepare(0, text.length);
     const items = [];
-    while (module.calls.langtag_next_fallback(module.begin, size(text.length), module.outs[0]) !== 0) {
+    while (module.calls.langtag_next_fallback(module.begin, text.length, module.outs[0]) !== 0) {
         items.push([written(0), written(1)]);
     }
     return close(items);
@@ -495,7 +495,7 @@ export function everyAccepted(text) {
     prepare(0, text.length);
     const items = [];
     for (;;) {
-        const result = module.calls.langtag_next_accepted(module.begin, size(text.length), module.outs[0], module.outs[2], module.outs[4]) >>> 0;
+        const result = module.calls.langtag_next_accepted(module.begin, text.length, module.outs[0], module.outs[2], module.outs[4]) >>> 0;
         if (result === 0) return close(items);
         items.push([result, written(2), written(3), written(4)]);
     }
@@ -508,7 +508,7 @@ export function tagForHeader(header, tags) {
     const tagsAt = aligned(at0 + header.length + tagsLength);
     const at1 = write(header, at0);
     writeList(tags, at1, tagsAt);
-    const result = module.calls.langtag_tag_for_header(module.begin, size(header.length), size(at1), size(tagsLength), size(tagsAt), size(tags.length), module.outs[0], module.outs[1]) >>> 0;
+    const result = module.calls.langtag_tag_for_header(module.begin, header.length, at1, tagsLength, tagsAt, tags.length, module.outs[0], module.outs[1]) >>> 0;
     return close([result, written(0), written(1), written(2)]);
 }
 
@@ -518,5 +518,5 @@ export function tagForHeaderLenient(header, tags) {
     const tagsAt = aligned(at0 + header.length + tagsLength);
     const at1 = write(header, at0);
     writeList(tags, at1, tagsAt);
-    return close(count(module.calls.langtag_tag_for_header_lenient(module.begin, size(header.length), size(at1), size(tagsLength), size(tagsAt), size(tags.length))));
+    return close(count(module.calls.langtag_tag_for_header_lenient(module.begin, header.length, at1, tagsLength, tagsAt, tags.length)));
 }

@@ -1,7 +1,6 @@
 /* Written by tsc from index.ts. Do not edit. */
 /**
  * Parses, compares, edits and matches language tags (BCP 47: RFC 5646, RFC 4647), and picks the best language for an Accept-Language
- * header. `PROVED` is true only if the module in this package was linked from the archive that Rattle's prover built.
  *
  *     const tag = LanguageTag.parse("zh-yue-Hant-HK-u-co-pinyin-x-mine");
  *     [tag.primaryLanguage, tag.script, tag.region];                              // ["zh", "Hant", "HK"]
@@ -84,7 +83,6 @@ export declare const CLDR_VERSION: string;
  * Whether the WebAssembly module was linked from the archive that Rattle's prover built after it had proved the sources. It is false if cargo
  * built the module from the same sources.
  */
-export declare const PROVED: boolean;
 /** Thrown if a string is not a language tag. */
 export declare class InvalidTag extends RangeError {
     readonly text: string;

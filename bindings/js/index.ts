@@ -1,6 +1,5 @@
 /**
  * Parses, compares, edits and matches language tags (BCP 47: RFC 5646, RFC 4647), and picks the best language for an Accept-Language
- * header. `PROVED` is true only if the module in this package was linked from the archive that Rattle's prover built.
  *
  *     const tag = LanguageTag.parse("zh-yue-Hant-HK-u-co-pinyin-x-mine");
  *     [tag.primaryLanguage, tag.script, tag.region];                              // ["zh", "Hant", "HK"]
@@ -104,7 +103,6 @@ export const CLDR_VERSION: string = calls.cldrVersion();
  * Whether the WebAssembly module was linked from the archive that Rattle's prover built after it had proved the sources. It is false if cargo
  * built the module from the same sources.
  */
-export const PROVED: boolean = built.PROVED;
 
 const FNV1A = 0xcbf29ce484222325n; // the hash of an empty string
 

@@ -7,13 +7,10 @@
  * shrink. The same happens after a call that did not return, for example because JavaScript's stack overflowed: the instance's own
  * stack pointer was not restored then.
  *
- * The proved module takes sizes and addresses of 64 bits, which are BigInt in JavaScript. The module that cargo builds takes sizes of 32
- * bits, which are numbers. IS_WIDE says which of them module.js has, and only `size`, `count` and WORD depend on it.
- *
  * A code unit that is not ASCII becomes the byte 0xFF, which no tag, range or header contains. So an offset in bytes is also an
  * offset in the string, and a lone surrogate is refused like every other character that is not ASCII.
  */
-import { IS_WIDE, MODULE } from "./module.js";
+import { MODULE } from "./module.js";
 
 const PAGE = 65536;
 const KEPT = 1 << 20; // the bytes that the block may keep between calls
@@ -21,16 +18,13 @@ const OUTS = 16; // the numbers that a call may write besides strings: at most l
 const ALIGNED = 8; // where spans begin
 
 /** The bytes of a size. */
-export const WORD = IS_WIDE ? 8 : 4;
+export const WORD = 4;
 
 /** The bytes of a span: an offset and a length. */
 export const SPAN = 2 * WORD;
 
-/** Returns a size or an address as the module takes it. */
-export const size = IS_WIDE ? BigInt : (number) => number;
-
 /** Returns a size that the module returned. */
-export const count = IS_WIDE ? Number : (number) => number >>> 0;
+export const count = (number) => number >>> 0;
 
 /** Returns the bytes of a string in base64. Where neither function is there, a loop takes a twentieth of the time of Uint8Array.from. */
 function decoded(text) {
@@ -55,8 +49,8 @@ function start() {
     memory = module.calls.memory;
     out = (Number(module.calls.__heap_base.value) + 15) & -16;
     texts = out + OUTS * WORD;
-    module.begin = size(texts);
-    module.outs = Array.from({ length: OUTS }, (_, index) => size(out + WORD * index));
+    module.begin = texts;
+    module.outs = Array.from({ length: OUTS }, (_, index) => out + WORD * index);
     look();
     most = Math.max(bytes.length, texts + KEPT);
     isOpen = false;
@@ -119,7 +113,6 @@ export const readSizes = (at, length) => Array.from({ length }, (_, index) => vi
 
 function writeSize(at, number) {
     view.setUint32(at, number, true);
-    if (IS_WIDE) view.setUint32(at + 4, 0, true);
 }
 
 /** Writes the numbers that a call reads before it writes them. */
@@ -158,7 +151,7 @@ export function prepareSite(list) {
     const length = lengthOf(list), at = open(length + PREPARED * list.length), tags = aligned(at + length);
     writeList(list, at, tags, PREPARED);
     for (let index = 0; index < list.length; index++) {
-        module.calls.langtag_prepare(module.begin, size(length), size(tags + PREPARED * index));
+        module.calls.langtag_prepare(module.begin, length, tags + PREPARED * index);
     }
     return close({ text: bytes.slice(at, at + length), tags: bytes.slice(tags, tags + PREPARED * list.length), count: list.length });
 }

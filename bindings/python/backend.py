@@ -1,7 +1,7 @@
 """Builds the package (PEP 517 and PEP 660). It needs only Python, and cc for the C module, so pip downloads nothing.
 
-The archive of the C library is the file that LANGTAG_ARCHIVE names, or that of the sdist. In a clone, it is the proved archive if there is
-one; otherwise cargo builds it (bindings/archive). The wheel contains the C module, which is one binary for CPython 3.8 and later. For an
+The archive of the C library is the file that LANGTAG_ARCHIVE names, or that of the sdist. In a clone, cargo
+builds it (bindings/archive). The wheel contains the C module, which is one binary for CPython 3.8 and later. For an
 interpreter without the stable ABI, such as PyPy, it is built for this interpreter.
 
 Only what an sdist needs is here. bindings/release makes the packages of other languages with these functions, too."""
@@ -21,7 +21,7 @@ import sys
 import sysconfig
 import tarfile
 import zipfile
-from typing import Mapping, NamedTuple
+from typing import Mapping
 
 HERE = pathlib.Path(__file__).resolve().parent
 CLONE = HERE.parent if (HERE.parent / "archive").is_file() else None  # the folder bindings, if this is a clone
@@ -33,17 +33,6 @@ else:
 TIME = 315532800  # the first second of 1980, the earliest that a wheel can say
 MODULE_FILES = r"\w+\.pyi?|py\.typed"
 SDIST_FILES = r"pyproject\.toml|backend\.py|native/.*"
-
-
-class Archive(NamedTuple):
-    """An archive of the C library, and PROVED.txt for it, which says whether it is proved."""
-
-    path: pathlib.Path
-    label: str
-
-    @property
-    def is_proved(self) -> bool:
-        return "\nproved by " in self.label
 
 
 class Lacking(SystemExit):
@@ -60,17 +49,7 @@ def run(*command: object, **more: object) -> str:
     return str(ran.stdout).strip()
 
 
-def label(archive: pathlib.Path) -> str:
-    """Returns PROVED.txt for an archive. In an sdist it is the file there, if that has the checksum of this archive."""
-    if CLONE is not None:
-        from labels import label_of
-        return label_of(archive)
-    text = (HERE / "PROVED.txt").read_text(encoding="utf-8")
-    of_archive = f"{hashlib.sha256(archive.read_bytes()).hexdigest()}  liblangtag_c.a"
-    return text if of_archive in text.splitlines() else f"langtag-verified {version(False)}\nnot proved\n{of_archive}\n\nThis is not the archive of the sdist.\n"
-
-
-def archive() -> Archive:
+def archive() -> pathlib.Path:
     """Returns the archive to build with. Cargo's files are in a folder of the clone."""
     named, path = os.environ.get("LANGTAG_ARCHIVE"), HERE / "liblangtag_c.a"
     if named:
@@ -82,12 +61,7 @@ def archive() -> Archive:
             raise Lacking("langtag: there is no liblangtag_c.a: name one by LANGTAG_ARCHIVE")
         path = room() / "liblangtag_c.a"
         run(CLONE / "archive", path)
-    return Archive(path, label(path))
-
-
-def labelled_header(proved: bool) -> bytes:
-    """Returns langtag.h for a package whose library is proved, or is not."""
-    return re.sub(rb"(#define LANGTAG_PROVED) .*", rb"\1 %d" % proved, (HEADER / "langtag.h").read_bytes())
+    return path
 
 
 def kind() -> tuple[str, str]:
@@ -98,14 +72,14 @@ def kind() -> tuple[str, str]:
     return (f"cp{number}-cp{number}t", ending) if sysconfig.get_config_var("Py_GIL_DISABLED") else ("cp38-abi3", ".abi3.so")
 
 
-def built(library: Archive, folder: pathlib.Path, compiler: str | None = None) -> pathlib.Path:
+def built(library: pathlib.Path, folder: pathlib.Path, compiler: str | None = None) -> pathlib.Path:
     """Builds the C module without symbols, and returns its path."""
     compiler = compiler or os.environ.get("CC", "cc")
     if not shutil.which(compiler.split()[0]):
         raise Lacking(f"langtag: there is no {compiler} (in Debian: apt-get install gcc)")
     module, flags = folder / f"_native{kind()[1]}", f"{os.environ.get('CFLAGS', '')} -s"
-    variables = {"CC": compiler, "CFLAGS": flags, "INCLUDE": str(HEADER), "PROVED": str(int(library.is_proved))}
-    run("sh", HERE / "native/compile", library.path, module, sys.executable, env={**os.environ, **variables})
+    variables = {"CC": compiler, "CFLAGS": flags, "INCLUDE": str(HEADER)}
+    run("sh", HERE / "native/compile", library, module, sys.executable, env={**os.environ, **variables})
     return module
 
 
@@ -116,34 +90,24 @@ def said(key: str) -> str:
     return found[1]
 
 
-def version(proved: bool) -> str:
-    """Returns the version of packages whose library is proved, or is not."""
-    return said("version") + ("" if proved else "+cargo")
-
-
-def of_python(proved: bool) -> str:
+def of_python() -> str:
     """Returns the version in the form of PEP 440."""
-    return version(proved).replace("-dev", ".dev0")
+    return said("version").replace("-dev", ".dev0")
 
 
 def readme() -> str:
     if CLONE is None:
         return (HERE / "README.md").read_text(encoding="utf-8")
-    from labels import readme as of_package
+    from readme import readme as of_package
     return of_package("python")
 
 
-def summary(proved: bool) -> str:
-    """Returns the sentence that describes a package, and says whether its library is proved."""
-    return f"{said('description')}, {'over code that is proved against the grammar' if proved else 'built by cargo and not proved'}"
-
-
-def metadata(proved: bool) -> bytes:
+def metadata() -> bytes:
     """Returns the core metadata (2.1), from pyproject.toml, with the README."""
     source = (HERE / "pyproject.toml").read_text(encoding="utf-8")
     lists = {key: re.findall(r'"(.*?)"', body) for key, body in re.findall(r"^(\w+) = \[(.*?)\]", source, re.M | re.S)}
     pages = re.findall(r'^(\w+) = "(.*)"', source.partition("[project.urls]\n")[2], re.M)
-    lines = ["Metadata-Version: 2.1", f"Name: {said('name')}", f"Version: {of_python(proved)}", f"Summary: {summary(proved)}",
+    lines = ["Metadata-Version: 2.1", f"Name: {said('name')}", f"Version: {of_python()}", f"Summary: {said('description')}",
              *(f"Project-URL: {name}, {page}" for name, page in pages), f"Keywords: {','.join(lists['keywords'])}",
              *(f"Classifier: {it}" for it in lists["classifiers"]), f"Requires-Python: {said('requires-python')}",
              f"License: {said('license')}", "Description-Content-Type: text/markdown"]
@@ -166,10 +130,10 @@ def rows() -> dict[str, bytes]:
     return tree(ROOT / "rows", r"\w+\.(txt|md)", "rows/")
 
 
-def notes(label: str, page: str) -> dict[str, bytes]:
-    """Returns the files that each package has: PROVED.txt, its README, and the licences, one of which is for CLDR's data."""
+def notes(page: str) -> dict[str, bytes]:
+    """Returns the files that each package has: its README, and the licences, one of which is for CLDR's data."""
     licences = {f"LICENSE-{name}": (ROOT / f"LICENSE-{name}").read_bytes() for name in ("APACHE", "MIT", "UNICODE")}
-    return {**licences, "PROVED.txt": label.encode(), "README.md": page.encode()}
+    return {**licences, "README.md": page.encode()}
 
 
 def zipped(path: pathlib.Path, files: dict[str, bytes]) -> None:
@@ -196,12 +160,12 @@ def pack(path: pathlib.Path, top: str, files: Mapping[str, bytes | str]) -> None
         packed.write(raw.getvalue())
 
 
-def write_wheel(folder: str | pathlib.Path, library: Archive, platforms: str, files: dict[str, bytes]) -> str:
+def write_wheel(folder: str | pathlib.Path, platforms: str, files: dict[str, bytes]) -> str:
     """Writes a wheel for some platforms, and returns its name."""
-    top = f"langtag_verified-{of_python(library.is_proved)}"
+    top = f"langtag_verified-{of_python()}"
     info, name = f"{top}.dist-info", f"{top}-{kind()[0]}-{platforms}.whl"
     tags = "".join(f"Tag: {kind()[0]}-{it}\n" for it in platforms.split("."))
-    more = {**notes(library.label, readme()), "METADATA": metadata(library.is_proved),
+    more = {**notes(readme()), "METADATA": metadata(),
             "WHEEL": f"Wheel-Version: 1.0\nGenerator: langtag\nRoot-Is-Purelib: false\n{tags}".encode()}
     files = {**files, **{f"{info}/{path}": content for path, content in more.items()}}
     record = "".join(f"{path},sha256={base64.urlsafe_b64encode(hashlib.sha256(content).digest()).decode().rstrip('=')},{len(content)}\n"
@@ -210,18 +174,18 @@ def write_wheel(folder: str | pathlib.Path, library: Archive, platforms: str, fi
     return name
 
 
-def wheel(folder: str | pathlib.Path, library: Archive, platforms: str, compiler: str | None = None) -> str:
+def wheel(folder: str | pathlib.Path, library: pathlib.Path, platforms: str, compiler: str | None = None) -> str:
     """Builds the C module, and writes a wheel for some platforms. Returns its name."""
     module = built(library, room(), compiler)
-    return write_wheel(folder, library, platforms, {**module_files(), f"langtag/{module.name}": module.read_bytes()})
+    return write_wheel(folder, platforms, {**module_files(), f"langtag/{module.name}": module.read_bytes()})
 
 
-def sdist(folder: str | pathlib.Path, library: Archive) -> str:
+def sdist(folder: str | pathlib.Path, library: pathlib.Path) -> str:
     """Writes an sdist, and returns its name: the sources of the C module with the archive, so that it needs no cargo."""
     examples = tree(EXAMPLES, r"(parts|negotiate|catalogue)\.py", "examples/")
-    files = {**tree(HERE, SDIST_FILES), **module_files(), **examples, **rows(), **notes(library.label, readme()), **tree(HEADER, r"langtag_names(_data)?\.h"),
-             "liblangtag_c.a": library.path.read_bytes(), "langtag.h": labelled_header(library.is_proved), "PKG-INFO": metadata(library.is_proved)}
-    top = f"langtag_verified-{of_python(library.is_proved)}"
+    files = {**tree(HERE, SDIST_FILES), **module_files(), **examples, **rows(), **notes(readme()), **tree(HEADER, r"langtag_names(_data)?\.h"),
+             "liblangtag_c.a": library.read_bytes(), "langtag.h": (HEADER / "langtag.h").read_bytes(), "PKG-INFO": metadata()}
+    top = f"langtag_verified-{of_python()}"
     pack(pathlib.Path(folder, f"{top}.tar.gz"), top, files)
     return f"{top}.tar.gz"
 
@@ -243,7 +207,7 @@ def build_editable(wheel_directory: str, config_settings: object = None, metadat
     """Builds the C module in the folder of the sources, and a wheel that only names this folder."""
     library = archive()
     built(library, HERE / "langtag")
-    return write_wheel(wheel_directory, library, this_platform(), {"langtag_verified.pth": f"{HERE}\n".encode()})
+    return write_wheel(wheel_directory, this_platform(), {"langtag_verified.pth": f"{HERE}\n".encode()})
 
 
 def build_sdist(sdist_directory: str, config_settings: object = None) -> str:
