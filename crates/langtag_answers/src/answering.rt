@@ -1,7 +1,7 @@
 //! A run: reads the input, and writes the answer to each line. The contract does not say when an error is returned, and
 //! says nothing about the output after a `Write` error. After a `Memory` error, every line that was complete before the
 //! last read has been answered. How many lines of the last read are answered is not specified. What the operating
-//! system's standard input and output do is shown only by the stored runs and by .ci/process.
+//! system's standard input and output do is shown only by the stored runs and by checks/process.
 ghost use Rattle.std.specs.Prelude.{◌≡◌, ◌≢◌, ⊤, ℕ, List, [], ◌∷◌, ◌++◌, OnOk, IfErr, IsErrOf, position};
 ghost use Rattle.std.specs.Io.KnownBytes.{Appends, Keeps, append_known};
 ghost use Rattle.langtag_answers.specs.Lines.{IsCutInto, NoLineFeed, is_line_feed, complete_lines, rest_of, last_line};

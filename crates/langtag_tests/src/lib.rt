@@ -2,7 +2,7 @@
 //! succeeds if no allocation fails, how values are displayed, and how a run of the program ends. `rust/tests` tests
 //! everything else, on the Rust crate.
 //!
-//! `.ci/refused` runs the tests and refuses each of their allocations in turn. A call whose allocation fails is made
+//! `checks/refused` runs the tests and refuses each of their allocations in turn. A call whose allocation fails is made
 //! again.
 #![tactic(auto)]
 

@@ -292,7 +292,7 @@ fn answers_stand_before_the_next_read(rt: HostRuntime) {
     }
 }
 
-// The input is 21,000 bytes of short lines. .ci/refused refuses each block of more than 4,096 bytes.
+// The input is 21,000 bytes of short lines. checks/refused refuses each block of more than 4,096 bytes.
 #[test]
 fn short_lines_are_gathered_one_by_one(rt: HostRuntime) {
     let text = Text::new(b"", LINES, 1_500, b"");
@@ -301,7 +301,7 @@ fn short_lines_are_gathered_one_by_one(rt: HostRuntime) {
     expect_true(&rt, ended.is(Ok(())), 1_500);
 }
 
-// A line that is wholly within one read needs no memory. .ci/refused refuses all memory for these lines.
+// A line that is wholly within one read needs no memory. checks/refused refuses all memory for these lines.
 #[test]
 fn lines_within_a_read_without_memory(rt: HostRuntime) {
     for text in [b"fr\nx-a\n".as_slice(), b"fr\nx-a\n\n"] {

@@ -130,7 +130,7 @@ fn answers_do_not_wait() {
 }
 
 /// A directory can't be read, nothing can be written to a device that is full, and memory does not hold a line. The statuses
-/// are those of the proved programs, which .ci/process tests.
+/// are those of the proved programs, which checks/process tests.
 #[cfg(target_os = "linux")]
 #[test]
 fn failures() {

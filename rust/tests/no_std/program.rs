@@ -1,6 +1,6 @@
 //! A program without std and without an allocator. It ends with 0 if all answers are right.
 //!
-//! `.ci/rust` builds it, because cargo builds tests and examples with std.
+//! `checks/rust` builds it, because cargo builds tests and examples with std.
 #![no_std]
 #![no_main]
 

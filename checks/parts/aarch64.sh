@@ -25,7 +25,7 @@ aarch64_rows() {
 check "aarch64: an example, under qemu" aarch64_example
 check "aarch64: C's tests, under qemu" aarch64_rows
 
-# The answers to rows that checks/c.sh wrote have to be the same as on this processor.
+# The answers to rows that parts/c.sh wrote have to be the same as on this processor.
 answered() { on_aarch64 "$work/built/test-aarch64" --answer "$work/rows/calls.txt" <"$work/$1"; }
 for it in answers answers_about_tags told_of_likely told_of_unicode; do check "aarch64: $it as on x86-64, under qemu" answered $it; done
 
@@ -39,9 +39,9 @@ aarch64_libraries() {
     ! readelf --version-info "$work/c-aarch64/liblangtag_verified.so.1" | grep -oE 'GLIBC_[0-9.]+' | grep -vx 'GLIBC_2.17'
 }
 check "aarch64: symbols" aarch64_symbols
-if [ -x "$root/.ci/stack" ]; then
+if [ -x "$root/checks/stack" ]; then
     check "aarch64: no function takes more of the stack than the header says" \
-        python3 "$root/.ci/stack" "$aarch64_archive" --header include/langtag.h
+        python3 "$root/checks/stack" "$aarch64_archive" --header include/langtag.h
 fi
 check "aarch64: no symbol of a C library after 2.17, as the wheel says" aarch64_libraries
 

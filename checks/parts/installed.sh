@@ -10,7 +10,7 @@ check "Python: the C module builds without a warning, and needs no other file th
 
 check "C: make install" with_make install PREFIX="$work/usr" BUILD="$work/c"
 
-# The commands of docs/C.md, which checks/documents.sh runs, use langtag_verified.pc.
+# The commands of docs/C.md, which parts/documents.sh runs, use langtag_verified.pc.
 with_library="-I$work/usr/include -L$work/usr/lib -llangtag_verified"
 installed() {
     cd "$work/empty" && cc -O2 "$here/examples/parts.c" "$@" -o parts || return 1

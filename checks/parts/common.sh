@@ -1,4 +1,4 @@
-# The functions that all parts of bindings/check share.
+# The functions that all parts of checks/bindings share.
 passed=0 failed=0
 
 # The seconds after which a check counts as hanging, and is ended. Some checks take two minutes, and many times as long on a busy

@@ -28,7 +28,7 @@ postgresql_regress() { make -s -C "$pg_folder/first" installcheck PG_CONFIG="$pg
 postgresql_says() { psql -X -q -At -c "CREATE EXTENSION IF NOT EXISTS langtag; SELECT langtag_proved(), langtag_version()" postgres; }
 postgresql_proved() { postgresql_says | diff - <(echo "f|$(cd python && versions)"); }
 
-# Installs from the clone of checks/clone.sh, by cargo. The second `make install` is that of root, who may have no cargo.
+# Installs from the clone of parts/clone.sh, by cargo. The second `make install` is that of root, who may have no cargo.
 postgresql_clone() {
     local clone=$work/clone without
     without=$(mktemp -d -p "$work") && printf '#!/bin/sh\nexit 3\n' >"$without/cargo" && chmod +x "$without/cargo" || return 1
@@ -50,7 +50,7 @@ if ! place "$(mktemp -d)" >"$work/log" 2>&1 || ! begin hub; then
 else
     check "PostgreSQL: the tarball builds and installs, and exports no function of the library" postgresql_released
     PGPORT=$(port_of hub)
-    check "PostgreSQL: the examples of the documents" "$root/.ci/examples" sql
+    check "PostgreSQL: the examples of the documents" "$root/checks/examples" sql
     check "PostgreSQL: make installcheck" postgresql_regress
     check "PostgreSQL: the rows, and C's answers about tags of the registry" in_postgresql test_rows
     check "PostgreSQL: ranges by each scan" in_postgresql test_ranges

@@ -1,4 +1,4 @@
-"""The wrong bodies of crates/*/must-fail, and the record of what was seen of each: .ci/wrong_bodies.txt.
+"""The wrong bodies of crates/*/must-fail, and the record of what was seen of each: checks/wrong_bodies.txt.
 
 A line of the record has the name of a wrong body, then a hash and how the prover refused the body, then a hash and the tests that show
 that the body is wrong. Each hash covers what the result depends on. A wrong body is tried again if a hash differs, or if the commit
@@ -14,9 +14,9 @@ import sys
 
 from items import CRATES, ROOT, File, file_of, origin_of, page_of, words_of
 
-RECORD, SHOWN = ROOT / ".ci/wrong_bodies.txt", ROOT / ".ci/shown.txt"
-HEAD = """# The wrong bodies of each crate: name, hash, how it was refused, hash, and which tests show that it is wrong (.ci/edits.py).
-# .ci/wrong-bodies and .ci/shown write it. They were refused by the prover with the logic {}.
+RECORD, SHOWN = ROOT / "checks/wrong_bodies.txt", ROOT / "checks/shown.txt"
+HEAD = """# The wrong bodies of each crate: name, hash, how it was refused, hash, and which tests show that it is wrong (checks/edits.py).
+# checks/wrong-bodies and checks/shown write it. They were refused by the prover with the logic {}.
 """
 NOTHING = ["-", "-"]  # instead of a hash and a result
 SHARES = 20, 200  # of how many commits one tries a result that is known: of a refusal, which is cheap in a batch, and of a test

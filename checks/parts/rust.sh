@@ -1,4 +1,4 @@
-# Compares the Rust crate with the C library and with other crates, and uses it with serde and in a user's program. .ci/rust runs
+# Compares the Rust crate with the C library and with other crates, and uses it with serde and in a user's program. checks/rust runs
 # its own tests.
 CARGO_TARGET_DIR=$work/target
 CARGO_TERM_COLOR=never
