@@ -300,7 +300,7 @@ BUILD = {
     "SQLite": "cc -w -fPIC -shared -Ibindings/include bindings/sqlite/*.c $LIBRARIES/liblangtag_verified.a -o sqlite_langtag.so",
     "PostgreSQL": "make -s -C bindings/postgresql all install",
 }
-LEFT_OUT = shutil.ignore_patterns("target", "dist", "__pycache__", "build", "erase", "checker", "peers")
+LEFT_OUT = shutil.ignore_patterns("target", "dist", "__pycache__", "build", "peers")
 
 
 def program(by: str) -> str:

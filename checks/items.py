@@ -1,11 +1,11 @@
-"""Reads the items of Rattle's sources and of the definitions in specs/, with the words of the eraser (rust/erase/tokens.py)."""
+"""Reads the items of Rattle's sources and of the definitions in specs/, with the words of the eraser (tools/erase/tokens.py)."""
 import functools
 import re
 import sys
 from pathlib import Path
 
 ROOT = Path(__file__).resolve().parent.parent
-sys.path.append(str(ROOT / "rust/erase"))
+sys.path.append(str(ROOT / "tools/erase"))
 import exports  # noqa: E402
 from tokens import lex  # noqa: E402
 

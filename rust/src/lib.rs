@@ -92,7 +92,7 @@
 //! The modules that compute are the source of a library in Rattle, which is Rust with contracts,
 //! with the contracts taken out. Each function of that source is proved to do what its contract
 //! says. The crate itself is not proved: you also trust rustc, `core`, and the differences that
-//! `checker/kinds.txt` lists. README says what else you trust.
+//! `kinds.txt` lists. README says what else you trust.
 #![no_std]
 #![forbid(unsafe_code)]
 #![warn(missing_docs, missing_debug_implementations)]
@@ -121,7 +121,7 @@ mod lent;
 #[macro_use]
 mod forms;
 
-// The modules that rust/erase makes. Some items are only for the C library, or for crates of
+// The modules that tools/erase makes. Some items are only for the C library, or for crates of
 // Rattle. It is public because the examples of proved functions run as tests, which see only
 // public items.
 #[doc(hidden)]

@@ -5,7 +5,7 @@
 //! ```
 //!
 //! This writes `target/release/liblangtag_verified.a`, and the shared library beside it. All modules except `calls`,
-//! `exports` and `panic` are shared with the Rust crate. `rust/erase` made the modules from the proved sources,
+//! `exports` and `panic` are shared with the Rust crate. `tools/erase` made the modules from the proved sources,
 //! except `exports`, which `bindings/generate.py` writes, and `panic`, `shim` and `message`, which are written by hand.
 #![no_std]
 #![deny(unsafe_code)]

@@ -1,4 +1,4 @@
-//! The modules that rust/erase makes from the proved sources, with all their items. They are public
+//! The modules that tools/erase makes from the proved sources, with all their items. They are public
 //! only for the examples of their own documentation, which run as tests. Programs use the modules
 //! of the root, which are the API.
 

@@ -1,7 +1,7 @@
 #!/usr/bin/env python3
 """Plants faults in an erased file that a faulty eraser could make, and tests that the checker finds each of them.
 
-    python3 rust/checker/test_wrong_erasures.py
+    python3 tools/checker/test_wrong_erasures.py
 """
 import importlib.util
 import pathlib
@@ -13,7 +13,7 @@ import tempfile
 HERE = pathlib.Path(__file__).resolve().parent
 sys.path.insert(0, str(HERE))
 
-SCRIPT, CLASS, KINDS = "erased/place/script.rs", "erased/scan/class.rs", "../checker/kinds.txt"
+SCRIPT, CLASS, KINDS = "erased/place/script.rs", "erased/scan/class.rs", "../kinds.txt"
 WRONG = {
     "a literal is another": (CLASS, "bytes.len() == 4", "bytes.len() == 5"),
     "an operator is turned": ("erased/scan/metered.rs", "self.reach = index + 1", "self.reach = index - 1"),
@@ -100,7 +100,7 @@ def is_refused(checker, counts, folder, wrong, file, old, new):
         raise SystemExit(f"wrong erasures: {file} has no `{old}`")
     path.write_text(text.replace(old, new, 1), encoding="utf-8")
     if path.name == "kinds.txt":
-        program = subprocess.run([sys.executable, path.parent], capture_output=True, check=False)
+        program = subprocess.run([sys.executable, path.parents[1] / "tools/checker"], capture_output=True, check=False)
         path.write_text(text, encoding="utf-8")
         return bool(program.returncode)
     run = checker.Checker(folder / "../../crates", folder).run(only=path)
@@ -124,8 +124,9 @@ def main():
     checker, passed = checker_module(), []
     with tempfile.TemporaryDirectory() as name:
         folder = pathlib.Path(name) / "rust/src"
-        for part in ("src", "c/src", "checker"):
-            shutil.copytree(checker.RUST / part, folder.parent / part)
+        for part in ("rust/src", "rust/c/src", "tools/checker"):
+            shutil.copytree(checker.RUST.parent / part, pathlib.Path(name) / part)
+        shutil.copy(checker.RUST / "kinds.txt", folder.parent)
         shutil.copytree(checker.SOURCES, pathlib.Path(name) / "crates")
         counts = checker.Checker(modules=folder).run().counts
         for wrong, (file, old, new) in WRONG.items():

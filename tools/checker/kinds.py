@@ -6,6 +6,7 @@ from typing import NamedTuple
 from words import words_of
 
 HERE = pathlib.Path(__file__).resolve().parent
+RUST = HERE.parents[1] / "rust"
 LIMIT = 120
 
 
@@ -19,7 +20,7 @@ class Kind(NamedTuple):
 def read_kinds():
     """Returns the forms of the kinds, the longest first, and the name of each form. A kind without a form stands for itself."""
     kinds, names = [], {}
-    for block in re.split(r"\n\s*\n", (HERE / "kinds.txt").read_text(encoding="utf-8")):
+    for block in re.split(r"\n\s*\n", (RUST / "kinds.txt").read_text(encoding="utf-8")):
         lines = [line for line in block.splitlines() if line and not line.startswith("#")]
         here = [line for line in lines if not line.startswith("    ")]
         forms = [line.strip() for line in lines if line.startswith("    ") and "=>" in line]

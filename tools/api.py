@@ -3,9 +3,9 @@
 names of its functions, constants and fields. The hash covers all that `--show` prints of it: signatures, fields, variants, traits and
 #[must_use].
 
-    python3 rust/api.py            writes rust/api.txt again
-    python3 rust/api.py --show     prints the whole API. Compare what it prints for two commits, to see what a new hash means
-    python3 rust/api.py --check    says how the crate differs from the list
+    python3 tools/api.py            writes rust/api.txt again
+    python3 tools/api.py --show     prints the whole API. Compare what it prints for two commits, to see what a new hash means
+    python3 tools/api.py --check    says how the crate differs from the list
 
 It reads the JSON of rustdoc, whose form changes with rustc. So it says that it was not run if the form is another.
 """
@@ -17,9 +17,9 @@ import pathlib
 import subprocess
 import sys
 
-RUST = pathlib.Path(__file__).resolve().parent
+RUST = pathlib.Path(__file__).resolve().parents[1] / "rust"
 LISTED = RUST / "api.txt"
-HEAD = "# Written by rust/api.py. For each module and type: a hash of its public API, and its names.\n"
+HEAD = "# Written by tools/api.py. For each module and type: a hash of its public API, and its names.\n"
 FORMAT = 57  # of rustc 1.95
 OF_RUSTC = {"StructuralPartialEq", "TrivialClone", "Freeze", "UnsafeUnpin"}  # traits that are only for rustc
 
