@@ -22,7 +22,7 @@ def wrong_numbers(root: pathlib.Path) -> list[str]:
     source = (root / "bindings/include/langtag.h").read_text()
     comment = re.search(r"order of RFC 5646 section 2\.1, or(.*?)\*/", source, flags=re.S)
     said = sorted((int(number), tag) for number, tag in re.findall(r" (\d+) ([a-z]+-[\w-]+)", comment[1] if comment else ""))
-    table = (root / "rows/table.txt").read_text()
+    table = (root / "vectors/table.txt").read_text()
     wanted = [(int(number), tag) for tag, number in re.findall(r"^grandfathered \| (\S+) \| (\d+)", table, flags=re.M)][:26]
     found = [] if said == wanted else [f"grandfathered tags: the header has {sorted(set(said) ^ set(wanted))}"]
     if "#define LANGTAG_PURE __attribute__((pure, warn_unused_result))\n" not in source:

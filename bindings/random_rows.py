@@ -1,5 +1,5 @@
 #!/usr/bin/env python3
-"""Writes random rows (rows/README.md). Their results come from a second implementation of RFC 5646 and RFC 4647, which is plain and
+"""Writes random rows (vectors/README.md). Their results come from a second implementation of RFC 5646 and RFC 4647, which is plain and
 slow, and shares nothing with the library.
 
     random_rows.py rows COUNT SEED    rows about COUNT strings of up to 300 bytes

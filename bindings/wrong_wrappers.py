@@ -312,8 +312,8 @@ def command(language: str, by: str) -> str:
     """Returns the command that runs a file of rows, or a test, or all rows if none is named."""
     is_rows = by == "" or by.endswith(".txt")
     if language in ("C", "C++"):
-        all_rows = f"$(make -s -C bindings/c ROWS=$PWD/rows {'asked' if language == 'C' else 'asked-cc'})"
-        return f"./test {f'rows/calls.txt rows/{by} 1' if by else all_rows}"
+        all_rows = f"$(make -s -C bindings/c ROWS=$PWD/vectors {'asked' if language == 'C' else 'asked-cc'})"
+        return f"./test {f'vectors/calls.txt vectors/{by} 1' if by else all_rows}"
     if language == "Rust":
         return f"{CARGO} {program(by)} {'' if by == 'rows' else by + '::'} -- --skip prefixes"  # a long test, of the recogniser
     if language == "JavaScript":
@@ -344,7 +344,7 @@ class Copy:
         self.language, self.libraries, self.folder = language, libraries, pathlib.Path(tempfile.mkdtemp())
         needed = "rust" if language == "Rust" else "bindings"
         shutil.copytree((built.folder if built else ROOT) / needed, self.folder / needed, ignore=LEFT_OUT)
-        (self.folder / "rows").symlink_to(ROOT / "rows")
+        (self.folder / "vectors").symlink_to(ROOT / "vectors")
         self.environment = {**os.environ, "CFLAGS": "-w -O0", "LIBRARIES": str(libraries),
                             "TESTS": " ".join(sorted({program(test) for test in tests(language)})), "PYTHONDONTWRITEBYTECODE": "1"}
         self.environment.pop("LANGTAG_ANSWERS", None)
@@ -443,7 +443,7 @@ class Record:
 
     def hash_of(self, language: str) -> str:
         found = hashlib.sha256(repr(FAULTS[language]).encode())
-        read = [path for files in ("crates/langtag_c/src/**/*.rt", "rows/*.txt", *TESTS[language]) for path in self.repository.glob(files)]
+        read = [path for files in ("crates/langtag_c/src/**/*.rt", "vectors/*.txt", *TESTS[language]) for path in self.repository.glob(files)]
         for path in [*sorted({ROOT / fault.file for fault in FAULTS[language]}), *sorted(read)]:
             found.update(path.read_bytes())
         return found.hexdigest()[:12]

@@ -127,7 +127,7 @@ def module_files() -> dict[str, bytes]:
 
 def rows() -> dict[str, bytes]:
     """Returns the rows that the tests of all languages read."""
-    return tree(ROOT / "rows", r"\w+\.(txt|md)", "rows/")
+    return tree(ROOT / "vectors", r"\w+\.(txt|md)", "vectors/")
 
 
 def notes(page: str) -> dict[str, bytes]:

@@ -1,4 +1,4 @@
-"""Reads the rows that the tests of all languages run: a call, its arguments and its result. They are in rows/, whose README
+"""Reads the rows that the tests of all languages run: a call, its arguments and its result. They are in vectors/, whose README
 describes their form."""
 from __future__ import annotations
 
@@ -9,7 +9,7 @@ import re
 import traceback
 from typing import Callable, Iterator, Mapping, NamedTuple
 
-FOLDER = pathlib.Path(__file__).resolve().parent.parent.parent / "rows"
+FOLDER = pathlib.Path(__file__).resolve().parent.parent.parent / "vectors"
 
 #: The number of arguments of each call.
 CALLS = {name: int(count) for name, count in re.findall(r"(?m)^([\w-]+) (\d)$", (FOLDER / "calls.txt").read_text("ascii"))}

@@ -20,13 +20,13 @@ aarch64_example() {
 }
 aarch64_rows() {
     aarch64_compile c/test/*.c -o "$work/built/test-aarch64" || return 1
-    on_aarch64 "$work/built/test-aarch64" $(make -s -C c ROWS="$work/rows" asked)
+    on_aarch64 "$work/built/test-aarch64" $(make -s -C c ROWS="$work/vectors" asked)
 }
 check "aarch64: an example, under qemu" aarch64_example
 check "aarch64: C's tests, under qemu" aarch64_rows
 
 # The answers to rows that parts/c.sh wrote have to be the same as on this processor.
-answered() { on_aarch64 "$work/built/test-aarch64" --answer "$work/rows/calls.txt" <"$work/$1"; }
+answered() { on_aarch64 "$work/built/test-aarch64" --answer "$work/vectors/calls.txt" <"$work/$1"; }
 for it in answers answers_about_tags told_of_likely told_of_unicode; do check "aarch64: $it as on x86-64, under qemu" answered $it; done
 
 # Checks the symbols of archive and library, and the stack. The growth of running time is measured only on x86-64.

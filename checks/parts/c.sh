@@ -10,7 +10,7 @@ check "C: forms, suggestions, distances, choices and refusals of each length to 
 check "C: rows about $FUZZ_COUNT random texts, by a second implementation of the RFCs" \
     with_make fuzz COUNT="$FUZZ_COUNT" SEED="$FUZZ_SEED" BUILD="$work/c"
 
-told_by_c() { "$work/c/test" --answer "$work/rows/calls.txt"; }
+told_by_c() { "$work/c/test" --answer "$work/vectors/calls.txt"; }
 
 # as_an_oracle ORACLE TOLD [QUESTIONS]: compares C's answers to questions about everything in the data, and to random questions, with those
 # of an oracle, which asks them if no other program does.

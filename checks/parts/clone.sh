@@ -20,7 +20,7 @@ pip_installs() {
         PIP_NO_INDEX=1 v/bin/python -m pip install -q --disable-pip-version-check ../clone/bindings/python
         v/bin/python -c "from langtag import *; from langtag import __doc__; assert not PROVED and \"proved\" not in __doc__.split(\"PROVED is True only\")[0]"
         notices v/lib/python3*/site-packages/langtag_verified-*+cargo.dist-info
-        cp ../clone/bindings/python/rows.py ../clone/bindings/python/test_rows.py . && sed -i "s|^FOLDER = .*|FOLDER = pathlib.Path(\"../clone/rows\").resolve()|" rows.py
+        cp ../clone/bindings/python/rows.py ../clone/bindings/python/test_rows.py . && sed -i "s|^FOLDER = .*|FOLDER = pathlib.Path(\"../clone/vectors\").resolve()|" rows.py
         v/bin/python -m unittest -q test_rows
         v/bin/python -m pip show -q langtag-verified && v/bin/python -m pip uninstall -q -y langtag-verified && ! v/bin/python -c "import langtag" 2>/dev/null'
 }

@@ -2,7 +2,7 @@
 """A plain implementation of UTS #35, part 1, sections 'Likely Subtags' and 'Language Matching', over cldr/*.txt, of the choice for
 a request, of the names of POSIX locales, and of the parents of a tag.
 
-usage: oracle.py rows < ROWS                       prints each row with its answer, in the form of those in rows/: of maximized,
+usage: oracle.py rows < ROWS                       prints each row with its answer, in the form of those in vectors/: of maximized,
                                                    minimized, right-to-left, distance, best, best-match, suitable, posix,
                                                    posix-name, suggestion, parents
        oracle.py rows --compare ANSWERS < ROWS     counts the rows whose answer differs from that of a program

@@ -1,7 +1,7 @@
 #!/usr/bin/env python3
 """Prints lines with which oracle.py and a program can be compared.
 
-usage: questions.py random COUNT SEED             prints that many random rows as in rows/
+usage: questions.py random COUNT SEED             prints that many random rows as in vectors/
        questions.py each                           prints rows for everything in the data: each side of a row, and each rule
        questions.py aliases                        prints tags with each deprecated language and each deprecated region
 """

@@ -45,7 +45,7 @@ def better(case: str, form: str) -> str:
 
 
 def rows(path: pathlib.Path, version: str, source: str) -> str:
-    """Returns the content of rows/cldr.txt, made from CLDR's file of cases."""
+    """Returns the content of vectors/cldr.txt, made from CLDR's file of cases."""
     lines, differing = [], []
     for case, form in read(path):
         if form is None:

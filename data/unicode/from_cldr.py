@@ -1,5 +1,5 @@
 #!/usr/bin/env python3
-"""Writes the files of cldr/, and rows/cldr.txt, from Unicode's CLDR, in the form of Unicode's release or of Debian's package unicode-cldr-core.
+"""Writes the files of cldr/, and vectors/cldr.txt, from Unicode's CLDR, in the form of Unicode's release or of Debian's package unicode-cldr-core.
 
 usage: from_cldr.py COMMON VERSION SOURCE   COMMON is CLDR's folder `common`, which has bcp47/, supplemental/ and testData/; VERSION is
                                             like 48.2; SOURCE says for the head of each file where it came from
@@ -21,7 +21,7 @@ from common import Refused, write_cldr  # noqa: E402
 from identifiers import IDENTIFIER  # noqa: E402
 
 DATA = pathlib.Path(__file__).resolve().parent / "cldr"
-ROWS = DATA.parent.parent.parent / "rows"
+ROWS = DATA.parent.parent.parent / "vectors"
 TYPE = re.compile(r"[a-z0-9]{3,8}(-[a-z0-9]{3,8})*")
 
 

@@ -1,7 +1,7 @@
 #!/usr/bin/env python3
 """Writes the tables and the lists of the crates langtag_keyword and langtag_locale from Unicode's CLDR. The aliases of types, of
 subdivisions and of language identifiers are in cldr/. The aliases of regions are those of langtag_likely, in ../likely/cldr.
-from_cldr.py writes cldr/, and CLDR's own cases as the rows of rows/cldr.txt. cldr.sha256 has the checksums of both.
+from_cldr.py writes cldr/, and CLDR's own cases as the rows of vectors/cldr.txt. cldr.sha256 has the checksums of both.
 
 IANA's registry may be ahead of CLDR: a tag has a Preferred-Value, and CLDR does not replace that tag yet. --accept writes such tags to
 ahead-of-cldr.txt, and names each tag that it adds or takes out.
@@ -19,7 +19,7 @@ from common import Generator, Refused, cldr_version, files_of, head, in_lines, r
 from identifiers import Identifiers  # noqa: E402
 
 DATA = "data/unicode/cldr"
-CASES = "rows/cldr.txt"
+CASES = "vectors/cldr.txt"
 LANGUAGES, REGIONS = "data/likely/cldr/language-alias.txt", "data/likely/cldr/region-alias.txt"
 REGISTRY = "data/registry/language-subtag-registry"
 # The tags and subtags of the registry whose Preferred-Value CLDR does not have yet.

@@ -124,7 +124,7 @@ class Generating(testing.Generating):
         ):
             (release / name).parent.mkdir(parents=True, exist_ok=True)
             (release / name).write_text(text, encoding="utf-8")
-        with mock.patch.object(from_cldr, "DATA", self.root / generate.DATA), mock.patch.object(from_cldr, "ROWS", self.root / "rows"):
+        with mock.patch.object(from_cldr, "DATA", self.root / generate.DATA), mock.patch.object(from_cldr, "ROWS", self.root / "vectors"):
             from_cldr.main(release, "99.1", "a test")
             (release / CASES).write_text("# About the cases.\n######\nart_lojban_x_a\t;\ten\n", encoding="utf-8")
             with self.assertRaisesRegex(common.Refused, "two language identifiers: art_lojban_x_a"):

@@ -1,7 +1,7 @@
 /*
  * Tests of the C interface. `test CALLS FILE FLOOR ..` runs the rows of each file. It also runs tests written by hand for what the
  * rows do not have: limits of inputs, and arguments that have to stay unchanged. `test --answer CALLS` answers the calls of standard
- * input, and fails if an answer in a row differs. CALLS is rows/calls.txt.
+ * input, and fails if an answer in a row differs. CALLS is vectors/calls.txt.
  */
 #include "rows.h"
 

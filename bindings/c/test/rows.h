@@ -1,4 +1,4 @@
-/* Reads the rows that the tests of all languages run: a call with its arguments and its answer. They are in rows/, whose README
+/* Reads the rows that the tests of all languages run: a call with its arguments and its answer. They are in vectors/, whose README
  * describes their form. */
 #ifndef ROWS_H
 #define ROWS_H
@@ -41,7 +41,7 @@ extern int checks, failures;
 
 /* Runs rows: `--answer CALLS` those of standard input, and `CALLS FILE FLOOR ..` those of files, which have to have at least FLOOR
  * rows. Counts a row that differs as a failure, and prints the first three of them. Prints a row without an answer with its answer.
- * CALLS is rows/calls.txt, which says how many arguments each call has. */
+ * CALLS is vectors/calls.txt, which says how many arguments each call has. */
 void run_rows(int argc, char **argv);
 
 #ifdef __cplusplus

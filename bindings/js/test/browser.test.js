@@ -25,7 +25,7 @@ const PAGES = {
 function fileOf(path) {
     if (path.startsWith("/package/test/")) return new URL(`bindings/js/test/${path.slice(14)}`, ROOT);
     if (path.startsWith("/package/")) return new URL(path.slice(9), PACKAGE);
-    return new URL(`rows/${path.slice(6)}`, ROOT);
+    return new URL(`vectors/${path.slice(6)}`, ROOT);
 }
 
 const server = createServer((request, response) => {
@@ -47,11 +47,11 @@ after(async () => {
     server.close();
 });
 
-for (const [name, floor] of floors(readFileSync(new URL("rows/floors.txt", ROOT), "latin1"))) {
+for (const [name, floor] of floors(readFileSync(new URL("vectors/floors.txt", ROOT), "latin1"))) {
     test(`${name} in a page`, { skip }, async () => {
         const found = await browser.value(`(async () => {
             const [{ ask, counts }, { adapted, answers }, response, calls] = await Promise.all([
-                import("/package/test/rows.js"), import("/package/test/answers.js"), fetch("/rows/${name}"), fetch("/rows/calls.txt")]);
+                import("/package/test/rows.js"), import("/package/test/answers.js"), fetch("/vectors/${name}"), fetch("/vectors/calls.txt")]);
             return ask("${name}", await response.text(), counts(await calls.text()), ${floor}, answers, adapted);
         })()`);
         console.log(`${name}: ${found.count} rows`);

@@ -1,12 +1,12 @@
 /*
- * Reads the rows that the tests of all languages run: a call, its arguments and its answer. They are in rows/, whose README
+ * Reads the rows that the tests of all languages run: a call, its arguments and its answer. They are in vectors/, whose README
  * describes their form.
  */
 
-/** Returns the number of arguments of each call, from the content of rows/calls.txt. */
+/** Returns the number of arguments of each call, from the content of vectors/calls.txt. */
 export const counts = (content) => Object.fromEntries(content.match(/^[\w-]+ \d$/gm).map((line) => [line.split(" ")[0], Number(line.at(-1))]));
 
-/** Returns [file, the least number of rows to be run] for each file of rows, from the content of rows/floors.txt. */
+/** Returns [file, the least number of rows to be run] for each file of rows, from the content of vectors/floors.txt. */
 export const floors = (content) => content.match(/^\w+\.txt.*/gm).map((line) => line.split(/ +/)).filter((words) => words[4] !== "-").map((words) => [words[0], Number(words[4])]);
 
 const expand = (line) => line.replace(/\{(\d+):([^}]*)\}/g, (_, count, piece) => piece.repeat(Number(count)));

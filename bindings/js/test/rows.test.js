@@ -5,7 +5,7 @@ import test from "node:test";
 import { adapted, answers } from "./answers.js";
 import { ask, counts, floors } from "./rows.js";
 
-const FOLDER = new URL("../../../rows/", import.meta.url);
+const FOLDER = new URL("../../../vectors/", import.meta.url);
 const calls = counts(readFileSync(new URL("calls.txt", FOLDER), "latin1"));
 const asked = {};
 

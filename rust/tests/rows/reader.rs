@@ -43,7 +43,7 @@ impl Row {
 /// Returns the folder of the rows: in the repository, or in the packed crate.
 fn folder() -> PathBuf {
     let here = PathBuf::from(env!("CARGO_MANIFEST_DIR"));
-    ["rows", "../rows"]
+    ["vectors", "../vectors"]
         .map(|folder| here.join(folder))
         .into_iter()
         .find(|folder| folder.join("table.txt").is_file())
