@@ -1,8 +1,8 @@
-"""The wrong bodies of crates/*/must-fail, and the record of what was seen of each: checks/wrong_bodies.txt.
+"""The wrong bodies of crates/*/must-fail, and what was seen of each.
 
-A line of the record has the name of a wrong body, then a hash and how the prover refused the body, then a hash and the tests that show
-that the body is wrong. Each hash covers what the result depends on. A wrong body is tried again if a hash differs, or if the commit
-chooses it: a false line of the refusal is found by one run in 20.
+What shows that a body is wrong depends on its file alone, and stands there: `# call: ..` if no test does, and `# shown: HASH TESTS`. How
+the prover refused it depends on the definitions below it, too, and stands in refusals.txt. Each hash covers what the result depends on. A
+wrong body is tried again if a hash differs, or if the commit chooses it: a false line is found by one run in 20.
 """
 import functools
 import hashlib
@@ -14,9 +14,9 @@ import sys
 
 from items import CRATES, ROOT, File, file_of, origin_of, page_of, words_of
 
-RECORD, SHOWN = ROOT / "checks/wrong_bodies.txt", ROOT / "checks/shown.txt"
-HEAD = """# The wrong bodies of each crate: name, hash, how it was refused, hash, and which tests show that it is wrong (checks/edits.py).
-# checks/wrong-bodies and checks/shown write it. They were refused by the prover with the logic {}.
+RECORD = ROOT / "checks/refusals.txt"
+HEAD = """# The refusals of the wrong bodies of each crate: name, hash, and how it was refused (checks/edits.py). checks/wrong-bodies writes it.
+# They were refused by the prover with the logic {}.
 """
 NOTHING = ["-", "-"]  # instead of a hash and a result
 SHARES = 20, 200  # of how many commits one tries a result that is known: of a refusal, which is cheap in a batch, and of a test
@@ -30,12 +30,12 @@ def digest(*words):
 class Edit:
     """A wrong body: its name, CRATE/NAME, and the lines of its file that name a source, an old text and a new one."""
 
-    def __init__(self, path, calls=()):
+    def __init__(self, path):
         self.path, self.crate, self.name = path, path.parts[-3], f"{path.parts[-3]}/{path.stem}"
-        self.call = dict(calls).get(self.name, "")
-        lines = path.read_text().split("\n")
-        self.lines = [line for line in lines if line.startswith(("file: ", "old: ", "new:"))]
-        self.places = [line.removeprefix("# at: ") for line in lines if line.startswith("# at: ")]
+        text = path.read_text()
+        self.lines = re.findall(r"(?m)^(?:file: |old: |new:).*", text)
+        self.places, [self.call, *_], [shown, *_] = (re.findall(rf"(?m)^# {word}: (.*)", text) + [""] for word in ("at", "call", "shown"))
+        self.places, self.shown = self.places[:-1], shown.split() or NOTHING
 
     @functools.cached_property
     def texts(self):
@@ -93,8 +93,14 @@ class Edit:
         return found or sys.exit(f"{self.path}: there is no {' or '.join(self.places)}")
 
     def of_shown(self, _):
-        """Returns a hash of what shows that it is wrong: the edit, and its call in shown.txt."""
+        """Returns a hash of what shows that it is wrong: the edit, and its call."""
         return digest(*self.lines, self.call)
+
+    def take_shown(self, by):
+        """Writes which tests show it into its file, or takes the line out."""
+        text = re.sub(r"(?m)^# shown: .*\n", "", self.path.read_text())
+        self.shown = [hash_of(self, 1, by), by] if by else NOTHING
+        self.path.write_text(text + (f"# shown: {' '.join(self.shown)}\n" if by else ""))
 
 
 def all_words(item):
@@ -175,11 +181,7 @@ def origins(text):
 
 def edits_of(names=()):
     """Returns the wrong bodies of these crates, or with these names, in order. Without names, all are returned."""
-    lines = [line.split(": ", 1) for line in SHOWN.read_text().splitlines() if not line.startswith("#")]
-    calls = {name: call for named, call in lines for name in named.split(", ")}
-    edits = [Edit(path, calls) for path in sorted(CRATES.glob("*/must-fail/*.edit"))]
-    if unknown := calls.keys() - {it.name for it in edits}:
-        sys.exit(f"shown.txt has no edit for {', '.join(sorted(unknown))}")
+    edits = [Edit(path) for path in sorted(CRATES.glob("*/must-fail/*.edit"))]
     found = [it for it in edits if not names or {it.name, it.crate} & {*names}]
     return found or sys.exit("there is no such edit")
 
@@ -195,30 +197,28 @@ def hash_of(edit, which, result):
 
 
 class Record:
-    """The record: by the name of a wrong body, its refusal and what shows it, each as a hash and a word. What another prover refused does
-    not count."""
+    """The refusals: by the name of a wrong body, a hash and a word. What another prover refused does not count."""
 
     def __init__(self):
         text = RECORD.read_text() if RECORD.is_file() else ""
         self.logic = (re.findall(r" the logic (\w*)", text) or [""])[0]
         crates = ((crate, lines.splitlines()) for crate, lines in re.findall(r"(?m)^(\w+):\n((?:\w+ .*\n)*)", text))
-        self.seen = {f"{crate}/{name}": [words[:2], words[2:]] for crate, lines in crates for name, *words in map(str.split, lines)}
+        self.seen = {f"{crate}/{name}": words for crate, lines in crates for name, *words in map(str.split, lines)}
         if (now := logic()) and now != self.logic:
-            self.logic = now
-            self.seen = {name: [NOTHING, shown] for name, (_, shown) in self.seen.items()}
+            self.logic, self.seen = now, {}
 
     def result(self, edit, which):
         """Returns how an edit was refused (`which` is 0) or shown (1), or an empty text if no result has the hash of what stands."""
-        found, result = self.seen.get(edit.name, [NOTHING, NOTHING])[which]
+        found, result = edit.shown if which else self.seen.get(edit.name, NOTHING)
         return result if found == hash_of(edit, which, result) else ""
 
-    def write(self, all_edits, which, results):
+    def write(self, all_edits, results):
         """Writes new results, and leaves out the lines of wrong bodies that are gone."""
         for edit, result in results.items():
-            self.seen.setdefault(edit.name, [NOTHING, NOTHING])[which] = [hash_of(edit, which, result), result] if result else NOTHING
+            self.seen[edit.name] = [hash_of(edit, 0, result), result] if result else NOTHING
         kept, text = sorted({it.name for it in all_edits} & self.seen.keys()), HEAD.format(self.logic)
         for crate, names in itertools.groupby(kept, key=lambda name: name.partition("/")[0]):
-            text += f"{crate}:\n" + "".join(" ".join([name.removeprefix(f"{crate}/"), *sum(self.seen[name], [])]) + "\n" for name in names)
+            text += f"{crate}:\n" + "".join(" ".join([name.removeprefix(f"{crate}/"), *self.seen[name]]) + "\n" for name in names)
         RECORD.write_text(text)
 
 
