@@ -1,5 +1,5 @@
 #!/usr/bin/env python3
-"""Checks that the tests find wrong wrappers. It plants faults in the C header, langtag.hpp, the files of the Rust crate that are
+"""Checks that the tests find wrong wrappers. It plants faults in langtag.hpp, langtag_names.h, the files of the Rust crate that are
 written by hand, the Python module, the JavaScript package and the extensions of SQLite and PostgreSQL. It builds the result, and runs
 the rows or a test of that language.
 
@@ -40,14 +40,6 @@ ROOT = pathlib.Path(__file__).resolve().parent.parent
 # and changes, with ;; between them. A change is `old`new` in the text around it, or two texts that are exchanged, with <> between them.
 # The first such place in the file counts, and a blank is any white space. After = are words of the failure, if they are not the usual ones.
 TABLES = {
-    "C": ("bindings/include", r"""
-langtag.h table.txt: LANGTAG_REPEATED_VARIANT <> LANGTAG_REPEATED_SINGLETON ;; langtag_span variants; <> langtag_span extensions;
-langtag.h table.txt: LANGTAG_INVALID_SCRIPT <> LANGTAG_INVALID_REGION ;; langtag_span variant; <> langtag_span singleton;
-langtag.h table.txt: LANGTAG_RANGE_BASIC <> LANGTAG_RANGE_EXTENDED ;; LANGTAG_PRIVATE_USE = <> LANGTAG_IRREGULAR =
-langtag.h table.txt: UINT64_C(0xcbf29ce48422232`5`6`)
-langtag.h edits.txt: LANGTAG_PART_SCRIPT <> LANGTAG_PART_REGION
-langtag.h negotiation.txt: LANGTAG_ACCEPTED_BAD_RANGE <> LANGTAG_ACCEPTED_BAD_WEIGHT
-"""),
     "C++": ("bindings/include", r"""
 langtag.hpp edits.txt: LANGTAG_PART_SCRIPT <> LANGTAG_PART_REGION ;; `{part::extensions, extension},``
 langtag.hpp refused.txt: "script " <> "region " ;; most = `80`81`) ;; code << `6`5`
@@ -292,7 +284,6 @@ FAULTS = {language: list(faults_of(language)) for language in TABLES}
 # How the tests of each language are built, in a copy of what they need.
 CARGO = "cd rust && CARGO_TARGET_DIR=../target RUSTFLAGS='-Awarnings -Cdebuginfo=0' cargo test -q --offline --features names,oxilangtag"
 BUILD = {
-    "C": "cc -w -std=c11 -DMOST_VARIANTS=20000 -Ibindings/include bindings/c/test/*.c $LIBRARIES/liblangtag_verified.a -o test",
     "C++": "cc -w -c bindings/c/test/rows.c bindings/c/test/fences.c && c++ -w -std=c++17 -Ibindings/include bindings/c/test/rows.cc"
            " rows.o fences.o $LIBRARIES/liblangtag_verified.a -o test",
     "Rust": f"{CARGO} --no-run $TESTS",
@@ -311,9 +302,8 @@ def program(by: str) -> str:
 def command(language: str, by: str) -> str:
     """Returns the command that runs a file of rows, or a test, or all rows if none is named."""
     is_rows = by == "" or by.endswith(".txt")
-    if language in ("C", "C++"):
-        all_rows = f"$(make -s -C bindings/c ROWS=$PWD/vectors {'asked' if language == 'C' else 'asked-cc'})"
-        return f"./test {f'vectors/calls.txt vectors/{by} 1' if by else all_rows}"
+    if language == "C++":
+        return f"./test {f'vectors/calls.txt vectors/{by} 1' if by else '$(make -s -C bindings/c ROWS=$PWD/vectors asked-cc)'}"
     if language == "Rust":
         return f"{CARGO} {program(by)} {'' if by == 'rows' else by + '::'} -- --skip prefixes"  # a long test, of the recogniser
     if language == "JavaScript":
@@ -427,7 +417,7 @@ class Copy:
 
 
 # The tests that have to find the faults of a language, with the rows that they ask.
-TESTS = {"C": ["bindings/c/test/*.[ch]"], "C++": ["bindings/c/test/*.cc", "bindings/c/test/*.h"], "Python": ["bindings/python/*.py"],
+TESTS = {"C++": ["bindings/c/test/*.cc", "bindings/c/test/*.h"], "Python": ["bindings/python/*.py"],
          "JavaScript": ["bindings/js/test/*.js"], "PostgreSQL": ["bindings/postgresql/sql/*.sql"],
          "SQLite": ["bindings/sqlite/test_*.py", "bindings/python/rows.py"], "Rust": ["rust/tests/**/*.rs"]}
 

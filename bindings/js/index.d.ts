@@ -79,10 +79,6 @@ export declare const GRANDFATHERED: readonly string[];
 export declare const REGISTRY_DATE: string;
 /** The version of Unicode's CLDR from which likely subtags, distances and aliases come, such as "48.2". */
 export declare const CLDR_VERSION: string;
-/**
- * Whether the WebAssembly module was linked from the archive that Rattle's prover built after it had proved the sources. It is false if cargo
- * built the module from the same sources.
- */
 /** Thrown if a string is not a language tag. */
 export declare class InvalidTag extends RangeError {
     readonly text: string;

@@ -648,9 +648,6 @@ FUNCTION(pg_langtag_version) {
                                               date / 100 % 100, date % 100, cldr_version())));
 }
 
-/* Returns whether the archive in this module is the proved one. */
-FUNCTION(pg_langtag_proved) { PG_RETURN_BOOL(LANGTAG_PROVED); }
-
 FUNCTION(pg_langtag_cldr_version) { PG_RETURN_TEXT_P(cstring_to_text(cldr_version())); }
 
 FUNCTION(pg_langtag_registry_date) {

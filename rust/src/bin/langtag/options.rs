@@ -114,5 +114,5 @@ impl Options {
 
 fn version() -> String {
     let version = env!("CARGO_PKG_VERSION");
-    format!("langtag {version} (IANA's registry of {FILE_DATE}, CLDR {CLDR_VERSION})\nnot proved\n")
+    format!("langtag {version} (IANA's registry of {FILE_DATE}, CLDR {CLDR_VERSION})\n")
 }
