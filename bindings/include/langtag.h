@@ -28,8 +28,7 @@
  *      with "(out)" is only written, so it need not be initialised.
  *   4. Memory that a call may write through one argument (an out struct, `rest`, `passed`, a buffer, the bytes of langtag_fold and
  *      langtag_recommend) does not overlap the memory of any other argument. Strings that are only read may overlap.
- *   5. An x86-64 processor has SSE4.2 (x86-64-v2). Any aarch64 processor is supported. Calls follow the C calling
- *      convention of the platform. 4 KiB of the stack is free for each call, and 16 KiB for langtag_repeats,
+ *   5. 4 KiB of the stack is free for each call, and 16 KiB for langtag_repeats,
  *      langtag_extensions_form, langtag_is_locale, langtag_locale_form, langtag_best_for_header, langtag_best_for_ranges,
  *      langtag_match_for_header, langtag_site_best_for_header, langtag_site_best_for_ranges, langtag_site_match_for_header,
  *      langtag_suitable_for_header and langtag_suitable_for_ranges.

@@ -47,15 +47,6 @@
 
 PG_MODULE_MAGIC;
 
-void _PG_init(void);
-
-/* The archive is built for x86-64-v2, and would crash the server on an older processor. */
-void _PG_init(void) {
-    if (!__builtin_cpu_supports("sse4.2"))
-        ereport(ERROR, (errcode(ERRCODE_FEATURE_NOT_SUPPORTED),
-                        errmsg("extension langtag needs a processor with SSE4.2 (x86-64-v2)")));
-}
-
 #define BYTES(value) ((const char *)VARDATA_ANY(value))
 #define LEN(value) ((size_t)VARSIZE_ANY_EXHDR(value))
 
