@@ -30,26 +30,11 @@ npm_installs() {
         notices node_modules/langtag-verified/ && grep -x "# langtag for JavaScript" node_modules/langtag-verified/README.md
         cd node_modules/langtag-verified/ && node --test test/rows.test.js test/langtag.test.js test/examples.test.js'
 }
-# Without cargo, pip, npm and make fail, and the reason is all that they say.
-said_without_cargo() {
-    mkdir -p "$work/no-cargo" && local tool
-    for tool in sh bash env dirname basename mkdir tar sed cat python3 cc ld as ar find head cmp cp rm touch grep id uname mktemp node npm nproc make sleep; do
-        ln -sf "$(command -v $tool)" "$work/no-cargo/$tool"
-    done
-    cp -r "$work/clone" "$work/bare" && rm -rf "$work"/bare/bindings/python/build "$work"/bare/rust/c/target "$work"/bare/bindings/js/module.js || return 1
-    without_rt=$work/no-cargo
-    ! outside 'python3 -m pip install -q --no-index --target t ../bare/bindings/python' >"$work/said" 2>&1 && grep 'there is no cargo' "$work/said" &&
-        ! outside 'cd ../bare/bindings/js && ./build' >"$work/said" 2>&1 && [ "$(wc -l <"$work/said")" = 1 ] && grep 'there is no cargo' "$work/said" || return 1
-    for tool in c sqlite; do
-        ! outside "make -C ../bare/bindings/$tool" >"$work/said" 2>&1 && [ "$(grep -vc '^make' "$work/said")" = 1 ] && grep 'there is no cargo' "$work/said" || return 1
-    done
-}
 lacks "a clone: pip and npm" 'has cargo' "there is no cargo" && return 0
 check "a clone: a copy of its files" cloned
 if ! lacks "a clone: pip install" "python3 -c 'import venv, ensurepip' >/dev/null 2>&1" \
     "python3 has no venv and ensurepip (in Debian: apt-get install python3-venv)"; then
     check "a clone: pip install, and the rows" pip_installs
-    check "a clone: without cargo, pip, npm and make say so" said_without_cargo
 fi
 lacks "a clone: npm install" 'node_is_new && has npm' "there is no npm, or no Node of version 20 or later" && return 0
 if outside 'cd ../clone/bindings/js && ./build' >"$work/log" 2>&1; then
