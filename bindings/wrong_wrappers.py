@@ -145,7 +145,7 @@ native/list.c Negotiation: count <= sizeof list->few` / sizeof *list->few``
 native/list.c Negotiation.test_best: `memcpy(more, list->text, list->len);``
 native/list.c WrongCalls: `|| !tag->text.owner``) {
 native/names.c names.txt: `langtag_name_keep_language(tag.data, tag.len, data);``
-native/names.c names.txt: `langtag_recommend(PyBytes_AsString(form), len);``
+native/names.c names.txt: `langtag_recommend(data, len);``
 native/text.c Kinds.test_subclasses_of_texts: `PyBytes_FromStringAndSize(data, len`PyBytes_FromString(data`);
 """),
     "JavaScript": ("bindings/js", r"""
@@ -173,7 +173,7 @@ memory.js table.txt: bytes.subarray(at, at + `length`Math.min(length, 8192)`)
 memory.js texts that are refused, of any units: unit `< 0x80 ? unit :`&` 0xff
 memory.js calls that are cut off: if (`isOpen`memory === undefined`) start();
 memory.js the memory of a long text is given back: `if (bytes.length > most) start();``
-memory.js choices.txt=not so: size(tags` + PREPARED * index``));
+memory.js choices.txt=not so: module.begin, length, tags` + PREPARED * index``);
 memory.js a site is kept while other calls use the memory: tags: bytes.`slice`subarray`(
 """),
     "SQLite": ("bindings/sqlite", r"""
@@ -224,15 +224,14 @@ langtag_pg.c parts: write_keyword(`"und", 3`BYTES(tag), LEN(tag)`, key, value, n
 langtag_pg.c parts: sizes[0] = `(int)count, sizes[1] = 2`2, sizes[1] = (int)count`;
 langtag_pg.c parts: [LANGTAG_PRIVATE_USE] = "`private-use`irregular`"
 langtag_pg.c parts: `langtag_base_len(BYTES(tag), LEN(tag)`LEN(tag`) ;; `langtag_recommend(VARDATA(changed), len);``
-langtag.sql.in types: `@module pg_langtag_tag_for_header@`AS 'MODULE_PATHNAME', 'pg_langtag_tag_for_header' LANGUAGE C STABLE STRICT` COST 50
-langtag.sql.in types: (langtag, text) RETURNS langtag @module pg_langtag_{}@`` LEAKPROOF`
-langtag.sql.in types: LANGUAGE internal IMMUTABLE STRICT` LEAKPROOF``
-langtag.sql.in operators: `, FUNCTION 4 btequalimage(oid)`` ;; '`byteane`byteaeq`'
-langtag.sql.in types: (langtag) RETURNS langtag @`data`module`
-langtag.sql.in filters: _upper}(langtag_range) RETURNS `langtag_bound`langtag` ;; RESTRICT = `matchingsel`eqsel`
-order.sql.in operators: OPERATOR 1 <`, OPERATOR 2 <=`=, OPERATOR 2 <` ;; `pg_langtag_hash_extended`pg_langtag_hash`@
-order.sql.in operators: `, HASHES, MERGES`` ;; SORTOP = `>`<`
-type.sql.in types: WITHOUT FUNCTION AS `ASSIGNMENT`IMPLICIT`
+langtag.sql types: 'pg_langtag_tag_for_header' LANGUAGE C `IMMUTABLE STRICT PARALLEL SAFE`STABLE STRICT` COST 50
+langtag.sql types: 'pg_langtag_set_language' LANGUAGE C IMMUTABLE STRICT PARALLEL SAFE`` LEAKPROOF`
+langtag.sql types: LANGUAGE internal IMMUTABLE STRICT` LEAKPROOF``
+langtag.sql operators: `, FUNCTION 4 btequalimage(oid)`` ;; '`byteane`byteaeq`'
+langtag.sql filters: langtag_basic_upper(langtag_range) RETURNS `langtag_bound`langtag` ;; RESTRICT = `matchingsel`eqsel`
+langtag.sql operators: OPERATOR 1 <`, OPERATOR 2 <=`=, OPERATOR 2 <` ;; '`pg_langtag_hash_extended`pg_langtag_hash`'
+langtag.sql operators: `, HASHES, MERGES`` ;; SORTOP = `>`<`
+langtag.sql types: WITHOUT FUNCTION AS `ASSIGNMENT`IMPLICIT`
 """),
 }
 
@@ -383,7 +382,7 @@ class Copy:
     def alone(self, fault: Fault) -> str | None:
         """Builds the language with one fault, and runs the test that has to find it. Returns what differs from the expectation, or None.
         A fault in SQL or Python needs no other module than this copy's, which has all faults behind switches."""
-        copy = Copy(self.language, self.libraries, self if fault.file.endswith((".sql.in", ".py")) else None)
+        copy = Copy(self.language, self.libraries, self if fault.file.endswith((".sql", ".py")) else None)
         try:
             copy.environment["TESTS"] = program(fault.by)
             copy.plant(fault)

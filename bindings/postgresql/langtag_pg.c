@@ -1,6 +1,6 @@
 /*
  * PostgreSQL's types langtag (a language tag, RFC 5646), langtag_range (a language range, RFC 4647) and langtag_part (some
- * subtags of a tag), over the proved C library. langtag.sql.in says what each function returns.
+ * subtags of a tag), over the proved C library. langtag.sql says what each function returns.
  *
  * A value is a varlena with only the bytes of its text, as the type text is, so that casts to text cost nothing. Values of langtag
  * are in the case that RFC 5646 recommends, so equal tags have equal bytes. The C names begin with pg_langtag_, since those of the
