@@ -31,7 +31,7 @@ SQUARES = {(name, shape): most for names, shapes, most in (
 # The millions of instructions of a choice for 8 kB of a header that names one range again and again, by the number of tags.
 CHOICES = {"best_of_list": {"40": 18, "1000": 340}, "best_of_site": {"40": 6, "1000": 60}}
 # The functions that a header declares, and those that may take 16 KiB of the stack. Any other call may take 4 KiB.
-DECLARED = re.compile(r'\blangtag_(\w+)\([^;{]*\);')
+DECLARED = re.compile(r"(?m)^[A-Za-z].* \**langtag_(\w+)\(.*[,;]$")
 DEEP = re.compile(r"(?s)16 KiB for (.*?)\.\n")
 # By function and shape, the instructions by the times of the text, or by the number of tags.
 Counts = dict[tuple[str, str], dict[str, int]]
