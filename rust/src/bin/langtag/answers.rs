@@ -46,7 +46,7 @@ impl Answer {
 }
 
 /// Returns the text as a column, without tabs, which would end the column.
-fn without_tabs(text: &[u8]) -> Vec<u8> {
+pub fn without_tabs(text: &[u8]) -> Vec<u8> {
     let pieces: Vec<&[u8]> = text.split(|byte| *byte == b'\t').collect();
     pieces.join(&b"\\t"[..])
 }
@@ -81,12 +81,19 @@ impl<'a> Asked<'a> {
             Command::Maximize => Ok(self.form(tag, &try_maximized(tag)?)),
             Command::Minimize => Ok(self.form(tag, &try_minimized(tag)?)),
             Command::Match => Ok(self.matched(tag)),
+            Command::Parents => Ok(self.parents(tag)),
             _ => Ok(self.form(tag, &try_canonical(tag)?)),
         }
     }
 
     fn form(&self, tag: LangTag<'_>, form: &LangTagBuf) -> Answer {
         Answer::of(tag.as_bytes(), &[form], form, self.options)
+    }
+
+    fn parents(&self, tag: LangTag<'_>) -> Answer {
+        let chain: Vec<String> = tag.parents().map(LangTagBuf::into_string).collect();
+        let words = chain.join(" ");
+        Answer::of(tag.as_bytes(), &[&words], &words, self.options)
     }
 
     fn refused(&self, text: &[u8]) -> Answer {
