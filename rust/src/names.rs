@@ -19,13 +19,10 @@ use alloc::string::String;
 use alloc::vec::Vec;
 use core::cmp::Ordering;
 
-use crate::likely::maximized;
-use crate::registry::canonical;
-use crate::unicode::locale_form;
 use crate::{LangTag, LangTagBuf, NormalLangTag, Script};
 
 /// Returns an English name of a tag, made of CLDR's names for the subtags of its
-/// [`locale_form`], or of its canonical form if it has none.
+/// [`LangTag::locale_form`], or of its canonical form if it has none.
 ///
 /// If CLDR does not name the language, the name is the tag's own language as IANA's registry describes
 /// it. A subtag without a name is shown as it is, and so are extensions and private use.
@@ -63,9 +60,9 @@ pub fn describe<'a>(tag: impl Into<LangTag<'a>>) -> String {
     name
 }
 
-/// Returns the form of a tag whose subtags have the names: `de` for `ger`, as in [`locale_form`].
+/// Returns the form of a tag whose subtags have the names: `de` for `ger`, as in [`LangTag::locale_form`].
 fn form_of(tag: LangTag<'_>) -> LangTagBuf {
-    let mut form = locale_form(tag).unwrap_or_else(|| canonical(tag));
+    let mut form = tag.locale_form().unwrap_or_else(|| tag.canonical());
     form.make_recommended_case();
     form
 }
@@ -178,7 +175,7 @@ fn push(key: &mut String, subtag: Option<&str>) {
 
 /// Returns the script of a tag with its likely subtags.
 fn likely_script(tag: &str) -> Option<String> {
-    let tag = maximized(LangTag::new(tag).ok()?);
+    let tag = LangTag::new(tag).ok()?.maximized();
     tag.script()
         .map(|script: Script<'_>| script.as_str().into())
 }

@@ -71,7 +71,7 @@ fn each(options: &Options, command: Command, output: &mut impl Write) -> Result<
     let asked = Asked::new(command, options)?;
     let (mut all, mut some) = (true, false);
     texts(&options.texts, output, |text, output| {
-        let answer = asked.answer(text)?;
+        let answer = asked.answer(text);
         all &= answer.good;
         some |= answer.good;
         put(&answer, options, output)

@@ -4,7 +4,6 @@ use std::io::{self, Write};
 
 use langtag::likely::{from_posix, unknown_modifier, PosixError};
 use langtag::registry::validate;
-use langtag::unicode::try_locale_form;
 use langtag::LangTagBuf;
 
 use crate::answers::without_tabs;
@@ -101,7 +100,7 @@ fn read_one(text: &[u8]) -> Result<Read, Failure> {
     if let Some(modifier) = unknown_modifier(&name) {
         return Ok(Err(format!("modifier {} is not known", shown(modifier))));
     }
-    let Some(form) = try_locale_form(&tag)? else {
+    let Some(form) = tag.locale_form() else {
         return Ok(Err("not a Unicode locale identifier".into()));
     };
     Ok(match validate(&form) {
