@@ -61,8 +61,8 @@ langtag.hpp suitable.txt: found.data(), room`` / 2`));
 langtag.hpp posix.txt: name.substr(modifier.`start, modifier.``len)
 langtag.hpp parents.txt: std::string next(`text_`written(langtag_parent)`);
 langtag.hpp lists.txt: ranges()) ``if (wanted.empty()) `wanted.push_back(it.range)
-langtag_names.h names.txt: `if (langtag_english_name(own, sizeof own))``
-langtag_names.h names.txt: `is_usual ? language_len : 0`language_len`; ;; `if (form[extension.start] != last)`` ;; ? "`]`)`" :
+langtag_names.h names.txt: `if (!langtag_name_row(LANGTAG_NAME_REPLACED, own, sizeof own)) return;``
+langtag_names.h names.txt: `is_usual ? language_len : 0`language_len`; ;; byte == '(' ? '[' : '`]`)`' ;; `if (*row != kind) continue;``
 """),
     "Rust": ("rust/src", r"""
 text.rs owned: `case_insensitive_eq(self.as_str().as_bytes(), other.as_bytes()`self.as_str().as_bytes() == other.as_bytes(`)
@@ -71,7 +71,7 @@ text.rs owned: self.`$lend().partial_cmp(other`as_str().partial_cmp(other.as_str
 text.rs habits: core::str::from_utf8(bytes).`map_err(|_| $error(bytes))?`unwrap_or("und")`
 text.rs habits: $name::new(text``.trim()`).map_err(|_| $error(bytes))
 text.rs guesses: $error(`error.into_bytes`Vec::new`())
-names.rs rows: `to_ascii_uppercase`to_ascii_lowercase` ;; `is_usual.then_some`Some`(language)
+names.rs rows: .filter(|own| `*own != named.language()`false`) ;; `if is_usual { 4 } else { 3 }`4`
 lent.rs owned: `self.$lend`$name::try_from("zh").unwrap`().$call($($argument)?)
 caseless_text.rs habits: `case_insensitive_cmp(self.text().as_bytes(), other.text().as_bytes`self.text().cmp(other.text`())
 caseless_text.rs habits: `case_insensitive_eq(self.text().as_bytes(), other.text().as_bytes()`self.text() == other.text(`)
@@ -93,7 +93,7 @@ matching.rs rows: found(Ranges(ranges), tags).unwrap_or(`default`tags.first().un
 choice.rs choice: &found[..count``.min(1)`]
 site.rs choice: found.into_iter().``rev().`map(
 too_short.rs rows: buffer.get(..len).ok_or(TooShort { needed: `len`buffer.len()` })?
-methods.rs methods: choice::distance(`self, supported`supported, self`) ;; self.validate().`is_ok`is_err`()
+methods.rs methods: choice::distance(`self, supported.into()`supported.into(), self`) ;; tag.validate().`is_ok`is_err`()
 shown.rs methods: Kind::Grandfathered => "`grandfathered`normal`"
 walks.rs habits: `self.iter()`{ let mut walk = self.iter(); walk.next(); walk }`
 oxilangtag.rs oxilangtag: `Some(&*self.tag).filter(|tag| begins_private_use(tag))`None` ;; `tag.make_recommended_case();``

@@ -6,9 +6,11 @@ is written; newer data are accepted; and --check names a file that differs.
 """
 import contextlib
 import io
+import itertools
 import pathlib
 import re
 import shutil
+import string
 import sys
 import tempfile
 import unittest
@@ -111,7 +113,7 @@ language-alias.txt | sgn-NO nsi; | sgn-NO nsl; | CLDR has the row that IANA's re
 language-alias.txt | sgn-DE gsg; | sgn-DE dsl; | the form of a tag of the registry is the form of its Preferred-Value
 """, "names": """
 data/likely/cldr/language-alias.txt | him srx | him xx | a replaced language and its replacement of three letters
-data/unicode/cldr/language-alias.txt | sgn-BR bzs | him-BR bzs | no tag of the language that is replaced as a whole: HIM
+data/unicode/cldr/language-alias.txt | sgn-BR bzs | him-BR bzs | no tag of the language that is replaced as a whole: him
 """, "scan": ""}
 
 
@@ -209,14 +211,33 @@ class Names(unittest.TestCase):
         sys.path.insert(0, str(HERE / "unicode"))
         sys.modules.pop("oracle", None)
         import oracle
-        english, _, _ = common.text_of(generate.MODULE).partition("static OWN_NAMES")
-        cldr, names = (dict(row.split(" ", 1) for row in text.splitlines() if " " in row)
-                       for text in (common.text_of("data/names/cldr/english-languages.txt"), english))
+        cldr = dict(row.split(" ", 1) for row in common.text_of("data/names/cldr/english-languages.txt").splitlines())
         records = re.findall(r"Type: language\nSubtag: ([a-z]+)\nDescription: (.*)", common.text_of(generate.REGISTRY))
-        self.assertGreater(len(records), 8000)
+        self.assertEqual(len(records), 8267)
+        names = read_back()
         for code, description in records:
             form = oracle.locale_form(code).partition("-")[0]
-            self.assertEqual(names.get(code.upper()) or names[form], cldr.get(form, description), code)
+            self.assertEqual(names.get((generate.REPLACED, code)) or names[generate.kind_of(form)], cldr.get(form, description), code)
+
+    def test_packed(self):
+        own = {(generate.OWN, tag): name for tag, name in generate.rows("autonyms", generate.TAG).items()}
+        names = {(kind, key[:2].lower() + key[2:]): name for (kind, key), name in (generate.english_names() | own).items()}
+        self.assertEqual(read_back(), names)
+
+
+def read_back():
+    """Returns the names by the bytes that begin their rows, and the keys, as the table of C has them."""
+    _, *arrays = common.text_of(generate.HEADER).split("] = {")
+    pairs, index, rows = ([int(it) for it in re.findall(r"\d+", array.partition(";")[0])] for array in arrays)
+    names = {}
+    for first, start, end in zip(itertools.product(string.digits + string.ascii_lowercase, repeat=2), index, index[1:]):
+        for kind, text in re.findall(rb"([\x01-\x1f])([^\0-\x1f]+)", bytes(rows[start:end])):
+            third = chr(96 | ord(kind)) if ord(kind) < generate.TWO_LETTERS else ""
+            rest, _, name = text.partition(b" ") if ord(kind) > generate.TWO_LETTERS else (third.encode(), b"", text)
+            while ord(kind) != generate.OWN and any(pairs[2 * byte] for byte in name):
+                name = bytes(it for byte in name for it in (pairs[2 * byte:2 * byte + 2] if pairs[2 * byte] else [byte]))
+            names[ord(kind), "".join(first) + rest.decode()] = name.decode()
+    return names
 
 
 if __name__ == "__main__":
