@@ -2,6 +2,9 @@
 #![cfg(all(feature = "alloc", feature = "data"))]
 mod edits;
 mod likely;
+#[allow(dead_code)] // the example is a program
+#[path = "../../examples/literals.rs"]
+mod literals;
 mod matching;
 mod reader;
 mod registry;
@@ -13,8 +16,9 @@ mod walks;
 use langtag::likely::{unknown_modifier, CLDR_VERSION};
 #[cfg(feature = "names")]
 use langtag::names::{autonym, describe};
-use langtag::registry::{extlang_form, misplaced_extlang};
+use langtag::registry::misplaced_extlang;
 use langtag::unicode::is_locale;
+use literals::Object;
 #[cfg(feature = "names")]
 use reader::escaped_text;
 use reader::{ask, escaped, list, word, yes, Row};
@@ -41,7 +45,7 @@ fn answer(row: &Row) -> String {
         "validity" => row.tag(0).map_or("none".into(), registry::validity),
         "suggestion" => row.of_tag(registry::suggestion),
         "canonical" => row.of_tag(registry::canonical_form),
-        "extlang-form" => row.of_tag(|tag| extlang_form(tag).into_string()),
+        "extlang-form" => row.of_tag(|tag| tag.extlang_form().into_string()),
         "fault" => row.of_tag(registry::fault),
         "misplaced" => registry::misplaced(row.str(0)),
         "misplaced-extlang" => row.of_tag(|tag| word(tag.as_normal().and_then(misplaced_extlang))),
@@ -49,6 +53,10 @@ fn answer(row: &Row) -> String {
         "registered" => row.of_tag(registry::registered),
         "range" => matching::range(row.text(0)),
         "match" => matching::matches(row.text(0), row.tag(1)),
+        "same-term" => {
+            let [one, other] = [0, 1].map(|index| Object::read(row.str(index)).unwrap().0);
+            yes(one == other)
+        }
         "header" => matching::header(row.str(0), row.str(1)),
         "ranges" => matching::ranges(row.str(0), row.str(1)),
         "elements" => matching::elements(row.str(0)),
@@ -117,6 +125,7 @@ files! {
     subtags: "registry.txt";
     headers: "negotiation.txt";
     ranges: "ranges.txt";
+    literal_strings: "rdf.txt";
     refusals: "refused.txt";
     forms: "likely.txt";
     distances: "distance.txt";
