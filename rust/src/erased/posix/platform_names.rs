@@ -60,10 +60,9 @@ fn platform_read<'a>(text: &'a [u8], short: &'a mut [u8; MOST_READ]) -> &'a [u8]
     if let Some((first, second)) = platform_text(language, behind) {
         return written(language, first, second, short);
     }
-    match filled_behind(language, behind) {
-        Some((first, second)) => written(language_or_und(language), first, second, short),
-        None => text,
-    }
+    filled_behind(language, behind).map_or(text, |(first, second)| {
+        written(language_or_und(language), first, second, short)
+    })
 }
 
 /// Writes a language and one or two subtags into `room`, and returns them as one string.

@@ -32,7 +32,7 @@ pub(crate) fn tag_with_keyword<'a>(
 
 /// Returns the string before `-POSIX` and after it if this is the only variant, and there are no
 /// extensions.
-fn around_posix<'a>(tag: NormalLangTag<'a>) -> Option<(&'a [u8], &'a [u8])> {
+fn around_posix(tag: NormalLangTag<'_>) -> Option<(&[u8], &[u8])> {
     let text = tag.as_str().as_bytes();
     let ends = tag.ends();
     if ends.variants != ends.extensions {
