@@ -162,15 +162,17 @@ def with_short_forms(words, counts):
 
 
 def short_match(words, at):
-    """Returns the words of the call for `match option { Some(name) => some, None => none }`, or None."""
+    """Returns the words of the call for `match option { Some(name) => some, None => none }`, or for a result with `Ok(name)` and `Err(_)`."""
     body = skip_to(words, at, ("{",))
     option, arms = words[at + 1 : body], words[body + 1 : group_end(words, body) - 1]
     first = skip_to([*arms, ","], 0, (",",))
     second = arms[first + 1 : len(arms) - (arms[-1] == ",")]
-    if arms[:2] != ["Some", "("] or arms[2] == "_" or second[:3] != ["None", "=", ">"] or not is_reached(option):
+    is_result = arms[:1] == ["Ok"]
+    absent = ["Err", "(", "_", ")", "=", ">"] if is_result else ["None", "=", ">"]
+    if arms[:2] != ["Ok" if is_result else "Some", "("] or arms[2] == "_" or second[: len(absent)] != absent or not is_reached(option):
         return None
     opens = group_end(arms, 1)
-    name, some, none = arms[2 : opens - 1], arms[opens + 2 : first], second[3:]
+    name, some, none = arms[2 : opens - 1], arms[opens + 2 : first], second[len(absent) :]
     if arms[opens : opens + 2] != ["=", ">"] or "{" in (some[0], none[0]) or skip_to([*none, ","], 0, (",",)) < len(none):
         return None
     if {"return", "break", "continue", "?"} & {*some, *none} or (len(option) == 1 and is_reference(words, at, option[0])):
@@ -179,11 +181,13 @@ def short_match(words, at):
     is_call = start > 0 and some[start:] == ["(", *name, ")"] and all(re.fullmatch(r"\w+|:", word) for word in some[:start])
     closure = some[:start] if is_call and len(name) == 1 else ["|", *name, "|", *some]
     is_plain = re.fullmatch(r"""(\w+|"[^"]*"|b?'[^']*')((::|\.)\w+)*""", "".join(none))
-    if none in (["true"], ["false"]):
-        return [*option, ".", "is_none_or" if none == ["true"] else "is_some_and", "(", *closure, ")"]
+    if none == ["false"] or none == ["true"] and not is_result:
+        return [*option, ".", {"true": "is_none_or", "false": "is_ok_and" if is_result else "is_some_and"}[none[0]], "(", *closure, ")"]
     if some == name:
-        return [*option, ".", *(["unwrap_or", "("] if is_plain else ["unwrap_or_else", "(", "|", "|"]), *none, ")"]
+        ignored = ["_"] if is_result else []
+        return [*option, ".", *(["unwrap_or", "("] if is_plain else ["unwrap_or_else", "(", "|", *ignored, "|"]), *none, ")"]
     if none == ["None"]:
+        option = [*option, ".", "ok", "(", ")"] if is_result else option
         is_some = some[:2] == ["Some", "("] and group_end(some, 1) == len(some)
         return [*option, ".", *(["map", "(", "|", *name, "|", *some[2:-1]] if is_some else ["and_then", "(", *closure]), ")"]
     return [*option, ".", "map_or", "(", *none, ",", *closure, ")"] if is_plain else None

@@ -1,4 +1,4 @@
-"""Writes what Rust programmers write shorter: a `match` on an option as a call of the option, and lifetimes that rustc adds itself."""
+"""Writes what Rust programmers write shorter: a `match` on an option or a result as a call of it, and lifetimes that rustc adds itself."""
 import re
 
 LEAVES = {"return", "break", "continue", "?"}
@@ -15,24 +15,28 @@ def shorten(code):
 
 
 def shorten_match(code, place):
-    """Changes `match option { Some(x) => a, None => b }`, if `b` is a value, or `a` is `x`. A reference to an option stays."""
+    """Changes `match option { Some(x) => a, None => b }`, if `b` is a value, or `a` is `x`. A reference to an option stays. A result is an
+    option with `Ok(x)` and `Err(_)`."""
     body = code.next_of(("{",), place)
     end = code.after(body)
-    if not is_chain(code, place + 1, body) or not code.at(body + 1, "Some", "(") or code[body + 3] == "_":
+    is_result = code[body + 1] == "Ok"
+    if not is_chain(code, place + 1, body) or not code.at(body + 1, "Ok" if is_result else "Some", "(") or code[body + 3] == "_":
         return
     function = max((at for at in range(place) if code[at] == "fn"), default=place)
     if any(code.at(at, code[place + 1], ":", "&") for at in range(function, place)) and body == place + 2:
         return
     arrow = code.after(body + 2)
     comma = code.next_of((",", "}"), arrow)
-    if not code.at(arrow, "=", ">") or not code.at(comma, ",", "None", "=", ">") or code[arrow + 2] == "{" or code[comma + 4] == "{":
+    absent = [",", "Err", "(", "_", ")", "=", ">"] if is_result else [",", "None", "=", ">"]
+    other = comma + len(absent)
+    if not code.at(arrow, "=", ">") or not code.at(comma, *absent) or code[arrow + 2] == "{" or code[other] == "{":
         return
-    last = code.next_of((",", "}"), comma + 4)
+    last = code.next_of((",", "}"), other)
     if last + (code[last] == ",") != end - 1 or LEAVES & {code[at] for at in range(arrow, end)}:
         return
     text = lambda start, stop: "".join(token.before + token.text for token in code.tokens[start:stop]).strip()
     some = text(arrow + 4, comma - 1) if code.at(arrow + 2, "Some", "(") and code.after(arrow + 3) == comma else None
-    call = call_of(text(body + 3, arrow - 1), text(arrow + 2, comma), some, text(comma + 4, last))
+    call = call_of(is_result, text(body + 3, arrow - 1), text(arrow + 2, comma), some, text(other, last))
     if call:
         code.replace(place, end, text(place + 1, body) + call)
 
@@ -46,15 +50,15 @@ def is_chain(code, place, end):
     return True
 
 
-def call_of(name, some, inner, none):
+def call_of(is_result, name, some, inner, none):
     """Returns the call for `Some(name) => some, None => none`, if one is shorter. `inner` is what `some` has in `Some(..)`."""
     then = some[: -len(name) - 2] if re.fullmatch(rf"[\w:]+\({name}\)", some) else f"|{name}| {some}"
-    if none in ("true", "false"):
-        return f".{'is_none_or' if none == 'true' else 'is_some_and'}({then})"
+    if none == "false" or none == "true" and not is_result:
+        return f".{'is_none_or' if none == 'true' else 'is_ok_and' if is_result else 'is_some_and'}({then})"
     if some == name:
-        return f".unwrap_or({none})" if SIMPLE.fullmatch(none) else f".unwrap_or_else(|| {none})"
+        return f".unwrap_or({none})" if SIMPLE.fullmatch(none) else f".unwrap_or_else(|{'_' if is_result else ''}| {none})"
     if none == "None":
-        return f".map(|{name}| {inner})" if inner else f".and_then({then})"
+        return (".ok()" if is_result else "") + (f".map(|{name}| {inner})" if inner else f".and_then({then})")
     return f".map_or({none}, {then})" if SIMPLE.fullmatch(none) else None
 
 

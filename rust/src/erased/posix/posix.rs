@@ -149,10 +149,7 @@ fn tag_with_script<'a>(
         return tag;
     };
     let len = write_part(normal, Part::Script(Some(script)), room);
-    match LangTag::from_bytes(&room[..len]) {
-        Ok(tag) => tag,
-        Err(_) => unreachable!(),
-    }
+    LangTag::from_bytes(&room[..len]).unwrap_or_else(|_| unreachable!())
 }
 
 /// Writes a tag with its variants replaced by the given variant.

@@ -24,10 +24,7 @@ pub(crate) fn tag_with_keyword<'a>(
     };
     let pieces: [&[u8]; 3] = [before, b"-u-va-posix", after];
     let len = write_pieces(&pieces, room);
-    match LangTag::from_bytes(&room[..len]) {
-        Ok(tag) => tag,
-        Err(_) => unreachable!(),
-    }
+    LangTag::from_bytes(&room[..len]).unwrap_or_else(|_| unreachable!())
 }
 
 /// Returns the string before `-POSIX` and after it if this is the only variant, and there are no

@@ -16,8 +16,5 @@ pub(crate) fn extension_text(tag: LangTag<'_>, singleton: Singleton) -> &str {
 /// Returns the subtags of the first extension `u` of a tag, joined by hyphens.
 #[inline]
 pub(crate) fn unicode_text(tag: LangTag<'_>) -> &str {
-    match Singleton::new(b'u') {
-        Ok(singleton) => extension_text(tag, singleton),
-        Err(_) => "",
-    }
+    Singleton::new(b'u').map_or("", |singleton| extension_text(tag, singleton))
 }
