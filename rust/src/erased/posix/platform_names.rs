@@ -163,10 +163,7 @@ fn last_field(text: &[u8]) -> Option<&'static [u8]> {
     if text.len() < SHORTEST_LAST {
         return None;
     }
-    match alias_for(last_fields(), text) {
-        Some(tag) => Some(tag.as_bytes()),
-        None => None,
-    }
+    alias_for(last_fields(), text).map(|tag| tag.as_bytes())
 }
 
 #[inline]
