@@ -44,7 +44,7 @@ impl Answer {
 }
 
 /// Returns the text as a column, without tabs, which would end the column.
-fn without_tabs(text: &[u8]) -> Vec<u8> {
+pub fn without_tabs(text: &[u8]) -> Vec<u8> {
     let pieces: Vec<&[u8]> = text.split(|byte| *byte == b'\t').collect();
     pieces.join(&b"\\t"[..])
 }
@@ -79,12 +79,19 @@ impl<'a> Asked<'a> {
             Command::Maximize => self.form(tag, &tag.maximized()),
             Command::Minimize => self.form(tag, &tag.minimized()),
             Command::Match => self.matched(tag),
+            Command::Parents => self.parents(tag),
             _ => self.form(tag, &tag.canonical()),
         }
     }
 
     fn form(&self, tag: LangTag<'_>, form: &LangTagBuf) -> Answer {
         Answer::of(tag.as_bytes(), &[form], form, self.options)
+    }
+
+    fn parents(&self, tag: LangTag<'_>) -> Answer {
+        let chain: Vec<String> = tag.parents().map(LangTagBuf::into_string).collect();
+        let words = chain.join(" ");
+        Answer::of(tag.as_bytes(), &[&words], &words, self.options)
     }
 
     fn refused(&self, text: &[u8]) -> Answer {
