@@ -914,16 +914,6 @@ export class Site<Tag extends Text = string> {
         return this.#at(calls.siteBestForRanges(rangeTexts(ranges), this.#prepared), otherwise);
     }
 
-    /** Returns all suitable tags for a header, best first, or the `most` best, as the function suitableForHeader does, and in the same time. */
-    suitableForHeader(header: Header, most = Infinity): Tag[] {
-        return suitableForHeader(header, this.tags, most);
-    }
-
-    /** Returns all suitable tags for a list of ranges, best first, or the `most` best, as the function suitableForRanges does. */
-    suitableForRanges(ranges: List<Text>, most = Infinity): Tag[] {
-        return suitableForRanges(ranges, this.tags, most);
-    }
-
     #at(index, otherwise) {
         return index < this.tags.length ? this.tags[index] : otherwise;
     }
