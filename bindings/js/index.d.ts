@@ -79,10 +79,6 @@ export declare const GRANDFATHERED: readonly string[];
 export declare const REGISTRY_DATE: string;
 /** The version of Unicode's CLDR from which likely subtags, distances and aliases come, such as "48.2". */
 export declare const CLDR_VERSION: string;
-/**
- * Whether the WebAssembly module was linked from the archive that Rattle's prover built after it had proved the sources. It is false if cargo
- * built the module from the same sources.
- */
 /** Thrown if a string is not a language tag. */
 export declare class InvalidTag extends RangeError {
     readonly text: string;
@@ -413,8 +409,8 @@ export declare class Site<Tag extends Text = string> {
 /**
  * Returns an English name of a tag, made of CLDR's names for the subtags of its locale form, or of its canonical form if it has none:
  * "Portuguese (Brazil)" for pt-BR. If CLDR does not name the language, the name is the tag's own language as IANA's registry describes it:
- * "Himachali languages" for him. A subtag without a name is shown as it is, and so are extensions and private use. For names in other
- * languages, use `Intl.DisplayNames`.
+ * "Himachali languages" for him. A subtag without a name is shown as it is. Extensions and private use are left out, but a tag that is only
+ * private use is shown as it is. For names in other languages, use `Intl.DisplayNames`.
  */
 export declare function describe(tag: Text): string;
 /**
