@@ -174,7 +174,7 @@ def by_rule(rules, desired, supported, otherwise):
 def is_in(region, pattern):
     if not pattern.startswith("$"):
         return pattern in ("*", region)
-    countries = GROUPS.get(region, {region})
+    countries = GROUPS.get(region, {region}) if region != "001" else set("-")  # the world is outside each set
     if pattern.startswith("$!"):
         return not countries & SETS["$" + pattern[2:]]
     return countries <= SETS[pattern]
