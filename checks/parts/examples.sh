@@ -7,7 +7,7 @@ negotiate() {
         -o "$work/built/negotiate"
 }
 check "C: the HTTP example builds" negotiate
-check "the HTTP examples in C and Python answer alike" env -C examples PROGRAM="$work/built/negotiate" python3 -m unittest test_examples
+check "C: the HTTP example answers each header" env -C examples PROGRAM="$work/built/negotiate" python3 -m unittest test_examples
 
 check "Flask, Django and films: what a reader and a viewer pick" env -C examples python3 -m unittest test_sites
 python3 -c 'import flask' 2>/dev/null || not_run "Python: the Flask site" "Flask is not there"
