@@ -155,9 +155,8 @@ def public_in_javascript(text: str) -> Iterator[str]:
 
 def public_in_sql(text: str) -> Iterator[str]:
     """Yields the functions that statements create, without those of types, operators and indexes."""
-    names = re.findall(r"(?m)^CREATE FUNCTION (\{[^}]*\}|\w+)\(", text)
-    for name in re.findall(r"\w+", " ".join(names)):
-        if not re.search(r"_(?:in|out|recv|send|eq|ne|lt|le|gt|ge|cmp|lower|upper|support)$", name):
+    for name in re.findall(r"(?m)^CREATE FUNCTION (\w+)\(", text):
+        if not re.search(r"_(?:in|out|recv|send|eq|ne|lt|le|gt|ge|cmp|lower|upper|\w*support|hash|hash_extended|larger|smaller|part)$", name):
             yield name
 
 
