@@ -1,7 +1,9 @@
 """Writes what calls are measured with to a folder: lists.py FOLDER. These are 10,000 tags for each line of lists.txt, chosen by numbers that look
-random and are the same in every run, and the tags of sites: those of tags.txt, and more for larger sites. In `shapes`, `a` means any lowercase
+random and are the same in every run, and the tags of sites: those of tags.txt, and more for larger sites; 40 tags that the registry replaces
+as a whole; and 40 languages of three letters. In `shapes`, `a` means any lowercase
 letter, `A` any uppercase letter, `0` any digit, and any other character itself."""
 import pathlib
+import re
 import string
 import sys
 
@@ -31,9 +33,12 @@ def main(folder):
         name, _, shapes = line.partition(": ")
         (folder / f"{name}.txt").write_text("\n".join(tags(shapes.split(), name == "shapes")) + "\n", encoding="utf-8")
     more = [f"{language}-{first}{second}" for first in CLASSES["A"] for second in CLASSES["A"] for language in "en de fr es pt it nl sv ar zh".split()]
-    for count in (40, 100, 1000):
-        offered = [*(HERE / "tags.txt").read_text(encoding="utf-8").split(), *more][:count]
-        (folder / f"site-{count}.txt").write_text("\n".join(offered) + "\n", encoding="utf-8")
+    registry, names = ((HERE.parent / "data" / path).read_text(encoding="utf-8") for path in ("registry/language-subtag-registry", "names/cldr/autonyms.txt"))
+    sites = {str(count): [*(HERE / "tags.txt").read_text(encoding="utf-8").split(), *more][:count] for count in (40, 100, 1000)}
+    sites["replaced"] = re.findall(r"^Tag: (\S+)$(?:\n(?!%%).*)*\nPreferred-Value", registry, re.M)[:40]
+    sites["three-letters"] = re.findall(r"^([a-z]{3}) ", names, re.M)[:40]
+    for name, offered in sites.items():
+        (folder / f"site-{name}.txt").write_text("\n".join(offered) + "\n", encoding="utf-8")
 
 
 if __name__ == "__main__":

@@ -1,10 +1,7 @@
-//! Calls of the Rust crate that are measured, and of oxilangtag, each for all lines of a file: `bench time KIND LINES SITE` prints the least
-//! nanoseconds of a call of each function of a kind. `bench count KIND LINES SITE` calls each once a line, for a tool that counts the instructions of
-//! the functions `entry_*`, and prints the number of calls. SITE is a file with the tags of a site. A function that takes a tag also parses
-//! it, as those of C do.
+//! Calls of the Rust crate whose instructions `run` counts: `rust KIND LINES SITE` makes each call of a kind once for each line of a file.
+//! SITE is a file with the tags of a site. A function that takes a tag also parses it, as those of C do.
 
 use std::hint::black_box;
-use std::time::Instant;
 
 use langtag::choice::{best_for_header, suitable_for_header, Site};
 use langtag::matching::{AcceptLanguage, LanguageRange};
@@ -24,20 +21,10 @@ fn parts(text: &str) -> usize {
     })
 }
 
-/// Does the same with the crate oxilangtag.
-#[cfg(oxilangtag)]
-fn parts_by_oxilangtag(text: &str) -> usize {
-    oxilangtag::LanguageTag::parse(text).map_or(0, |tag| {
-        let parts = (tag.full_language(), tag.script(), tag.region(), tag.variant(), tag.extension(), tag.private_use());
-        black_box(parts).0.len()
-    })
-}
-
 /// Writes a function for each call, and the list of them with their kinds.
 macro_rules! calls {
-    ($($(#[$only:meta])? $kind:ident: $name:ident($site:ident, $line:ident) => $call:expr;)+) => {
+    ($($kind:ident: $name:ident($site:ident, $line:ident) => $call:expr;)+) => {
         $(
-            $(#[$only])?
             #[inline(never)]
             #[unsafe(export_name = concat!("entry_", stringify!($name)))]
             fn $name($site: &Site<LangTag<'_>>, $line: &str) {
@@ -45,14 +32,12 @@ macro_rules! calls {
             }
         )+
 
-        const CALLS: &[(&str, &str, Call)] = &[$($(#[$only])? (stringify!($kind), stringify!($name), $name)),+];
+        const CALLS: &[(&str, &str, Call)] = &[$((stringify!($kind), stringify!($name), $name)),+];
     };
 }
 
 calls! {
-    parse: langtag_verified(_site, text) => parts(text);
-    #[cfg(oxilangtag)]
-    parse: oxilangtag(_site, text) => parts_by_oxilangtag(text);
+    parse: parse_and_read(_site, text) => parts(text);
     headers: best(site, header) => best_for_header(header, site.tags());
     headers: site(site, header) => site.best_for_header(header);
     headers: suitable(site, header) => suitable_for_header(header, site).len();
@@ -65,33 +50,18 @@ calls! {
     tags: maximized(_site, text) => tag(text).maximized();
     tags: minimized(_site, text) => tag(text).minimized();
     tags: parent(_site, text) => tag(text).parent();
+    tags: describe(_site, text) => langtag::names::describe(tag(text)).len();
+    tags: autonym(_site, text) => langtag::names::autonym(tag(text));
     keywords: extensions_form(_site, text) => tag(text).extensions_form();
     keywords: locale_form(_site, text) => tag(text).locale_form();
 }
 
-/// Prints the least time of each call over many passes, in which the calls take turns, so a slow moment of the machine affects all of them.
-fn time(calls: &[(&str, Call)], site: &Site<LangTag<'_>>, lines: &[&str]) {
-    let mut least = vec![f64::MAX; calls.len()];
-    for turn in 0..31 * calls.len() {
-        let (start, index) = (Instant::now(), turn % calls.len());
-        lines.iter().for_each(|line| calls[index].1(site, black_box(line)));
-        least[index] = least[index].min(start.elapsed().as_nanos() as f64 / lines.len() as f64);
-    }
-    calls.iter().zip(least).for_each(|((name, _), least)| println!("{name} {least:.1}"));
-}
-
 fn main() {
     let arguments: Vec<String> = std::env::args().skip(1).collect();
-    let [how, kind, lines, site] = &arguments[..] else { panic!("usage: bench time|count KIND LINES SITE") };
+    let [kind, lines, site] = &arguments[..] else { panic!("usage: rust KIND LINES SITE") };
     let [lines, site] = [lines, site].map(|path| std::fs::read_to_string(path).unwrap());
-    let (lines, site): (Vec<&str>, Vec<LangTag<'_>>) = (lines.lines().collect(), site.lines().map(tag).collect());
-    let site = Site::new(site);
-    let calls: Vec<(&str, Call)> = CALLS.iter().filter(|call| call.0 == kind).map(|call| (call.1, call.2)).collect();
-    if how == "time" {
-        return time(&calls, &site, &lines);
-    }
-    for (name, call) in calls {
-        lines.iter().for_each(|line| call(&site, line));
-        println!("{name} {}", lines.len());
+    let site: Site<LangTag<'_>> = site.lines().map(tag).collect();
+    for (_, _, call) in CALLS.iter().filter(|call| call.0 == kind) {
+        lines.lines().for_each(|line| call(&site, black_box(line)));
     }
 }

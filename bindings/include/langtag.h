@@ -8,7 +8,7 @@
  *         printf("%.*s\n", (int)parts.script.len, text + parts.script.start); // Hant
  *
  * For every input, each function ends, returns and writes what its comment says, and touches only the memory of its
- * arguments. This is proved if LANGTAG_PROVED is 1. No function allocates, keeps state between calls, calls back,
+ * arguments. This is proved of its source. No function allocates, keeps state between calls, calls back,
  * prints, exits or sets errno. So the functions may be called from several threads at once, and from signal handlers.
  * Time grows linearly with the length of the strings, except for langtag_repeats, langtag_extensions_form,
  * langtag_is_locale, langtag_locale_form, and the calls that take a list of tags. langtag_next_keyword and
@@ -28,8 +28,7 @@
  *      with "(out)" is only written, so it need not be initialised.
  *   4. Memory that a call may write through one argument (an out struct, `rest`, `passed`, a buffer, the bytes of langtag_fold and
  *      langtag_recommend) does not overlap the memory of any other argument. Strings that are only read may overlap.
- *   5. An x86-64 processor has SSE4.2 (x86-64-v2). Any aarch64 processor is supported. Calls follow the C calling
- *      convention of the platform. 4 KiB of the stack is free for each call, and 16 KiB for langtag_repeats,
+ *   5. 4 KiB of the stack is free for each call, and 16 KiB for langtag_repeats,
  *      langtag_extensions_form, langtag_is_locale, langtag_locale_form, langtag_best_for_header, langtag_best_for_ranges,
  *      langtag_match_for_header, langtag_site_best_for_header, langtag_site_best_for_ranges, langtag_site_match_for_header,
  *      langtag_suitable_for_header and langtag_suitable_for_ranges.
@@ -48,11 +47,6 @@
 /* The version of the bindings, and the number in the library's soname, which changes if programs have to be rebuilt. */
 #define LANGTAG_VERSION "0.2.0-dev"
 #define LANGTAG_ABI_VERSION 1
-
-/* 1 in a package whose library was built by the prover, after it had proved the sources. 0 if cargo built the library from the same sources. */
-#ifndef LANGTAG_PROVED
-#define LANGTAG_PROVED 0
-#endif
 
 #ifdef __cplusplus
 extern "C" {
@@ -737,9 +731,10 @@ size_t langtag_site_match_for_header(const char *header, size_t header_len, cons
  * as Java prints it, becomes zh-Hant-TW. As with langtag_canonical, nothing is written if the buffer is too short.
  * Names as Android and .NET write them are read, too: zh-rTW becomes zh-TW, b+sr+Latn becomes sr-Latn, zh-CHT becomes
  * zh-Hant, and sr-SP-Latn becomes sr-Latn-RS. An empty language or region is read as in Java and ICU: _US becomes und-US.
- * Java's no_NO_NY becomes nn-NO.
+ * Last fields of Java and Windows that are no subtags are read: no_NO_NY becomes nn-NO, ja_JP_JP becomes ja-JP-u-ca-japanese,
+ * and de-DE_phoneb becomes de-DE-u-co-phonebk.
  *
- * The codeset is dropped. The modifiers latin, cyrillic, devanagari, iqtelif, valencia, tarask, polyton, ijekavian,
+ * The codeset is dropped. It consists of ASCII letters, digits, `-`, `_` and `.`. The modifiers latin, cyrillic, devanagari, iqtelif, valencia, tarask, polyton, ijekavian,
  * ijekavianlatin and the codes of scripts are used, ignoring case. Extensions come from Java's names and from the keywords
  * of ICU and Apple: de_DE_#u-co-phonebk and de_DE@collation=phonebook become de-DE-u-co-phonebk. Other modifiers are
  * dropped, and so are keywords if one of them cannot be read. If the only variant is
@@ -748,7 +743,8 @@ size_t langtag_site_match_for_header(const char *header, size_t header_len, cons
  *
  * Returns 0 and writes nothing if language and territory do not form a tag (C), or have more than 255 bytes, or 260 with
  * extensions. Also if the language has more than three letters (POSIX, german, night), or if other qualifiers of an
- * Android folder come after the region (en-rGB-land). Also if what follows # is no script and no extension, or if
+ * Android folder come after the region (en-rGB-land). Also if a variant is not registered and the tag is not grandfathered
+ * (nl_NL_formal), or if what follows the dot is no codeset (No. 5). Also if what follows # is no script and no extension, or if
  * extensions would come after an extension or private use.
  */
 size_t langtag_from_posix(const char *name, size_t name_len, char *buffer, size_t buffer_len) LANGTAG_NONNULL;

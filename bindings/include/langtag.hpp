@@ -868,23 +868,7 @@ public:
     }
     template <class Ranges = texts> std::optional<tag> best_for_ranges(const Ranges &) const && = delete;
 
-    /* Return all suitable tags, best first, as the functions with these names do, and in the same time. */
-    std::vector<tag> suitable_for_header(std::string_view header, std::size_t most = all_suitable) const & {
-        return listed_tags(texts_of()).suitable(header, most);
-    }
-    std::vector<tag> suitable_for_header(std::string_view, std::size_t = 0) const && = delete;
-    template <class Ranges = texts> std::vector<tag> suitable_for_ranges(const Ranges &ranges, std::size_t most = all_suitable) const & {
-        return listed_tags(texts_of()).suitable(listed_tags(ranges), most);
-    }
-    template <class Ranges = texts> std::vector<tag> suitable_for_ranges(const Ranges &, std::size_t = 0) const && = delete;
-
 private:
-    std::vector<std::string_view> texts_of() const {
-        std::vector<std::string_view> found;
-        for (const langtag_prepared_tag &it : tags_) found.push_back(std::string_view(text_).substr(it.tag.start, it.tag.len));
-        return found;
-    }
-
     std::optional<tag> at(std::size_t index) const { return index < tags_.size() ? (*this)[index] : std::nullopt; }
 
     /* Returns the prepared tags. The pointer is not null, as data() of an empty vector is. */

@@ -401,10 +401,6 @@ export declare class Site<Tag extends Text = string> {
     /** Returns the best tag for a list of ranges in order of preference, or the last argument. */
     bestForRanges(ranges: List<Text>): Tag | undefined;
     bestForRanges<Otherwise>(ranges: List<Text>, otherwise: Otherwise): Tag | Otherwise;
-    /** Returns all suitable tags for a header, best first, or the `most` best, as the function suitableForHeader does, and in the same time. */
-    suitableForHeader(header: Header, most?: number): Tag[];
-    /** Returns all suitable tags for a list of ranges, best first, or the `most` best, as the function suitableForRanges does. */
-    suitableForRanges(ranges: List<Text>, most?: number): Tag[];
 }
 /**
  * Returns an English name of a tag, made of CLDR's names for the subtags of its locale form, or of its canonical form if it has none:

@@ -26,10 +26,6 @@ export const GRANDFATHERED = Object.freeze([
 export const REGISTRY_DATE = String(calls.registryDate()).replace(/(....)(..)(..)/, "$1-$2-$3");
 /** The version of Unicode's CLDR from which likely subtags, distances and aliases come, such as "48.2". */
 export const CLDR_VERSION = calls.cldrVersion();
-/**
- * Whether the WebAssembly module was linked from the archive that Rattle's prover built after it had proved the sources. It is false if cargo
- * built the module from the same sources.
- */
 const FNV1A = 0xcbf29ce484222325n; // the hash of an empty string
 const KINDS = [undefined, "normal", "private-use", "irregular"];
 const PARTS = ["language", "script", "region", "variants", "extensions", "privateUse"];
@@ -675,14 +671,6 @@ export class Site {
     }
     bestForRanges(ranges, otherwise) {
         return this.#at(calls.siteBestForRanges(rangeTexts(ranges), this.#prepared), otherwise);
-    }
-    /** Returns all suitable tags for a header, best first, or the `most` best, as the function suitableForHeader does, and in the same time. */
-    suitableForHeader(header, most = Infinity) {
-        return suitableForHeader(header, this.tags, most);
-    }
-    /** Returns all suitable tags for a list of ranges, best first, or the `most` best, as the function suitableForRanges does. */
-    suitableForRanges(ranges, most = Infinity) {
-        return suitableForRanges(ranges, this.tags, most);
     }
     #at(index, otherwise) {
         return index < this.tags.length ? this.tags[index] : otherwise;

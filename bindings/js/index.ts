@@ -99,11 +99,6 @@ export const REGISTRY_DATE: string = String(calls.registryDate()).replace(/(....
 /** The version of Unicode's CLDR from which likely subtags, distances and aliases come, such as "48.2". */
 export const CLDR_VERSION: string = calls.cldrVersion();
 
-/**
- * Whether the WebAssembly module was linked from the archive that Rattle's prover built after it had proved the sources. It is false if cargo
- * built the module from the same sources.
- */
-
 const FNV1A = 0xcbf29ce484222325n; // the hash of an empty string
 
 const KINDS: any[] = [undefined, "normal", "private-use", "irregular"];
@@ -917,16 +912,6 @@ export class Site<Tag extends Text = string> {
     bestForRanges<Otherwise>(ranges: List<Text>, otherwise: Otherwise): Tag | Otherwise;
     bestForRanges(ranges: any, otherwise?: any) {
         return this.#at(calls.siteBestForRanges(rangeTexts(ranges), this.#prepared), otherwise);
-    }
-
-    /** Returns all suitable tags for a header, best first, or the `most` best, as the function suitableForHeader does, and in the same time. */
-    suitableForHeader(header: Header, most = Infinity): Tag[] {
-        return suitableForHeader(header, this.tags, most);
-    }
-
-    /** Returns all suitable tags for a list of ranges, best first, or the `most` best, as the function suitableForRanges does. */
-    suitableForRanges(ranges: List<Text>, most = Infinity): Tag[] {
-        return suitableForRanges(ranges, this.tags, most);
     }
 
     #at(index, otherwise) {

@@ -241,7 +241,7 @@ class SecondWays(unittest.TestCase):
             raise KeyError("of the iterator")
 
         site, long = Own(["de"] * 150), b"de-x-" + b"abcdefgh-" * 20 + b"a"
-        self.assertEqual((repr(Own(["de"])), len(site.suitable_for_header("de")), len(site.suitable_for_ranges(["de"], most=3))), ("Own(['de'])", 150, 3))
+        self.assertEqual((repr(Own(["de"])), len(langtag.suitable_for_header("de", site.tags)), len(langtag.suitable_for_ranges(["de"], site.tags, most=3))), ("Own(['de'])", 150, 3))
         self.assertEqual((Found(1, "en", 30, "tlh"), str(Tag(Octets(long)))), (Found(1, "en", 30, "tlh"), long.decode()))
         self.assertRaises(KeyError, langtag.best_for_header, "de", failing())
         self.assertIn(80 * "\u20ac" + "...", str(langtag.InvalidTag(120 * "\u20ac")))

@@ -301,8 +301,8 @@ def answer_best_ranges(ranges, tags):
 
 
 def suitable(call, wanted, tags):
-    """Returns the tags that a call returns for a list and for a site."""
-    return alike(*among(getattr(langtag, call), wanted, tags), getattr(langtag.Site(words(tags)), call)(wanted))
+    """Returns the tags that a call returns for a list and for the tags of a site."""
+    return alike(*among(getattr(langtag, call), wanted, tags), getattr(langtag, call)(wanted, langtag.Site(words(tags)).tags))
 
 
 def told(pairs):

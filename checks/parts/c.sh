@@ -4,6 +4,8 @@ with_make() { make -s -C c ARCHIVE="$archive" "$@"; }
 check "C: tests, static and shared, under sanitizers and valgrind" with_make check BUILD="$work/c"
 needs 'has valgrind && has_header valgrind/callgrind.h' "valgrind is not there, or its headers are not" \
     "C: twice the text takes at most 2.2 times the instructions, and a choice for 8 kB at most what growth.py says" with_make growth BUILD="$work/c"
+needs 'has valgrind && has rustc' "there is no valgrind, or no rustc" \
+    "Benchmarks: the figures are those that are counted" env LANGTAG_ARCHIVE="$work/lib/liblangtag_c.a" "$root/bench/run" --check
 needs 'has clang && has clang++' "it is not there" \
     "C: the same by clang" with_make check CC=clang CXX=clang++ VALGRIND= BUILD="$work/clang"
 check "C: forms, suggestions, distances, choices and refusals of each length to 4,200 bytes, and to 2 MB" with_make sweep BUILD="$work/c"

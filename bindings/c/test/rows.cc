@@ -373,8 +373,7 @@ static std::string best_match_of(const std::string &header, const strings &texts
 }
 
 static std::string suitable_of(const std::string &header, const strings &texts) {
-    const langtag::site site(texts);
-    return alike(langtag::suitable_for_header(header, texts), langtag::suitable_for_header(header, tags_of(texts)), site.suitable_for_header(header));
+    return alike(langtag::suitable_for_header(header, texts), langtag::suitable_for_header(header, tags_of(texts)));
 }
 
 static const std::map<std::string, answer> answers = {
@@ -416,8 +415,7 @@ static const std::map<std::string, answer> answers = {
          return desired && supported ? std::to_string(langtag::distance(*desired, *supported)) : "-";
      }},
     {"suitable-ranges", of_list([](const std::string &ranges, const strings &texts) {
-         const langtag::site site(texts);
-         return alike(langtag::suitable_for_ranges(split(ranges, " "), texts), site.suitable_for_ranges(split(ranges, " ")));
+         return alike(langtag::suitable_for_ranges(split(ranges, " "), texts), langtag::suitable_for_ranges(split(ranges, " "), tags_of(texts)));
      })},
     {"keyword", [](const strings &asked) { return tag::parse(asked[0]) ? shown(tag::parse(asked[0])->keyword(asked[1])) : "-"; }},
 };

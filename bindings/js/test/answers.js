@@ -294,8 +294,8 @@ export const answers = {
     distance: (desired, supported) => shown(made(LanguageTag, desired) && made(LanguageTag, supported) && distance(LanguageTag.parse(desired), supported)),
     best: answerBest, "best-ranges": answerBestRanges, "best-match": answerBestMatch,
     "best-accepted": (header, list) => alike(...among((tags) => AcceptLanguage.lenient(header).best(tags), list)),
-    suitable: (header, list) => alike(...among((tags) => suitableForHeader(header, tags), list), new Site(wordsOf(list)).suitableForHeader(header)),
-    "suitable-ranges": (ranges, list) => alike(...among((tags) => suitableForRanges(wordsOf(ranges), tags), list), new Site(wordsOf(list)).suitableForRanges(wordsOf(ranges))),
+    suitable: (header, list) => alike(...among((tags) => suitableForHeader(header, tags), list), suitableForHeader(header, new Site(wordsOf(list)).tags)),
+    "suitable-ranges": (ranges, list) => alike(...among((tags) => suitableForRanges(wordsOf(ranges), tags), list), suitableForRanges(wordsOf(ranges), new Site(wordsOf(list)).tags)),
     header: answerHeader, elements: answerElements, ranges: (ranges, list) => shown(lookUp(wordsOf(ranges), tagsOf(list))),
     fallbacks: (text) => shown(Array.from(made(LanguageRange, text)?.fallbacks() ?? ["refused"])), edit: answerEdit,
 };

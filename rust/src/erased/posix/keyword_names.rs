@@ -31,9 +31,14 @@ static TYPE_NAMES: [(&str, &str, &str); 17] = [
     ("ks", "quarternary", "level4"), ("ks", "identical", "identic"), ("nu", "traditional", "traditio"),
 ];
 
-/// Returns whether a modifier consists of keywords that can be read.
+/// Returns whether a modifier consists of keywords that can be read. An empty modifier has none.
 #[inline]
 pub(crate) fn are_keywords(modifier: &[u8]) -> bool {
+    !modifier.is_empty() && is_each_keyword(modifier)
+}
+
+#[inline]
+fn is_each_keyword(modifier: &[u8]) -> bool {
     modifier
         .split(|byte| *byte == b';')
         .all(|keyword| is_keyword(keyword))
@@ -93,18 +98,12 @@ fn key_and_type(keyword: &[u8]) -> (&[u8], &[u8]) {
 
 #[inline]
 fn key_named(name: &[u8]) -> &[u8] {
-    match alias_for(key_names(), name) {
-        Some(key) => key.as_bytes(),
-        None => name,
-    }
+    alias_for(key_names(), name).map_or(name, |key| key.as_bytes())
 }
 
 #[inline]
 fn type_named<'a>(key: &[u8], name: &'a [u8]) -> &'a [u8] {
-    match type_alias_for(type_names(), key, name) {
-        Some(value) => value.as_bytes(),
-        None => name,
-    }
+    type_alias_for(type_names(), key, name).map_or(name, |value| value.as_bytes())
 }
 
 #[inline]
