@@ -19,7 +19,7 @@ def canonical(text: str) -> str:
     tag = Tag(text)
     if tag.invalid_subtag is not None:
         raise ValueError(f"{text}: {tag.invalid_subtag}")
-    return str(tag.canonical().recommended())
+    return str(tag.canonical())
 
 
 def links(address: str, tags: Iterable[str]) -> list[str]:

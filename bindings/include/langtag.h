@@ -467,9 +467,9 @@ size_t langtag_suggestion(uint32_t fault, const char *subtag, size_t subtag_len,
                           size_t buffer_len) LANGTAG_NONNULL;
 
 /*
- * Writes the canonical form of a tag to `buffer` (RFC 5646 section 4.5), and returns its length: iw becomes he, zh-yue
- * becomes yue, art-lojban becomes jbo, en-b-ccc-a-aaa becomes en-a-aaa-b-ccc. It uses the registry whose
- * date langtag_registry_date returns.
+ * Writes the canonical form of a tag to `buffer` (RFC 5646 section 4.5) in the recommended case (section 2.1.1), and returns
+ * its length: iw becomes he, DE-at becomes de-AT, zh-yue becomes yue, art-lojban becomes jbo, en-b-ccc-a-aaa becomes
+ * en-a-aaa-b-ccc. It uses the registry whose date langtag_registry_date returns.
  *
  *     char buffer[64];
  *     size_t len = langtag_canonical("en-BU", 5, buffer, sizeof buffer);
@@ -479,7 +479,7 @@ size_t langtag_suggestion(uint32_t fault, const char *subtag, size_t subtag_len,
  * written. The form may be longer than the tag: heploc becomes alalc97. No NUL is written, and bytes after the form
  * are left unchanged.
  *
- * Replacements are in the registry's case, everything else keeps its case, and variants keep their order. Step 2 of
+ * Tags that differ only in case have the same form, byte for byte. Variants keep their order. Step 2 of
  * section 4.5 is repeated after step 3, so that canonicalizing a form again changes nothing: sgn-DD becomes gsg. The
  * tag need not be valid: subtags that are not registered stay, and so do two extended languages and the language
  * before them.

@@ -245,7 +245,8 @@ public:
     }
     bool is_valid() const noexcept { return !invalid_subtag(); }
 
-    /* Returns the canonical form (RFC 5646 section 4.5), according to the registry of registry_date: iw becomes he. */
+    /* Returns the canonical form (RFC 5646 section 4.5) in the recommended case, according to the registry of registry_date: IW-il becomes
+       he-IL. */
     std::string canonical() const { return written(langtag_canonical); }
 
     /* Return the tag with its likely subtags (UTS #35), and without them: zh-TW becomes zh-Hant-TW, and zh-Hant-TW becomes zh-TW.

@@ -190,7 +190,7 @@ export declare class LanguageTag {
     get invalidSubtag(): InvalidSubtag | undefined;
     /** Whether the tag equals its canonical form, ignoring case. */
     get isCanonical(): boolean;
-    /** Returns the canonical form (RFC 5646 section 4.5) according to that registry: iw becomes he, zh-yue becomes yue. */
+    /** Returns the canonical form (RFC 5646 section 4.5) in the recommended case, according to that registry: iw becomes he. */
     canonical(): LanguageTag;
     /**
      * Returns the tag with its likely subtags (UTS #35): zh-TW becomes zh-Hant-TW. Deprecated subtags stay, and get the

@@ -321,7 +321,7 @@ export class LanguageTag {
     get isCanonical() {
         return calls.isCanonical(this.text);
     }
-    /** Returns the canonical form (RFC 5646 section 4.5) according to that registry: iw becomes he, zh-yue becomes yue. */
+    /** Returns the canonical form (RFC 5646 section 4.5) in the recommended case, according to that registry: iw becomes he. */
     canonical() {
         return new LanguageTag(calls.canonical(this.text));
     }
@@ -702,7 +702,7 @@ function languageName(code) {
 /** Returns the form of a tag whose subtags have the names: de for ger. */
 function named(tag) {
     const read = tagOf(tag);
-    return (read.localeForm() ?? read.canonical()).toRecommended();
+    return read.localeForm() ?? read.canonical();
 }
 /**
  * Returns an English name of a tag, made of CLDR's names for the subtags of its locale form, or of its canonical form if it has none:

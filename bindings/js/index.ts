@@ -458,7 +458,7 @@ export class LanguageTag {
         return calls.isCanonical(this.text);
     }
 
-    /** Returns the canonical form (RFC 5646 section 4.5) according to that registry: iw becomes he, zh-yue becomes yue. */
+    /** Returns the canonical form (RFC 5646 section 4.5) in the recommended case, according to that registry: iw becomes he. */
     canonical(): LanguageTag {
         return new LanguageTag(calls.canonical(this.text));
     }
@@ -947,7 +947,7 @@ function languageName(code: string): string | undefined {
 /** Returns the form of a tag whose subtags have the names: de for ger. */
 function named(tag: Text): LanguageTag {
     const read = tagOf(tag);
-    return (read.localeForm() ?? read.canonical()).toRecommended();
+    return read.localeForm() ?? read.canonical();
 }
 
 /**

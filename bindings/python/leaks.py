@@ -41,7 +41,7 @@ def values():
     made = [Tag("de-CH"), Tag(b"de"), Tag(text="en"), Tag(Tag("fr")), Range(Range("de-*")), Tag("de-" + "abcde-" * 1000 + "x-a")]
     for value in made:
         copy.deepcopy(value), weakref.ref(value)(), f"{value:>9}", value == 5, value == made[0], value != made[4]
-    sorted(made[:4]), Named("en", 2), made[0].key(), Lying("x-a").locale_form()
+    sorted(made[:4]), Named("en", 2), made[0].canonical(), Lying("x-a").locale_form()
 
 
 def choices():

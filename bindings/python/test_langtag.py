@@ -274,7 +274,7 @@ class Edits(unittest.TestCase):
             pass
 
         forms = (Tag.recommended, Tag.canonical, Tag.maximized, Tag.minimized, Tag.extensions_form)
-        for text, others in (("de-Latn-DE", [3]), ("DE-latn-de", [0, 3]), ("iw", [1, 2]), ("x-a", []), ("de-u-nu-thai-ca-roc", [2, 4])):
+        for text, others in (("de-Latn-DE", [3]), ("DE-latn-de", [0, 1, 3]), ("iw", [1, 2]), ("x-a", []), ("de-u-nu-thai-ca-roc", [2, 4])):
             tag, own = Tag(text), Own(text)
             self.assertEqual([number for number, form in enumerate(forms) if form(tag) is not tag], others)
             self.assertEqual({type(form(own)) for form in forms}, {Tag})
@@ -328,7 +328,7 @@ class WrongCalls(unittest.TestCase):
 INTERPRETED = """
 import langtag
 tag = langtag.Tag("zh-Hant-TW")
-assert tag.script == "Hant" and tag == langtag.Tag("ZH-hant-tw") and langtag.Tag("iw").key() == "he"
+assert tag.script == "Hant" and tag == langtag.Tag("ZH-hant-tw") and str(langtag.Tag("IW").canonical()) == "he"
 try:
     langtag.Tag("de_CH")
 except langtag.InvalidTag:
@@ -448,7 +448,7 @@ class Threads(unittest.TestCase):
 class Help(unittest.TestCase):
     def test_that_it_shows_the_calls(self):
         said = pydoc.render_doc(langtag, renderer=pydoc.plaintext)
-        for name in ("matches_basic", "canonical", "extensions_form", "locale_form", "is_locale", "keywords", "key", "tag_for_header_lenient", "viable_len", "invalid_subtag", "private_use"):
+        for name in ("matches_basic", "canonical", "extensions_form", "locale_form", "is_locale", "keywords", "tag_for_header_lenient", "viable_len", "invalid_subtag", "private_use"):
             self.assertIn(name, said)
         for name in ("with_traceback", "__getnewargs__", "_asdict", "add_note"):
             self.assertNotIn(f" {name}(", said)

@@ -418,6 +418,12 @@ def named_parts(name):
 
 
 def posix(name):
+    """Returns the tag for the name of a locale, in the case of RFC 5646 section 2.1.1, or "-" if it has none."""
+    tag = named_tag(name)
+    return tag if tag == "-" else answers.registry_oracle().recommended(tag)
+
+
+def named_tag(name):
     modifier, behind = name.partition("@")[2], re.split("[.@]", name)[0].partition("#")[2]
     if not re.fullmatch(r"[^.]*|[^.]*\.[A-Za-z0-9._-]+", name.partition("@")[0], re.S):
         return "-"

@@ -73,7 +73,11 @@ class Registry:
         return self.fault(found) if found else "none"
 
     def canonical(self, text):
-        """Returns the canonical form (section 4.5): by a whole tag (step 2), or else by the parts (steps 1 and 3) and step 2 once
+        """Returns the canonical form (section 4.5) in the case of section 2.1.1."""
+        return recommended(self.steps(text))
+
+    def steps(self, text):
+        """Returns a tag after the steps of section 4.5: by a whole tag (step 2), or else by the parts (steps 1 and 3) and step 2 once
         more."""
         if self.whole(text):
             return self.whole(text)
@@ -142,6 +146,15 @@ class Registry:
         out = [self.field("language", name, text) for name in ("Preferred-Value", "Macrolanguage", "Suppress-Script")]
         prefixes = self.prefixes.get(("extlang", text.lower()), [None])
         return " ".join(it or "-" for it in out + prefixes * (len(text) == 3))
+
+
+def recommended(text):
+    """Returns a tag in the case of section 2.1.1: regions in uppercase and scripts in titlecase, but not at the beginning and behind
+    a singleton."""
+    subtags = text.lower().split("-")
+    plain = next((index for index, subtag in enumerate(subtags) if len(subtag) == 1), len(subtags))
+    cased = [it.upper() if len(it) == 2 else it.capitalize() if len(it) == 4 else it for it in subtags[1:plain]]
+    return "-".join(subtags[:1] + cased + subtags[max(plain, 1):])
 
 
 def subtags_of(found):

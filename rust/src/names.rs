@@ -71,9 +71,7 @@ pub fn describe<'a>(tag: impl Into<LangTag<'a>>) -> String {
 
 /// Returns the form of a tag whose subtags have the names: `de` for `ger`, as in [`LangTag::locale_form`].
 fn form_of(tag: LangTag<'_>) -> LangTagBuf {
-    let mut form = tag.locale_form().unwrap_or_else(|| tag.canonical());
-    form.make_recommended_case();
-    form
+    tag.locale_form().unwrap_or_else(|| tag.canonical())
 }
 
 /// Returns the subtags that a name has in parentheses.

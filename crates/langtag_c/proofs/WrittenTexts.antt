@@ -12,6 +12,8 @@ use Rattle.langtag_registry.specs.Canonical.{IsCanonicalForm}
 use Rattle.langtag_likely.proofs.Definitions.{IsMaximalForm, IsMinimalForm, maximal_record, minimal_record}
 use Rattle.langtag_posix.proofs.Definitions.{text_of_name, IsTagOfName, NamesTag, with_said, IsPosixName}
 use Rattle.langtag.proofs.FormLaws.{form_is_tag}
+use Rattle.langtag_scan.proofs.CaseLaw.{alike_tag}
+use Rattle.langtag_text.proofs.RecommendedLaws.{alike_of_recommended}
 use Rattle.langtag_likely.proofs.GoodForms.{maximal_well_formed, minimal_well_formed}
 use Rattle.langtag_posix.proofs.PosixLaws.{said_well_formed}
 use Rattle.langtag_posix.proofs.PosixNameRead.{one_name, some_name}
@@ -24,7 +26,7 @@ use Rattle.langtag_locale.specs.LocaleForm.{IsWholeForm}
 use Rattle.langtag_cldr.specs.Suggestion.{suggested_language, suggested_region}
 use Rattle.langtag_c.specs.Validity.{suggested}
 use Rattle.langtag_cldr.proofs.RowLaws.{utf8_name}
-use Rattle.langtag_registry.proofs.CanonicalParts as canonical
+use Rattle.langtag_registry.proofs.CanonicalCase as canonical
 
 -- ---- a key and a value are UTF-8
 
@@ -55,7 +57,7 @@ some_written key value old before after len w normal zero = absurd (omega (arith
 -- ---- the forms of a tag, and the tag of a name, are not empty
 
 pub some_canonical : (old new : List ℕ) → IsTag old → IsCanonicalForm old new → 1 ≤ length new
-some_canonical old new tag is = some_tag new (canonical.form_is_tag old new tag is)
+some_canonical old new tag is = some_tag new (canonical.canonical_is_tag old new tag is)
 
 pub some_maximal : (old new : List ℕ) → IsTag old → IsMaximalForm old new → 1 ≤ length new
 some_maximal old new tag is = some_tag new (form_is_tag maximal_record maximal_well_formed old new tag is)
@@ -67,7 +69,9 @@ pub some_extensions : (old new : List ℕ) → IsTag old → IsExtensionsForm ol
 some_extensions old new tag is = some_tag new (form_is_tag extensions_record form_well_formed old new tag is)
 
 pub some_named : (name new : List ℕ) → NamesTag name → IsTagOfName name new → 1 ≤ length new
-some_named name new names is = some_tag new (form_is_tag (with_said name) (said_well_formed name) (text_of_name name) new names.read.tag is)
+some_named name new names is =
+    let tag = form_is_tag (with_said name) (said_well_formed name) (text_of_name name) is.form names.read.tag is.said in
+    some_tag new (alike_tag is.form new (alike_of_recommended is.form new is.case) tag)
 
 pub some_locale : (old new : List ℕ) → IsWholeForm old (Some new) → 1 ≤ length new
 some_locale old new is = let (r, fits, locale, same) = whole_of_record old new is in some_tag new (subst IsTag (sym same) (locale_tag r fits locale))

@@ -1,15 +1,15 @@
 //! The canonical form of a tag, in the caller's buffer (RFC 5646 section 4.5).
 ghost use Rattle.std.specs.Prelude.{◌≡◌, ◌↔◌, ◌<◌, length, true};
 ghost use Rattle.langtag_scan.specs.Grammar.{IsTag};
-ghost use Rattle.langtag_registry.specs.Canonical.{IsCanonicalForm};
+ghost use Rattle.langtag_registry.specs.Canonical.{IsCanonicalForm, IsReplacedForm};
 ghost use Rattle.langtag.specs.Definitions.{WritesWhole};
 
 use crate::tag::tag_of;
 use langtag_registry::{is_canonical, write_canonical};
 
-/// Writes the canonical form of a tag to `buffer` (RFC 5646 section 4.5), and returns its length: iw becomes he, zh-yue
-/// becomes yue, art-lojban becomes jbo, en-b-ccc-a-aaa becomes en-a-aaa-b-ccc. It uses the registry whose
-/// date `langtag_registry_date` returns.
+/// Writes the canonical form of a tag to `buffer` (RFC 5646 section 4.5) in the recommended case (section 2.1.1), and returns
+/// its length: iw becomes he, DE-at becomes de-AT, zh-yue becomes yue, art-lojban becomes jbo, en-b-ccc-a-aaa becomes
+/// en-a-aaa-b-ccc. It uses the registry whose date `langtag_registry_date` returns.
 ///
 /// ```c
 /// char buffer[64];
@@ -21,7 +21,7 @@ use langtag_registry::{is_canonical, write_canonical};
 /// written. The form may be longer than the tag: heploc becomes alalc97. No NUL is written, and bytes after the form
 /// are left unchanged.
 ///
-/// Replacements are in the registry's case, everything else keeps its case, and variants keep their order. Step 2 of
+/// Tags that differ only in case have the same form, byte for byte. Variants keep their order. Step 2 of
 /// section 4.5 is repeated after step 3, so that canonicalizing a form again changes nothing: sgn-DD becomes gsg. The
 /// tag need not be valid: subtags that are not registered stay, and so do two extended languages and the language
 /// before them.
@@ -45,7 +45,7 @@ pub extern "C" fn langtag_canonical(bytes: &[u8], buffer: &mut [u8]) -> usize
 /// for en-b-ccc-a-aaa, and for a string that is not a tag.
 #[unsafe(no_mangle)]
 pub extern "C" fn langtag_is_canonical(bytes: &[u8]) -> bool
-    ensures { (result ≡ true) ↔ (IsTag bytes.now × IsCanonicalForm bytes.now bytes.now) }
+    ensures { (result ≡ true) ↔ (IsTag bytes.now × IsReplacedForm bytes.now bytes.now) }
 {
     match tag_of(bytes) {
         Some(tag) => is_canonical(tag),

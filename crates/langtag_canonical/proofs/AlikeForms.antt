@@ -3,7 +3,7 @@ use Rattle.langtag_scan.proofs.Prelude.{◌≡◌, ℕ, List, [], ◌∷◌, map
 use Rattle.langtag_scan.specs.Grammar.{fold_extension, fold_record, AlikeRecords, fold_text, Alike, fold_byte, Extension, Record, spell, IsWellFormed, IsNormal}
 use Rattle.langtag_scan.proofs.CaseLaw.{alike_normal, alike_parts, fold_byte-twice, fold_text-twice, map-twice, spelled_alike, fold_extension-twice}
 use Rattle.langtag.specs.Registered.{IsGrandfathered}
-use Rattle.langtag_canonical.specs.Canonical.{in_order, canonical_primary, canonical_extended, canonical_region, canonical_variants, canonical_record, IsCanonicalForm}
+use Rattle.langtag_canonical.specs.Canonical.{in_order, canonical_primary, canonical_extended, canonical_region, canonical_variants, canonical_record, IsReplacedForm}
 use Rattle.langtag_fields.specs.Fields.{preferred_region, preferred_variant, preferred_tag}
 use Rattle.langtag_canonical.proofs.ReplacedSubtags.{replaced-alike, IgnoresCase, ignore_case, extlang-alike, extlang_small, replaced, IsSettled, language_settled, region_settled, variant_settled}
 use Rattle.langtag_canonical.proofs.OneForm.{Way, as_whole, as_it_is, by_parts, way_of}
@@ -43,7 +43,7 @@ canonical_record-alike r q alike = sym (canonical_record-fold r) ∙ ap (λ z. f
 
 -- ---- alike texts
 
-pub alike_forms : (old other new newer : List ℕ) → Alike old other → IsCanonicalForm old new → IsCanonicalForm other newer → Alike new newer
+pub alike_forms : (old other new newer : List ℕ) → Alike old other → IsReplacedForm old new → IsReplacedForm other newer → Alike new newer
 alike_forms old other new newer alike p q = by_way (way_of old)
   where
     same : preferred_tag other ≡ preferred_tag old
@@ -100,13 +100,13 @@ alike_record_stays r q well alike stays =
 
 -- ---- the text
 
-pub canonical_in_any_case : (text other : List ℕ) → Alike text other → IsCanonicalForm text text → IsCanonicalForm other other
+pub canonical_in_any_case : (text other : List ℕ) → Alike text other → IsReplacedForm text text → IsReplacedForm other other
 canonical_in_any_case text other alike p = by_way (way_of other)
   where
     same : preferred_tag text ≡ preferred_tag other
     same = preferred_tag-alike text other alike
 
-    by_way : Way other → IsCanonicalForm other other
+    by_way : Way other → IsReplacedForm other other
     by_way (as_whole w is) = absurd (preferred_goes text w (same ∙ is) p)
     by_way (as_it_is none why) = kept_form other other none why refl
     by_way (by_parts none new q spells) =

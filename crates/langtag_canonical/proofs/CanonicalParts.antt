@@ -5,7 +5,7 @@ use Rattle.langtag_scan.proofs.NormalTexts.{spelled_once}
 use Rattle.langtag.specs.Registered.{IsGrandfathered}
 use Rattle.langtag_text.specs.Writes.{Writes}
 use Rattle.langtag_text.specs.WritesWhole.{WritesWhole}
-use Rattle.langtag_canonical.specs.Canonical.{canonical_primary, canonical_extended, canonical_region, canonical_variants, in_order, canonical_record, canonical_text, IsCanonicalForm}
+use Rattle.langtag_canonical.specs.Canonical.{canonical_primary, canonical_extended, canonical_region, canonical_variants, in_order, canonical_record, canonical_text, IsReplacedForm}
 use Rattle.langtag_fields.specs.Fields.{preferred_tag}
 use Rattle.langtag_canonical.proofs.TwiceLaws.{whole_settled, preferred_record_stays, form_of, whole_form, own_form, parts_form, again_form, canonical_record_well_formed}
 use Rattle.langtag_fields.proofs.WholeTags.{record_of, preferred_spelled, preferred_is_tag}
@@ -28,17 +28,17 @@ parts_stay r same = grind (arith, common_steps)
 
 -- ---- what a tag becomes
 
-pub kept_form : (old new : List ℕ) → preferred_tag old ≡ None → IsGrandfathered old ⊎ (IsNormal old → ⊥) → new ≡ old → IsCanonicalForm old new
+pub kept_form : (old new : List ℕ) → preferred_tag old ≡ None → IsGrandfathered old ⊎ (IsNormal old → ⊥) → new ≡ old → IsReplacedForm old new
 unfolding IsNormal
 kept_form old new none why same = grind (arith, common_steps)
 
 pub record_form :
-    (old new : List ℕ) (r : Record) → preferred_tag old ≡ None → (IsGrandfathered old → ⊥) → Spells r old → new ≡ canonical_text r → IsCanonicalForm old new
+    (old new : List ℕ) (r : Record) → preferred_tag old ≡ None → (IsGrandfathered old → ⊥) → Spells r old → new ≡ canonical_text r → IsReplacedForm old new
 unfolding IsNormal
 record_form old new r none other spells same = grind (arith, common_steps, spelled_once r)
 
 -- it is a tag, as the text that it is of
-pub form_is_tag : (old new : List ℕ) → IsTag old → IsCanonicalForm old new → IsTag new
+pub form_is_tag : (old new : List ℕ) → IsTag old → IsReplacedForm old new → IsTag new
 unfolding IsTag IsNormal preferred_tag
 form_is_tag old new is p =
     elim (form_of old new p) [
@@ -50,13 +50,13 @@ form_is_tag old new is p =
 
 -- a text that was written is written as the canonical form that it is
 pub form_written :
-    (old text before after : List ℕ) (len : ℕ) → len < 18446744073709551616 → IsCanonicalForm old text → Writes (λ new. new ≡ text) before after len →
-    WritesWhole (IsCanonicalForm old) before after len
+    (old text before after : List ℕ) (len : ℕ) → len < 18446744073709551616 → IsReplacedForm old text → Writes (λ new. new ≡ text) before after len →
+    WritesWhole (IsReplacedForm old) before after len
 form_written old text before after len fits is w = grind (arith, common_steps)
 
 -- ---- where it is its own canonical form
 
-pub preferred_goes : (text new : List ℕ) → preferred_tag text ≡ Some new → IsCanonicalForm text text → ⊥
+pub preferred_goes : (text new : List ℕ) → preferred_tag text ≡ Some new → IsReplacedForm text text → ⊥
 preferred_goes text new found is =
     let none : preferred_tag text ≡ None = ap preferred_tag (is.whole new found) ∙ whole_settled text new found in
     absurd cc

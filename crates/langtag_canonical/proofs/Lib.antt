@@ -1,8 +1,10 @@
 pub mod AlikeForms
+pub mod CanonicalCase
 pub mod CanonicalParts
 pub mod ExtensionOrder
 pub mod ExtlangForms
 pub mod OneForm
 pub mod ReplacedSubtags
 pub mod TwiceLaws
+pub mod ValidCase
 pub mod ValidForms

@@ -1,12 +1,13 @@
 -- A text has one canonical form. Specifications of other crates may reach this page, so it imports no page on code.
-use Rattle.langtag_scan.proofs.Prelude.{◌≡◌, ℕ, ◌⊎◌, List, Option, None, Some, inl, inr, refl, sym, ◌∙◌, position}
+use Rattle.langtag_scan.proofs.Prelude.{◌≡◌, ℕ, ◌⊎◌, List, Option, None, Some, inl, inr, refl, sym, ap, ◌∙◌, position}
 use Rattle.langtag_scan.specs.Grammar.{Record, Spells, IsNormal, are_alike}
 use Rattle.langtag_scan.proofs.NormalTexts.{normal_or_not}
 use Rattle.langtag.specs.Registered.{IsGrandfathered, text_of}
 use Rattle.langtag.specs.declared.grandfathered.TheConstants.{GRANDFATHERED}
 use Rattle.langtag.proofs.RegisteredLaws.{first_alike_found, none_alike}
 use Rattle.langtag_fields.specs.Fields.{preferred_tag}
-use Rattle.langtag_canonical.specs.Canonical.{IsCanonicalForm}
+use Rattle.langtag_text.specs.RecommendedCase.{recommended_text}
+use Rattle.langtag_canonical.specs.Canonical.{IsReplacedForm, IsCanonicalForm}
 
 is_grandfathered : (text : List ℕ) → IsGrandfathered text ⊎ (IsGrandfathered text → ⊥)
 unfolding IsGrandfathered
@@ -33,10 +34,13 @@ way_of old = by_whole (preferred_tag old) refl (is_grandfathered old) (normal_or
     by_whole None none (inr new) (inr other) = as_it_is none (inr other)
 
 -- two canonical forms of a text are equal
-pub one_form : (old new other : List ℕ) → IsCanonicalForm old new → IsCanonicalForm old other → new ≡ other
+pub one_form : (old new other : List ℕ) → IsReplacedForm old new → IsReplacedForm old other → new ≡ other
 one_form old new other p q =
     elim (way_of old) [
       | as_whole w is ↦ p.whole w is ∙ sym (q.whole w is)
       | as_it_is none why ↦ p.kept none why ∙ sym (q.kept none why)
       | by_parts none new r spells ↦ p.parts none new r spells ∙ sym (q.parts none new r spells)
     ]
+
+pub one_canonical : (old new other : List ℕ) → IsCanonicalForm old new → IsCanonicalForm old other → new ≡ other
+one_canonical old new other p q = p.case ∙ ap recommended_text (one_form old p.form q.form p.steps q.steps) ∙ sym q.case

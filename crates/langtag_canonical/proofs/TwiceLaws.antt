@@ -2,7 +2,7 @@
 use Rattle.langtag_scan.proofs.Prelude.{◌≡◌, ℕ, ◌≤◌, ◌⊎◌, List, [], length, IsTrue, arith, true, Bool, not, ◌&&◌, ◌∷◌, Option, None, Some, is_some, unwrap_or, refl, sym, ap, subst, ◌∙◌, rules, AllByRecursion, list_all, common_steps, option_map_or, and_parts, nat_tests}
 use Rattle.langtag_scan.specs.Grammar.{is_primary, is_extended, Record, IsWellFormed, IsWellFormedExtension, Spells, spell, EachRecord, fold_byte, IsNormal}
 use Rattle.langtag_canonical.proofs.OneForm.{Way, as_whole, as_it_is, by_parts, way_of}
-use Rattle.langtag_canonical.specs.Canonical.{canonical_primary, canonical_extended, canonical_record, canonical_variants, in_order, IsCanonicalForm}
+use Rattle.langtag_canonical.specs.Canonical.{canonical_primary, canonical_extended, canonical_record, canonical_variants, in_order, IsReplacedForm}
 use Rattle.langtag_fields.specs.Fields.{preferred_region, preferred_variant, preferred_language, preferred_tag}
 use Rattle.langtag_text.proofs.Letters.{extended_primary}
 use Rattle.langtag_canonical.proofs.ExtensionOrder.{key, sorted_by-each, in_order-twice}
@@ -51,7 +51,7 @@ stays text =
 
 -- ---- a text that is its own canonical form
 
-pub itself : (text : List ℕ) (r : Record) → preferred_tag text ≡ None → Spells r text → canonical_record r ≡ r → IsCanonicalForm text text
+pub itself : (text : List ℕ) (r : Record) → preferred_tag text ≡ None → Spells r text → canonical_record r ≡ r → IsReplacedForm text text
 itself text r none spells same = record {
   whole = λ w is. absurd cc;
   kept = λ _ _. refl;
@@ -73,7 +73,7 @@ pub preferred_record_stays : (text new : List ℕ) → preferred_tag text ≡ So
 unfolding canonical_record in_order
 preferred_record_stays text new is = grind (arith, nat_tests, simple_record new, and_parts, stays_of text new is, none_from_test, variants_stay)
 
-pub preferred_itself : (text new : List ℕ) → preferred_tag text ≡ Some new → IsCanonicalForm new new
+pub preferred_itself : (text new : List ℕ) → preferred_tag text ≡ Some new → IsReplacedForm new new
 preferred_itself text new is = search (rules, itself, whole_settled, preferred_spelled, preferred_record_stays)
 
 -- ---- every text
@@ -85,7 +85,7 @@ pub data Form (old new : List ℕ) : Type 0 where
   parts_form : (IsGrandfathered old → ⊥) → (r : Record) → Spells r old → Spells (canonical_record r) new → preferred_tag new ≡ None → Form old new
   again_form : (r : Record) → Spells r old → preferred_tag (spell (canonical_record r)) ≡ Some new → Form old new
 
-pub form_of : (old new : List ℕ) → IsCanonicalForm old new → Form old new
+pub form_of : (old new : List ℕ) → IsReplacedForm old new → Form old new
 form_of old new p = by_way (way_of old)
   where
     by_text : (IsGrandfathered old → ⊥) → (r : Record) → Spells r old → (o : Option (List ℕ)) → preferred_tag (spell (canonical_record r)) ≡ o → new ≡ unwrap_or o (spell (canonical_record r)) → Form old new
@@ -102,11 +102,11 @@ pub each_from_one : (P : Record → Type 0) (text : List ℕ) (r : Record) → S
 each_from_one P text r spells holds q other = subst P (spelled_once r q spells.0 other.0 (spells.1 ∙ sym other.1)) holds
 
 -- a canonical form is its own
-pub form_twice : (old new : List ℕ) → IsCanonicalForm old new → IsCanonicalForm new new
+pub form_twice : (old new : List ℕ) → IsReplacedForm old new → IsReplacedForm new new
 form_twice old new p =
     elim (form_of old new p) [
       | whole_form is ↦ preferred_itself old new is
-      | own_form none why same ↦ subst (λ z. IsCanonicalForm z new) (sym same) p
+      | own_form none why same ↦ subst (λ z. IsReplacedForm z new) (sym same) p
       | parts_form new_one r spells becomes none ↦ itself new (canonical_record r) none becomes (canonical_record-twice r)
       | again_form r spells is ↦ preferred_itself _ new is
     ]

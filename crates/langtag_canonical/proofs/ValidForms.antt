@@ -5,7 +5,7 @@ use Rattle.langtag_scan.proofs.Prelude.{◌≡◌, ℕ, ◌≤◌, true, Bool, l
 use Rattle.langtag_scan.proofs.Laws.{alike_parts, spelled_segments, spelled_once, each_from_test}
 use Rattle.langtag.specs.Registered.{IsGrandfathered, IsGrandfatheredAt}
 use Rattle.langtag.specs.Repeat.{repeat}
-use Rattle.langtag_canonical.specs.Canonical.{canonical_variants, preferred_extlang, canonical_extended, canonical_record, IsCanonicalForm}
+use Rattle.langtag_canonical.specs.Canonical.{canonical_variants, preferred_extlang, canonical_extended, canonical_record, IsReplacedForm}
 use Rattle.langtag_fields.specs.Entry.{Entry, value_for}
 use Rattle.langtag_fields.specs.Fields.{preferred_tag}
 use Rattle.langtag_fields.specs.Subtags.{tag_preferred}
@@ -98,7 +98,7 @@ preferred_valid text new is =
 -- ---- every valid tag
 
 -- where no two variants become the same, the canonical form is valid
-pub valid_form : (old new : List ℕ) → IsValid old → EachRecord old AreApart → IsCanonicalForm old new → IsValid new
+pub valid_form : (old new : List ℕ) → IsValid old → EachRecord old AreApart → IsReplacedForm old new → IsValid new
 unfolding IsValid
 valid_form old new valid once p =
     elim (form_of old new p) [
@@ -123,7 +123,7 @@ apart_where_valid r text spells valid =
       | inr each ↦ (each (canonical_record r) spells).no_repeated_variant
     ]
 
-pub apart_form : (old new : List ℕ) → IsCanonicalForm old new → IsValid new → EachRecord old AreApart
+pub apart_form : (old new : List ℕ) → IsReplacedForm old new → IsValid new → EachRecord old AreApart
 unfolding IsNormal
 apart_form old new p valid =
     elim (form_of old new p) [
@@ -171,7 +171,7 @@ grandfathered_none old none other (k, (entry, at, alike)) = λ r spells.
 preferred_none : (text new : List ℕ) → preferred_tag text ≡ Some new → EachRecord new HasNone
 preferred_none text new is = each_from_one HasNone new (record_of new) (preferred_spelled text new is) (simple_record new).extended
 
-pub no_extlang_form : (old new : List ℕ) → IsValid old → (Alike (codes "zh-min") new → ⊥) → IsCanonicalForm old new → EachRecord new HasNone
+pub no_extlang_form : (old new : List ℕ) → IsValid old → (Alike (codes "zh-min") new → ⊥) → IsReplacedForm old new → EachRecord new HasNone
 unfolding IsValid IsNormal canonical_record
 no_extlang_form old new valid other p =
     elim (form_of old new p) [

@@ -3,6 +3,7 @@ use Rattle.std.specs.Prelude.{◌≡◌, ℕ, ◌==◌, ltb, ◌⊎◌, Bool, Li
 use Rattle.langtag_scan.specs.Prelude.{option_map_or}
 use Rattle.langtag_scan.specs.Grammar.{are_alike, fold_byte, Extension, Record, EachRecord, spell, IsNormal}
 use Rattle.langtag.specs.Definitions.{IsGrandfathered}
+use Rattle.langtag_text.specs.RecommendedCase.{recommended_text}
 use Rattle.langtag_fields.specs.Fields.{preferred_language, preferred_region, preferred_variant, preferred_tag, extlang_prefix}
 use Rattle.langtag_fields.specs.Registered.{is_registered_extlang}
 use Rattle.langtag_fields.specs.Subtags.{extlang_subtags}
@@ -69,13 +70,19 @@ canonical_record r = record r {
 abbrev pub canonical_text : Record → List ℕ
 canonical_text r = unwrap_or (preferred_tag (spell (canonical_record r))) (spell (canonical_record r))
 
--- `new` is the canonical form of `old` by RFC 5646; CLDR replaces more. A tag that has a Preferred-Value as a whole
+-- `new` is `old` after the steps of section 4.5; CLDR replaces more. A tag that has a Preferred-Value as a whole
 -- becomes this value. Any other grandfathered tag stays, and so does a tag that is not normal. Any other tag becomes
 -- the canonical text of its record
-pub record IsCanonicalForm (old new : List ℕ) : Type 0 where
+pub record IsReplacedForm (old new : List ℕ) : Type 0 where
   pub whole : (w : List ℕ) → preferred_tag old ≡ Some w → new ≡ w
   pub kept : preferred_tag old ≡ None → IsGrandfathered old ⊎ (IsNormal old → ⊥) → new ≡ old
   pub parts : preferred_tag old ≡ None → (IsGrandfathered old → ⊥) → EachRecord old (λ r. new ≡ canonical_text r)
+
+-- `new` is the canonical form of `old` by RFC 5646: the tag after the steps, in the case that section 2.1.1 recommends
+pub record IsCanonicalForm (old new : List ℕ) : Type 0 where
+  pub form : List ℕ
+  pub steps : IsReplacedForm old form
+  pub case : new ≡ recommended_text form
 
 -- ---- the extlang form: the canonical form, in which a language that is also registered as an extended language gets
 -- its Prefix before it (section 3.1.8). A tag with three extended subtags, which is never valid, has no room for a

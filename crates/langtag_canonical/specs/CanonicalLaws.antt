@@ -9,9 +9,9 @@ use Rattle.langtag_fields.specs.Valid.{IsValid}
 abbrev pub IsOnlyCanonicalForm : List ℕ → List ℕ → Type 0
 IsOnlyCanonicalForm old new = (form : List ℕ) → IsCanonicalForm old form → form ≡ new
 
--- if a text equals `old`, ignoring case, then its canonical form equals `new`, ignoring case
-abbrev pub IsAlikeCanonicalForm : List ℕ → List ℕ → Type 0
-IsAlikeCanonicalForm old new = (other form : List ℕ) → Alike old other → IsCanonicalForm other form → Alike new form
+-- if a text equals `old`, ignoring case, then its canonical form is `new`, byte for byte
+abbrev pub IsFormInAnyCase : List ℕ → List ℕ → Type 0
+IsFormInAnyCase old new = (other form : List ℕ) → Alike old other → IsCanonicalForm other form → form ≡ new
 
 -- no two variants of the text have the same canonical form, unlike `heploc` and `alalc97`
 abbrev pub StayApart : List ℕ → Type 0

@@ -2,8 +2,8 @@
 ghost use Rattle.std.specs.Prelude.{◌≡◌, ◌↔◌, ℕ, ◌<◌, List, length, unwrap_or, true, IfOk};
 ghost use Rattle.langtag_scan.specs.Grammar.{Alike, EachRecord};
 ghost use Rattle.langtag.specs.Definitions.{lang_tag_text, lang_tag_buf_text, normal_lang_tag_text, WritesWhole};
-ghost use Rattle.langtag_canonical.specs.CanonicalLaws.{IsOnlyCanonicalForm, IsAlikeCanonicalForm, IsValidForm, HasNoExtlang};
-ghost use Rattle.langtag_canonical.specs.Canonical.{IsCanonicalForm, canonical_text};
+ghost use Rattle.langtag_canonical.specs.CanonicalLaws.{IsOnlyCanonicalForm, IsFormInAnyCase, IsValidForm, HasNoExtlang};
+ghost use Rattle.langtag_canonical.specs.Canonical.{IsReplacedForm, IsCanonicalForm, canonical_text};
 ghost use Rattle.langtag_fields.specs.Fields as field;
 ghost use Rattle.langtag_canonical.specs.Form.{IsCanonicalAs};
 ghost use Rattle.langtag_canonical.specs.declared.form.Form.TheVariants.{Parts};
@@ -12,7 +12,7 @@ use crate::canonical_parts::put_canonical_parts;
 use crate::form::{Form, form_of};
 use langtag::{LangTag, LangTagBuf, NormalLangTag, tag_of};
 use langtag_fields::preferred_for;
-use langtag_text::write_text;
+use langtag_text::{make_recommended_case, write_text};
 use std::alloc::{AllocError, Global};
 
 /// An upper bound on the number of bytes of a whole tag that has a Preferred-Value.
@@ -21,10 +21,10 @@ const LONGEST_REPLACED: usize = 16;
 /// A guess at how many bytes longer than the tag the canonical form is.
 const SPARE: usize = 32;
 
-/// Returns the canonical form of a tag (RFC 5646 section 4.5): `he` for `iw`, `yue` for `zh-yue`, `en-MM` for `en-BU`,
-/// `jbo` for `art-lojban`, and `en-a-aaa-b-ccc` for `en-b-ccc-a-aaa`.
+/// Returns the canonical form of a tag (RFC 5646 section 4.5) in the recommended case (section 2.1.1): `he` for `iw`, `de-AT`
+/// for `DE-at`, `yue` for `zh-yue`, `en-MM` for `en-BU`, `jbo` for `art-lojban`, and `en-a-aaa-b-ccc` for `en-b-ccc-a-aaa`.
 ///
-/// Replacements are in the case of the registry, and everything else keeps its case. Variants keep their order. The tag
+/// Tags that differ only in case have the same form, so the form can be a key. Variants keep their order. The tag
 /// need not be valid: subtags that are not registered stay, and so do two extended languages with the language before
 /// them. This is the form of RFC 5646; Unicode's CLDR replaces more. Canonicalizing the result again does not change
 /// it. For this, step 2 is repeated after step 3 (`sgn-DD` becomes `gsg`), and a language that replaces an extended
@@ -41,10 +41,10 @@ const SPARE: usize = 32;
 /// use langtag::LangTag;
 /// use langtag_registry::canonical;
 ///
-/// canonical(alloc, LangTag::new("iw-BU")?)?.as_str(); // "he-MM"
+/// canonical(alloc, LangTag::new("IW-bu")?)?.as_str(); // "he-MM"
 /// canonical(alloc, LangTag::new("zh-yue")?)?.as_str(); // "yue"
 /// ```
-#[tactic(auto, using(crate::proofs::OneForm::one_form, crate::proofs::TwiceLaws::form_twice, crate::proofs::ValidForms::valid_form, crate::proofs::ValidForms::apart_form, crate::proofs::ValidForms::no_extlang_form))]
+#[tactic(auto, using(crate::proofs::OneForm::one_canonical, crate::proofs::CanonicalCase::same_canonical, crate::proofs::CanonicalCase::canonical_twice, crate::proofs::CanonicalCase::valid_canonical, crate::proofs::CanonicalCase::apart_canonical, crate::proofs::CanonicalCase::no_extlang_canonical))]
 pub fn canonical(alloc: Global, tag: LangTag<'_>) -> Result<LangTagBuf, AllocError>
     ensures canonical { IfOk result (λ form. IsCanonicalForm (lang_tag_text tag.entry) (lang_tag_buf_text form)) }
 
@@ -52,8 +52,8 @@ pub fn canonical(alloc: Global, tag: LangTag<'_>) -> Result<LangTagBuf, AllocErr
     ensures one { IfOk result (λ form. IsOnlyCanonicalForm (lang_tag_text tag.entry) (lang_tag_buf_text form)) }
     // law: doing it again changes nothing
     ensures settled { IfOk result (λ form. IsCanonicalForm (lang_tag_buf_text form) (lang_tag_buf_text form)) }
-    // law: alike tags have alike forms
-    ensures alike { IfOk result (λ form. IsAlikeCanonicalForm (lang_tag_text tag.entry) (lang_tag_buf_text form)) }
+    // law: alike tags have the same form
+    ensures any_case { IfOk result (λ form. IsFormInAnyCase (lang_tag_text tag.entry) (lang_tag_buf_text form)) }
     // law: when the form of a valid tag is valid
     ensures valid { IfOk result (λ form. IsValidForm (lang_tag_text tag.entry) (lang_tag_buf_text form)) }
     // law: of valid tags only `zh-min` keeps an extended language
@@ -74,8 +74,8 @@ pub fn canonical(alloc: Global, tag: LangTag<'_>) -> Result<LangTagBuf, AllocErr
 /// ```
 #[tactic(auto, using(crate::proofs::AlikeForms::canonical_in_any_case))]
 pub fn is_canonical(tag: LangTag<'_>) -> bool
-    ensures canonical { (result ≡ true) ↔ IsCanonicalForm (lang_tag_text tag.entry) (lang_tag_text tag.entry) }
-    ensures any_case { (other : List ℕ) → Alike (lang_tag_text tag.entry) other → (result ≡ true) ↔ IsCanonicalForm other other }
+    ensures canonical { (result ≡ true) ↔ IsReplacedForm (lang_tag_text tag.entry) (lang_tag_text tag.entry) }
+    ensures any_case { (other : List ℕ) → Alike (lang_tag_text tag.entry) other → (result ≡ true) ↔ IsReplacedForm other other }
 {
     matches!(form_of(tag), Form::Same)
 }
@@ -96,6 +96,20 @@ pub fn write_canonical(tag: LangTag<'_>, buffer: &mut [u8]) -> usize
     ensures canonical { WritesWhole (IsCanonicalForm (lang_tag_text tag.entry)) buffer.old buffer.new result }
     ensures untouched { length buffer.old < result → buffer.new ≡ buffer.old }
 {
+    let len = write_replaced(tag, buffer);
+    if len > buffer.len() {
+        return len;
+    }
+    make_recommended_case(&mut buffer[..len]);
+    len
+}
+
+/// Writes a tag after the steps of section 4.5 to a buffer, and returns its length in bytes.
+#[tactic(auto, using(crate::proofs::CanonicalParts::form_written))]
+fn write_replaced(tag: LangTag<'_>, buffer: &mut [u8]) -> usize
+    ensures steps { WritesWhole (IsReplacedForm (lang_tag_text tag.entry)) buffer.old buffer.new result }
+    ensures untouched { length buffer.old < result → buffer.new ≡ buffer.old }
+{
     match form_of(tag) {
         Form::Same => write_text(tag.as_bytes(), buffer),
         Form::Whole(preferred) => write_text(preferred.as_bytes(), buffer),
@@ -103,10 +117,20 @@ pub fn write_canonical(tag: LangTag<'_>, buffer: &mut [u8]) -> usize
     }
 }
 
-/// Returns the canonical form of a tag. If it is a copy of the tag or of a Preferred-Value, it is not parsed again.
+/// Returns the canonical form of a tag.
 #[tactic(auto, using(crate::proofs::CanonicalParts::form_is_tag, langtag::proofs::KeptFound::found_kept))]
 fn form_as_tag(alloc: Global, tag: LangTag<'_>) -> Result<LangTagBuf, AllocError>
     ensures { IfOk result (λ form. IsCanonicalForm (lang_tag_text tag.entry) (lang_tag_buf_text form)) }
+{
+    let mut form = replaced_tag(alloc, tag)?;
+    form.make_recommended_case();
+    Ok(form)
+}
+
+/// Returns a tag after the steps of section 4.5. If it is a copy of the tag or of a Preferred-Value, it is not parsed again.
+#[tactic(auto, using(crate::proofs::CanonicalParts::form_is_tag, langtag::proofs::KeptFound::found_kept))]
+fn replaced_tag(alloc: Global, tag: LangTag<'_>) -> Result<LangTagBuf, AllocError>
+    ensures { IfOk result (λ form. IsReplacedForm (lang_tag_text tag.entry) (lang_tag_buf_text form)) }
 {
     match form_of(tag) {
         Form::Same => tag.try_to_owned(alloc),
@@ -124,7 +148,7 @@ fn bytes_of_parts(
     normal: NormalLangTag<'_>,
 ) -> Result<Vec<u8>, AllocError>
     requires { IsCanonicalAs (lang_tag_text tag) (Parts normal) }
-    ensures { IfOk result (λ bytes. IsCanonicalForm (lang_tag_text tag.entry) bytes.items) }
+    ensures { IfOk result (λ bytes. IsReplacedForm (lang_tag_text tag.entry) bytes.items) }
 {
     let mut bytes = vec![in alloc; 0; tag.as_bytes().len().saturating_add(SPARE)]?;
     let len = write_canonical_parts(normal, &mut bytes);

@@ -2,7 +2,7 @@
 ghost use Rattle.std.specs.Prelude.{◌≡◌, ◌↔◌, true, option_map};
 ghost use Rattle.langtag_scan.specs.Grammar.{EachRecord};
 ghost use Rattle.langtag.specs.Definitions.{region_text, lang_tag_text, normal_lang_tag_text};
-ghost use Rattle.langtag_canonical.specs.Canonical.{IsCanonicalForm, canonical_record, canonical_region};
+ghost use Rattle.langtag_canonical.specs.Canonical.{IsReplacedForm, canonical_record, canonical_region};
 ghost use Rattle.langtag_canonical.specs.Form.{IsCanonicalAs};
 ghost use Rattle.langtag_canonical.specs.declared.form.Form.TheVariants.{Same};
 
@@ -29,7 +29,7 @@ pub(crate) enum Form<'a> {
 #[tactic(auto, using(crate::proofs::CanonicalParts::kept_form, crate::proofs::CanonicalParts::preferred_goes, crate::proofs::CanonicalParts::record_form, crate::proofs::CanonicalParts::own_record, crate::proofs::TwiceLaws::itself), unfolding(langtag_scan::specs::Tag::IsNormal))]
 pub(crate) fn form_of(tag: LangTag<'_>) -> Form<'_>
     ensures form { IsCanonicalAs (lang_tag_text tag.entry) result }
-    ensures same { IsCanonicalForm (lang_tag_text tag.entry) (lang_tag_text tag.entry) → result ≡ Same }
+    ensures same { IsReplacedForm (lang_tag_text tag.entry) (lang_tag_text tag.entry) → result ≡ Same }
 {
     if let Some(preferred) = preferred_tag(tag) {
         return Form::Whole(preferred);

@@ -1,14 +1,16 @@
 -- The tag of a POSIX locale's name: its parts, its length, and the keyword va-posix for an only variant POSIX.
-use Rattle.langtag_scan.proofs.Prelude.{◌≡◌, ℕ, ◌+◌, ◌-◌, ◌≤◌, true, false, List, [], ◌∷◌, ◌++◌, length, take, drop, take_at, drop_at, IsTrue, refl, sym, ap, inl, ◌∙◌, arith, codes, flat_map, append_assoc, append-nil, length-append, Bool, cond, Option, None, Some, IfSome, MatchOption, Bor, IsUtf8, subst, AllByRecursion, and_parts, false_from_ne_true, option_map, option_or, ◌↔◌, inr, IsUtf8-from_ascii, common_steps}
+use Rattle.langtag_scan.proofs.Prelude.{◌≡◌, ℕ, ◌+◌, ◌-◌, ◌<◌, ◌≤◌, true, false, List, [], ◌∷◌, ◌++◌, length, take, drop, take_at, drop_at, IsTrue, refl, sym, ap, inl, ◌∙◌, arith, codes, flat_map, append_assoc, append-nil, length-append, Bool, cond, Option, None, Some, IfSome, MatchOption, Bor, IsUtf8, subst, AllByRecursion, and_parts, false_from_ne_true, option_map, option_or, ◌↔◌, inr, IsUtf8-from_ascii, common_steps}
 use Rattle.langtag_scan.specs.Grammar.{are_alike, is_extension_subtag, is_mark, is_singleton, is_letter, is_digit, is_variant, is_script, ends_of, to_region, Extension, Record, IsWellFormed, extension_flat, private_part_flat, spell, EachRecord, Spells, join, IsNormal, IsTag}
-use Rattle.langtag_scan.proofs.Laws.{ends_in_order, length-spell, hyphenated, hyphenated-append, join-hyphenated, length-join, script_four, IsAscii-spelled, of_script, variant_four, normal_or_not}
+use Rattle.langtag_scan.proofs.Laws.{ends_in_order, length-spell, hyphenated, hyphenated-append, join-hyphenated, length-join, script_four, IsAscii-spelled, of_script, variant_four, normal_or_not, length-fold}
 use Rattle.langtag_text.proofs.Alike.{alike_length}
 use Rattle.langtag_cldr.specs.Definitions.{or_else}
-use Rattle.langtag_posix.proofs.Definitions.{HasRegisteredVariants, IsAroundPosix, is_posix_alone, posix_extension, posix_replaced, modifier_of, said_script, with_said, with_said_script, with_said_variant, is_script_code, modifier_script, modifier_variant}
+use Rattle.langtag_posix.proofs.Definitions.{HasRegisteredVariants, IsFormOfName, IsTagOfName, IsAroundPosix, is_posix_alone, posix_extension, posix_replaced, modifier_of, said_script, with_said, with_said_script, with_said_variant, is_script_code, modifier_script, modifier_variant}
 use Rattle.langtag.specs.Definitions.{with_script, script_text, IsVariants, IsForm}
 use Rattle.langtag.proofs.EditLaws.{script-replaces}
 use Rattle.langtag_place.specs.declared.script.Script.{Script}
 use Rattle.langtag_text.specs.Writes.{Writes}
+use Rattle.langtag_text.specs.RecommendedCase.{recommended_text}
+use Rattle.langtag_text.proofs.RecommendedLaws.{recommended_alike}
 
 -- ---- the only variant
 
@@ -193,6 +195,27 @@ utf8_script text is = IsUtf8-from_ascii text (IsAscii-spelled text (text ∷ [])
 
 pub written_of : {N : Type 0} {W : ℕ → Type 0} (o : Option ℕ) → MatchOption o (N → ⊥) (λ len. N × W len) → N → (len : ℕ) × W len
 written_of o none named = grind arith
+
+-- ---- what was written is put into the recommended case
+
+recommended-length : (text : List ℕ) → length (recommended_text text) ≡ length text
+recommended-length text = sym (length-fold (recommended_text text)) ∙ ap length (recommended_alike text) ∙ length-fold text
+
+pub cased_written :
+    (name before mid after : List ℕ) (len : ℕ) → Writes (IsFormOfName name) before mid len →
+    (len ≤ length mid → after ≡ recommended_text (take len mid) ++ drop len mid) → (length mid < len → after ≡ mid) → Writes (IsTagOfName name) before after len
+cased_written name before mid after len w put kept = record {
+  text = recommended_text w.text;
+  is_so = record { form = w.text; said = w.is_so; case = refl };
+  whole = w.whole ∙ sym (recommended-length w.text);
+  written = λ room.
+      let is : mid ≡ w.text ++ drop len before = w.written room in
+      let fits : len ≤ length mid = omega (arith, ap length is, length-append w.text (drop len before), w.whole) in
+      let start : take len mid ≡ w.text = ap (take len) is ∙ take_at w.text (drop len before) len (sym w.whole) in
+      let rest : drop len mid ≡ drop len before = ap (drop len) is ∙ drop_at w.text (drop len before) len (sym w.whole) in
+      put fits ∙ ap (λ t. recommended_text t ++ drop len mid) start ∙ ap (λ t. recommended_text w.text ++ t) rest;
+  untouched = λ over. let same : mid ≡ before = w.untouched over in kept (omega (arith, over, ap length same)) ∙ same;
+}
 
 -- ---- what was written with room for it
 

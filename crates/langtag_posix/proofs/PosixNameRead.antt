@@ -7,6 +7,7 @@ use Rattle.langtag_text.specs.RecommendedCase.{capital_text}
 use Rattle.langtag_text.specs.Fields.{Fields}
 use Rattle.langtag.specs.Definitions.{with_script}
 use Rattle.langtag_text.proofs.Alike.{alike_is}
+use Rattle.langtag_text.proofs.RecommendedLaws.{alike_of_recommended}
 use Rattle.langtag_range.specs.Definitions.{ends_locale, front_of, is_hash, hyphened}
 use Rattle.langtag_cldr.specs.Definitions.{language_alone, or_else, without_script}
 use Rattle.langtag_likely.proofs.Definitions.{fields_of}
@@ -311,10 +312,11 @@ module _ (r : Record) (fits : IsWellFormed r) (short : IsShort r) (v m s : List 
   read_alike :
       (script : Option (List ℕ)) → IsWellFormed (with_script r script) → unwrap_or script [] ≡ s → (tag : List ℕ) → IsTagOfName name tag → Alike tag (spell (with_script r script))
   read_alike script whole is tag read =
-      let parts = read.parts (place_record r v) (fits_place, spelled_read ∙ sym text_is) in
+      let parts = read.said.parts (place_record r v) (fits_place, spelled_read ∙ sym text_is) in
       let new = spelled_text (read_record r m extensions) plain_read in
       let old = spelled_text (with_script r script) (plain_of (with_script r script) whole short.none) in
-      grind (arith, common_steps, said_is, new, old, alike_text, fold_text-twice, unwrap-capital, capital-fold, join-one)
+      let alike : Alike read.form (spell (with_script r script)) = grind (arith, common_steps, said_is, new, old, alike_text, fold_text-twice, unwrap-capital, capital-fold, join-one) in
+      sym (alike_of_recommended read.form tag read.case) ∙ alike
 
   name_ascii : IsAscii name
   name_ascii =

@@ -4,6 +4,7 @@ use Rattle.std.specs.Prelude.{◌≡◌, ℕ, ◌+◌, ◌≤◌, ◌==◌, ◌&
 use Rattle.langtag_scan.specs.Prelude.{before_first, after_first, list_all, list_any, slice_split, Bor}
 use Rattle.langtag_scan.specs.Grammar.{are_alike, is_alphanumeric, is_hyphen, is_script, EachRecord, Extension, Record, spell, IsTag}
 use Rattle.langtag.specs.Definitions.{with_script, with_variants, IsForm, IsGrandfathered}
+use Rattle.langtag_text.specs.RecommendedCase.{recommended_text}
 use Rattle.langtag_fields.specs.Registered.{is_registered_variant}
 use Rattle.langtag_range.specs.Definitions.{front_of, is_hash, locale_place}
 use Rattle.langtag_cldr.specs.Definitions.{or_else}
@@ -156,10 +157,16 @@ pub record NamesTag (name : List ℕ) : Type 0 where
   pub read : IsReadName name
   pub variants : EachRecord (text_of_name name) (λ r. HasRegisteredVariants (with_said_script (said_script name) (posix_replaced r)))
 
+-- the text of a name as a tag, with the script and the variant that the name gives
+abbrev pub IsFormOfName : List ℕ → List ℕ → Type 0
+IsFormOfName name form = IsForm (with_said name) (text_of_name name) form
+
 -- the tag of a name: its language and territory with its extensions, as a tag, with the script and the variant that the name
--- gives
-abbrev pub IsTagOfName : List ℕ → List ℕ → Type 0
-IsTagOfName name tag = IsForm (with_said name) (text_of_name name) tag
+-- gives, in the case that RFC 5646 recommends (section 2.1.1)
+pub record IsTagOfName (name tag : List ℕ) : Type 0 where
+  pub form : List ℕ
+  pub said : IsFormOfName name form
+  pub case : tag ≡ recommended_text form
 
 -- the error: the name has no tag, and the error contains the name; or allocation failed
 abbrev pub IsRefusal : Bor (List ℕ) → PosixError → Type 0

@@ -1,13 +1,14 @@
 //! The tag for a POSIX locale name. A field of a name that is no registered variant is refused, while ICU puts it into
 //! private use or drops it. Extensions and keywords are never lost in silence: if they cannot become extensions of the tag, the
 //! name is refused, or `unknown_modifier` returns the whole modifier, because callers get a single slice of the name.
-ghost use Rattle.std.specs.Prelude.{◌≡◌, ◌+◌, ◌≤◌, ◌↔◌, ℕ, IsTrue, List, None, Some, IfOk};
+ghost use Rattle.std.specs.Prelude.{◌≡◌, ◌+◌, ◌<◌, ◌≤◌, ◌↔◌, ◌++◌, ℕ, IsTrue, List, None, Some, IfOk, drop, take};
+ghost use Rattle.langtag_text.specs.RecommendedCase.{recommended_text};
 ghost use Rattle.std.specs.Prelude.{IfErr, IfSome, MatchOption, length, option_map};
 ghost use Rattle.langtag_scan.specs.Grammar.{is_variant, list_all, subtags, EachRecord, IsNormal};
 ghost use Rattle.langtag_fields.specs.Registered.{is_registered_variant};
 ghost use Rattle.langtag.specs.Definitions.{SetsPart, SetsVariants, IsVariants, script_text, variants_text};
 ghost use Rattle.langtag.specs.Definitions.{lang_tag_text, lang_tag_buf_text, Writes, IsForm};
-ghost use Rattle.langtag_posix.specs.Posix.{HasRegisteredVariants, IsRefusal, IsTagOfName, NamesTag, script_behind, with_said_script, with_said_variant};
+ghost use Rattle.langtag_posix.specs.Posix.{HasRegisteredVariants, IsFormOfName, IsRefusal, IsTagOfName, NamesTag, script_behind, with_said_script, with_said_variant};
 
 use crate::modifiers::{modifier_script, modifier_variant, script_of};
 use crate::posix_error::PosixError;
@@ -17,7 +18,7 @@ use langtag::{LangTag, LangTagBuf, Part, tag_of, write_part};
 use langtag_fields::is_registered_variant;
 use langtag_place::{Script, Variants};
 use langtag_range::split_at_byte;
-use langtag_text::write_text;
+use langtag_text::{make_recommended_case, write_text};
 use std::alloc::{AllocError, Global};
 
 /// The greatest length of the tag for a name with the keyword `va-posix` and a script, in bytes.
@@ -55,7 +56,8 @@ const MOST_WITH_SCRIPT: usize = MOST_WITH_KEYWORD + 5;
 /// - .NET's `zh-CHS` and `zh-CHT`, which become `zh-Hans` and `zh-Hant`.
 ///
 /// Each `_` is read as a hyphen. If the only variant is `POSIX`, ignoring case, it becomes the keyword `va-posix` (UTS #35):
-/// `en-US-u-va-posix` for `en_US_POSIX`. Case and deprecated subtags stay as they are.
+/// `en-US-u-va-posix` for `en_US_POSIX`. The tag is in the recommended case (RFC 5646 section 2.1.1): `zh-TW` for `zh_tw`.
+/// Deprecated subtags stay as they are.
 ///
 /// [`unknown_modifier`]: crate::unknown_modifier
 ///
@@ -83,23 +85,25 @@ pub fn from_posix(alloc: Global, name: &str) -> Result<LangTagBuf, PosixError<'_
     ensures one { IfOk result (λ tag. (form : List ℕ) → IsTagOfName name.now form → form ≡ lang_tag_buf_text tag) }
     ensures refuses { IfErr result (λ error. IsRefusal name.entry error) }
 {
-    match bytes_of(alloc, name.as_bytes())? {
-        Some(bytes) => Ok(tag_of(bytes)),
-        None => Err(PosixError::NoTag(name)),
-    }
+    let Some(bytes) = bytes_of(alloc, name.as_bytes())? else {
+        return Err(PosixError::NoTag(name));
+    };
+    let mut tag = tag_of(bytes);
+    tag.make_recommended_case();
+    Ok(tag)
 }
 
-/// Returns the bytes of the tag for a name, or `None` if the name has no tag.
+/// Returns the bytes of the tag for a name, before its case is changed, or `None` if the name has no tag.
 fn bytes_of(alloc: Global, name: &[u8]) -> Result<Option<Vec<u8>>, AllocError>
     ensures tag { IfOk result (λ bytes. MatchOption bytes (NamesTag name.now → ⊥)
-        (λ bytes. NamesTag name.now × IsTagOfName name.now bytes.items)) }
+        (λ bytes. NamesTag name.now × IsFormOfName name.now bytes.items)) }
     ensures memory { IfErr result (λ error. NamesTag name.now) }
 {
-    let Some(len) = write_from_posix(name, &mut []) else {
+    let Some(len) = write_form(name, &mut []) else {
         return Ok(None);
     };
     let mut bytes = vec![in alloc; 0; len]?;
-    write_from_posix(name, &mut bytes);
+    write_form(name, &mut bytes);
     Ok(Some(bytes))
 }
 
@@ -118,6 +122,27 @@ fn bytes_of(alloc: Global, name: &[u8]) -> Result<Option<Vec<u8>>, AllocError>
 pub fn write_from_posix(name: &[u8], buffer: &mut [u8]) -> Option<usize>
     ensures written { MatchOption result (NamesTag name.now → ⊥)
         (λ len. NamesTag name.now × Writes (IsTagOfName name.now) buffer.old buffer.new len) }
+    ensures nothing { result ≡ None → buffer.new ≡ buffer.old }
+{
+    let len = write_form(name, buffer)?;
+    put_case(buffer, len);
+    Some(len)
+}
+
+/// Puts the first `len` bytes of a buffer into the recommended case, if the buffer has so many.
+fn put_case(buffer: &mut [u8], len: usize)
+    ensures put { len ≤ length buffer.old → buffer.new ≡ recommended_text (take len buffer.old) ++ drop len buffer.old }
+    ensures kept { length buffer.old < len → buffer.new ≡ buffer.old }
+{
+    if len <= buffer.len() {
+        make_recommended_case(&mut buffer[..len]);
+    }
+}
+
+/// Writes the tag for a name, before its case is changed, to a buffer if it fits, and returns its length.
+fn write_form(name: &[u8], buffer: &mut [u8]) -> Option<usize>
+    ensures written { MatchOption result (NamesTag name.now → ⊥)
+        (λ len. NamesTag name.now × Writes (IsFormOfName name.now) buffer.old buffer.new len) }
     ensures nothing { result ≡ None → buffer.new ≡ buffer.old }
 {
     let mut room = [0; MOST_NAMED];

@@ -5,9 +5,10 @@
 use crate::calls::tag::tag_of;
 use crate::erased::registry::{is_canonical, write_canonical};
 
-/// Writes the canonical form of a tag to `buffer` ([RFC 5646 section 4.5]), and returns its length:
-/// iw becomes he, zh-yue becomes yue, art-lojban becomes jbo, en-b-ccc-a-aaa becomes
-/// en-a-aaa-b-ccc. It uses the registry whose date `langtag_registry_date` returns.
+/// Writes the canonical form of a tag to `buffer` ([RFC 5646 section 4.5]) in the recommended case
+/// (section 2.1.1), and returns its length: iw becomes he, DE-at becomes de-AT, zh-yue becomes yue,
+/// art-lojban becomes jbo, en-b-ccc-a-aaa becomes en-a-aaa-b-ccc. It uses the registry whose date
+/// `langtag_registry_date` returns.
 ///
 /// ```c
 /// char buffer[64];
@@ -19,10 +20,10 @@ use crate::erased::registry::{is_canonical, write_canonical};
 /// needed, and nothing is written. The form may be longer than the tag: heploc becomes alalc97. No
 /// NUL is written, and bytes after the form are left unchanged.
 ///
-/// Replacements are in the registry's case, everything else keeps its case, and variants keep their
-/// order. Step 2 of section 4.5 is repeated after step 3, so that canonicalizing a form again
-/// changes nothing: sgn-DD becomes gsg. The tag need not be valid: subtags that are not registered
-/// stay, and so do two extended languages and the language before them.
+/// Tags that differ only in case have the same form, byte for byte. Variants keep their order. Step
+/// 2 of section 4.5 is repeated after step 3, so that canonicalizing a form again changes nothing:
+/// sgn-DD becomes gsg. The tag need not be valid: subtags that are not registered stay, and so do
+/// two extended languages and the language before them.
 ///
 /// Returns 0 and writes nothing if the string is not a tag.
 ///

@@ -8,7 +8,7 @@ use crate::erased::fields::preferred_for;
 #[cfg(feature = "alloc")]
 use crate::erased::tag::{tag_of, LangTagBuf};
 use crate::erased::tag::{LangTag, NormalLangTag};
-use crate::erased::text::write_text;
+use crate::erased::text::{make_recommended_case, write_text};
 #[cfg(feature = "alloc")]
 use crate::shim::{try_vec, AllocError};
 #[cfg(feature = "alloc")]
@@ -20,14 +20,15 @@ const LONGEST_REPLACED: usize = 16;
 /// A guess at how many bytes longer than the tag the canonical form is.
 const SPARE: usize = 32;
 
-/// Returns the canonical form of a tag ([RFC 5646 section 4.5]): `he` for `iw`, `yue` for `zh-yue`,
-/// `en-MM` for `en-BU`, `jbo` for `art-lojban`, and `en-a-aaa-b-ccc` for `en-b-ccc-a-aaa`.
+/// Returns the canonical form of a tag ([RFC 5646 section 4.5]) in the recommended case (section
+/// 2.1.1): `he` for `iw`, `de-AT` for `DE-at`, `yue` for `zh-yue`, `en-MM` for `en-BU`, `jbo` for
+/// `art-lojban`, and `en-a-aaa-b-ccc` for `en-b-ccc-a-aaa`.
 ///
-/// Replacements are in the case of the registry, and everything else keeps its case. Variants keep
-/// their order. The tag need not be valid: subtags that are not registered stay, and so do two
-/// extended languages with the language before them. This is the form of RFC 5646; Unicode's CLDR
-/// replaces more. Canonicalizing the result again does not change it. For this, step 2 is repeated
-/// after step 3 (`sgn-DD` becomes `gsg`), and a language that replaces an extended language may be
+/// Tags that differ only in case have the same form, so the form can be a key. Variants keep their
+/// order. The tag need not be valid: subtags that are not registered stay, and so do two extended
+/// languages with the language before them. This is the form of RFC 5646; Unicode's CLDR replaces
+/// more. Canonicalizing the result again does not change it. For this, step 2 is repeated after
+/// step 3 (`sgn-DD` becomes `gsg`), and a language that replaces an extended language may be
 /// replaced, too (`ar-ajp` becomes `apc`).
 ///
 /// The form of a valid tag is valid, unless two variants become the same, as in
@@ -42,7 +43,7 @@ const SPARE: usize = 32;
 /// use langtag::erased::tag::LangTag;
 /// use langtag::erased::registry::canonical;
 ///
-/// assert_eq!(canonical(LangTag::new("iw-BU")?)?.as_str(), "he-MM");
+/// assert_eq!(canonical(LangTag::new("IW-bu")?)?.as_str(), "he-MM");
 /// assert_eq!(canonical(LangTag::new("zh-yue")?)?.as_str(), "yue");
 /// # Ok(())
 /// # }
@@ -92,7 +93,18 @@ pub fn is_canonical(tag: LangTag<'_>) -> bool {
 /// # Ok(())
 /// # }
 /// ```
+#[inline]
 pub fn write_canonical(tag: LangTag<'_>, buffer: &mut [u8]) -> usize {
+    let len = write_replaced(tag, buffer);
+    if len > buffer.len() {
+        return len;
+    }
+    make_recommended_case(&mut buffer[..len]);
+    len
+}
+
+/// Writes a tag after the steps of section 4.5 to a buffer, and returns its length in bytes.
+fn write_replaced(tag: LangTag<'_>, buffer: &mut [u8]) -> usize {
     match form_of(tag) {
         Form::Same => write_text(tag.as_bytes(), buffer),
         Form::Whole(preferred) => write_text(preferred.as_bytes(), buffer),
@@ -100,10 +112,19 @@ pub fn write_canonical(tag: LangTag<'_>, buffer: &mut [u8]) -> usize {
     }
 }
 
-/// Returns the canonical form of a tag. If it is a copy of the tag or of a Preferred-Value, it is
-/// not parsed again.
+/// Returns the canonical form of a tag.
 #[cfg(feature = "alloc")]
+#[inline]
 fn form_as_tag(tag: LangTag<'_>) -> Result<LangTagBuf, AllocError> {
+    let mut form = replaced_tag(tag)?;
+    form.make_recommended_case();
+    Ok(form)
+}
+
+/// Returns a tag after the steps of section 4.5. If it is a copy of the tag or of a
+/// Preferred-Value, it is not parsed again.
+#[cfg(feature = "alloc")]
+fn replaced_tag(tag: LangTag<'_>) -> Result<LangTagBuf, AllocError> {
     match form_of(tag) {
         Form::Same => tag.try_to_owned(),
         Form::Whole(preferred) => preferred.try_to_owned(),

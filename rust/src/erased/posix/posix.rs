@@ -16,7 +16,7 @@ use crate::erased::range::split_at_byte;
 #[cfg(feature = "alloc")]
 use crate::erased::tag::{tag_of, LangTagBuf};
 use crate::erased::tag::{write_part, LangTag, Part};
-use crate::erased::text::write_text;
+use crate::erased::text::{make_recommended_case, write_text};
 #[cfg(feature = "alloc")]
 use crate::shim::{try_string, try_vec, AllocError};
 #[cfg(feature = "alloc")]
@@ -68,8 +68,9 @@ const MOST_WITH_SCRIPT: usize = MOST_WITH_KEYWORD + 5;
 /// - .NET's `zh-CHS` and `zh-CHT`, which become `zh-Hans` and `zh-Hant`.
 ///
 /// Each `_` is read as a hyphen. If the only variant is `POSIX`, ignoring case, it becomes the
-/// keyword `va-posix` (UTS #35): `en-US-u-va-posix` for `en_US_POSIX`. Case and deprecated subtags
-/// stay as they are.
+/// keyword `va-posix` (UTS #35): `en-US-u-va-posix` for `en_US_POSIX`. The tag is in the
+/// recommended case ([RFC 5646 section 2.1.1]): `zh-TW` for `zh_tw`. Deprecated subtags stay as
+/// they are.
 ///
 /// [`unknown_modifier`]: crate::likely::unknown_modifier
 ///
@@ -95,22 +96,27 @@ const MOST_WITH_SCRIPT: usize = MOST_WITH_KEYWORD + 5;
 /// # Ok(())
 /// # }
 /// ```
+///
+/// [RFC 5646 section 2.1.1]: https://www.rfc-editor.org/rfc/rfc5646#section-2.1.1
 #[cfg(feature = "alloc")]
 pub fn from_posix(name: &str) -> Result<LangTagBuf, PosixError> {
-    match bytes_of(name.as_bytes())? {
-        Some(bytes) => Ok(tag_of(bytes)),
-        None => Err(PosixError::NoTag(try_string(name)?)),
-    }
+    let Some(bytes) = bytes_of(name.as_bytes())? else {
+        return Err(PosixError::NoTag(try_string(name)?));
+    };
+    let mut tag = tag_of(bytes);
+    tag.make_recommended_case();
+    Ok(tag)
 }
 
-/// Returns the bytes of the tag for a name, or `None` if the name has no tag.
+/// Returns the bytes of the tag for a name, before its case is changed, or `None` if the name has
+/// no tag.
 #[cfg(feature = "alloc")]
 fn bytes_of(name: &[u8]) -> Result<Option<Vec<u8>>, AllocError> {
-    let Some(len) = write_from_posix(name, &mut []) else {
+    let Some(len) = write_form(name, &mut []) else {
         return Ok(None);
     };
     let mut bytes = try_vec(0, len)?;
-    write_from_posix(name, &mut bytes);
+    write_form(name, &mut bytes);
     Ok(Some(bytes))
 }
 
@@ -126,7 +132,24 @@ fn bytes_of(name: &[u8]) -> Result<Option<Vec<u8>>, AllocError> {
 /// assert_eq!(buffer.get(..5), Some(&b"pt-BR"[..]));
 /// assert_eq!(write_from_posix(b"C", &mut buffer), None);
 /// ```
+#[inline]
 pub fn write_from_posix(name: &[u8], buffer: &mut [u8]) -> Option<usize> {
+    let len = write_form(name, buffer)?;
+    put_case(buffer, len);
+    Some(len)
+}
+
+/// Puts the first `len` bytes of a buffer into the recommended case, if the buffer has so many.
+#[inline]
+fn put_case(buffer: &mut [u8], len: usize) {
+    if len <= buffer.len() {
+        make_recommended_case(&mut buffer[..len]);
+    }
+}
+
+/// Writes the tag for a name, before its case is changed, to a buffer if it fits, and returns its
+/// length.
+fn write_form(name: &[u8], buffer: &mut [u8]) -> Option<usize> {
     let mut room = [0; MOST_NAMED];
     let tag = tag_of_name(name, &mut room)?;
     let (front, modifier) = front_and_modifier(name);

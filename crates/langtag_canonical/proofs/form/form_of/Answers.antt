@@ -1,12 +1,12 @@
 use Rattle.langtag_scan.proofs.Prelude.{◌≡◌, Some, List, ℕ, refl, sym, ◌∙◌, both_ways, arith, nat_tests}
 use Rattle.langtag_scan.specs.Grammar.{Spells, IsNormal}
 use Rattle.langtag.specs.Definitions.{IsGrandfathered, lang_tag_text, normal_lang_tag_text}
-use Rattle.langtag_canonical.specs.Canonical.{IsCanonicalForm, canonical_text}
+use Rattle.langtag_canonical.specs.Canonical.{IsReplacedForm, canonical_text}
 use Rattle.langtag_fields.specs.Fields.{preferred_tag}
 use Rattle.langtag_canonical.proofs.CanonicalParts.{own_record, preferred_goes, record_form}
 use Rattle.langtag_canonical.proofs.form.form_of.Goals as goal
 
-whole_form : (old new : List ℕ) → preferred_tag old ≡ Some new → IsCanonicalForm old new
+whole_form : (old new : List ℕ) → preferred_tag old ≡ Some new → IsReplacedForm old new
 whole_form old new is = record { whole = λ w also. cc; kept = λ none why. absurd cc; parts = λ none other r spells. absurd cc }
 
 pub returns-in-Some : goal.returns-in-Some
