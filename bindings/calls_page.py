@@ -26,7 +26,7 @@ LANGUAGES = [
     Language("C++", "docs/C.md", "bindings/include/langtag.hpp bindings/include/langtag.h bindings/include/langtag_names.hpp"),
     Language("Python", "docs/PYTHON.md", "bindings/python/langtag/__init__.py bindings/python/langtag/_native.pyi"),
     Language("JavaScript", "docs/JAVASCRIPT.md", "bindings/js/index.d.ts"),
-    Language("PostgreSQL", "docs/POSTGRESQL.md", "bindings/postgresql/langtag.sql.in bindings/postgresql/order.sql.in"),
+    Language("PostgreSQL", "docs/POSTGRESQL.md", "bindings/postgresql/langtag.sql"),
     Language("SQLite", "docs/SQLITE.md", "bindings/sqlite/sqlite_langtag.c"),
 ]
 # The tables of the page: their columns, and where every call is documented. A table of all columns would not fit into a page.
@@ -100,8 +100,8 @@ def sections(text: str) -> list[Section]:
 
 def calls_in(path: pathlib.Path) -> str:
     """Returns the text in which the names of a language's calls are: of a file for SQL, only what its statements create."""
-    text = path.read_text(encoding="utf-8").replace("@T@", "langtag")
-    return "\n".join(re.findall(r"(?m)^(?:CREATE \w+|@type) (\{[^}]*\}|[^\s(;]+)", text)) if path.name.endswith(".sql.in") else text
+    text = path.read_text(encoding="utf-8")
+    return "\n".join(re.findall(r"(?m)^CREATE \w+ ([^\s(;]+)", text)) if path.name.endswith(".sql") else text
 
 
 class Linker:
@@ -157,7 +157,7 @@ def public_in_sql(text: str) -> Iterator[str]:
     """Yields the functions that statements create, without those of types, operators and indexes."""
     names = re.findall(r"(?m)^CREATE FUNCTION (\{[^}]*\}|\w+)\(", text)
     for name in re.findall(r"\w+", " ".join(names)):
-        if not re.search(r"_(?:in|out|recv|send|eq|ne|lt|le|gt|ge|cmp|lower|upper|support)$", name):
+        if not re.search(r"_(?:in|out|recv|send|eq|ne|lt|le|gt|ge|cmp|lower|upper|\w*support|hash|hash_extended|larger|smaller|part)$", name) or name == "langtag_hash":
             yield name
 
 

@@ -19,7 +19,7 @@ on_pypy() {
         pypy3 -m unittest test_rows test_langtag.{Values,Negotiation,Sites,WrongCalls,Help}
 }
 needs 'ls /usr/include/pypy3*/Python.h >/dev/null 2>&1' "its headers are not there (in Debian: apt-get install pypy3-dev)" "Python: tests by PyPy" on_pypy
-. "$here/checks/python_leaks.sh"
+. "$root/checks/parts/python_leaks.sh"
 
 # mypy of this Python, or the program that Debian installs. It also checks a user's program, and has to find the mistake in it.
 mypy=
