@@ -156,7 +156,7 @@ def public_in_javascript(text: str) -> Iterator[str]:
 def public_in_sql(text: str) -> Iterator[str]:
     """Yields the functions that statements create, without those of types, operators and indexes."""
     for name in re.findall(r"(?m)^CREATE FUNCTION (\w+)\(", text):
-        if not re.search(r"_(?:in|out|recv|send|eq|ne|lt|le|gt|ge|cmp|lower|upper|\w*support|hash|hash_extended|larger|smaller|part)$", name):
+        if not re.search(r"_(?:in|out|recv|send|eq|ne|lt|le|gt|ge|cmp|lower|upper|\w*support|hash|hash_extended|larger|smaller|part)$", name) or name == "langtag_hash":
             yield name
 
 

@@ -16,7 +16,6 @@ check "gettext reads the messages of the parents of a locale" env -C examples py
 
 # Debian's rdflib is for Debian's own Python.
 rdflib_python() { for it in python3 /usr/bin/python3; do "$it" -c 'import rdflib' 2>/dev/null && echo "$it" && return; done; false; }
-if [ "${CI:-}" = true ] && ! rdflib_python >/dev/null; then (apt-get update -qq && apt-get install -y -qq --no-install-recommends python3-rdflib) >/dev/null; fi
 needs rdflib_python "there is no rdflib (in Debian: apt-get install python3-rdflib)" "RDF literals beside rdflib" env -C examples "$(rdflib_python)" -m unittest test_literals
 
 sqlite_make() { make -s -B -C sqlite LANGTAG_ARCHIVE="$work/usr/lib/liblangtag_verified.a" LANGTAG_INCLUDE="$work/usr/include" "$@"; }
