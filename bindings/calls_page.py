@@ -2,9 +2,10 @@
 language's page that shows it in code, or else names it, if there is one. The pages of SQL have each name themselves."""
 from __future__ import annotations
 
+import ast
 import pathlib
 import re
-from typing import NamedTuple
+from typing import Iterator, NamedTuple
 
 from interface import Interface
 
@@ -25,7 +26,7 @@ LANGUAGES = [
     Language("C++", "docs/C.md", "bindings/include/langtag.hpp bindings/include/langtag.h bindings/include/langtag_names.hpp"),
     Language("Python", "docs/PYTHON.md", "bindings/python/langtag/__init__.py bindings/python/langtag/_native.pyi"),
     Language("JavaScript", "docs/JAVASCRIPT.md", "bindings/js/index.d.ts"),
-    Language("PostgreSQL", "docs/POSTGRESQL.md", "bindings/postgresql/langtag.sql.in bindings/postgresql/order.sql.in"),
+    Language("PostgreSQL", "docs/POSTGRESQL.md", "bindings/postgresql/langtag.sql"),
     Language("SQLite", "docs/SQLITE.md", "bindings/sqlite/sqlite_langtag.c"),
 ]
 # The tables of the page: their columns, and where every call is documented. A table of all columns would not fit into a page.
@@ -34,6 +35,11 @@ TABLES = [
     (3, 5, "Every call is documented: for Python by `help(langtag)`, and for JavaScript in [index.d.ts](../bindings/js/index.d.ts)."),
 ]
 OF_THE_LANGUAGE = {"==", "<", "=", "Hash", "std::hash", "to_ascii_lowercase", "lower", "lower(tag::text)", "COLLATE langtag"}  # what the language itself has
+# Members that each type has, or that belong to the result of another call, and what only the language's own machinery calls.
+OF_EACH_TYPE = set("""UND as_bytes as_str constructor eq_str from_static is_empty len length new parse text to_owned toJSON toString try_new try_to_owned""".split())
+OF_RESULTS = {"Rust": "FORMLESS_DISTANCE", "Python": "BestMatch Error Kind Transform WeightedRange"}
+# The types whose members are calls.
+TYPES = {"Rust": "LangTag LangTagBuf LanguageRange AcceptLanguage choice::Site", "Python": "Tag Range AcceptLanguage Site", "JavaScript": "LanguageTag LanguageRange AcceptLanguage Site"}
 FILES = {SOURCE, PAGE, *(name for language in LANGUAGES for names in language[1:] for name in names.split())}
 
 HEAD = """\
@@ -94,8 +100,8 @@ def sections(text: str) -> list[Section]:
 
 def calls_in(path: pathlib.Path) -> str:
     """Returns the text in which the names of a language's calls are: of a file for SQL, only what its statements create."""
-    text = path.read_text(encoding="utf-8").replace("@T@", "langtag")
-    return "\n".join(re.findall(r"(?m)^(?:CREATE \w+|@type) (\{[^}]*\}|[^\s(;]+)", text)) if path.name.endswith(".sql.in") else text
+    text = path.read_text(encoding="utf-8")
+    return "\n".join(re.findall(r"(?m)^CREATE \w+ ([^\s(;]+)", text)) if path.name.endswith(".sql") else text
 
 
 class Linker:
@@ -119,6 +125,57 @@ class Linker:
 
     def unknown(self, text: str) -> list[str]:
         return [name for name in names_in(text) if name not in OF_THE_LANGUAGE and not re.search(pattern(name), self.known)]
+
+
+def public_in_rust(text: str) -> Iterator[str]:
+    """Yields the functions of modules and the members of the types, from the list of the interface."""
+    for line in text.splitlines()[1:]:
+        heads, _, names = line.partition(": ")
+        if {*heads.split()} & {*TYPES["Rust"].split()} or re.search(r" langtag::(?!scan)\w+$", heads):
+            yield from (it for it in names.split() if not it.startswith(("as_", "is_normal", "is_private", "try_")) and (it.islower() or "_" not in it and it.isupper()))
+
+
+def public_in_python(text: str) -> Iterator[str]:
+    """Yields the names of `__all__` and the members of the types."""
+    for item in ast.parse(text).body:
+        if isinstance(item, ast.Assign) and getattr(item.targets[0], "id", "") == "__all__":
+            yield from ast.literal_eval(item.value)
+        if isinstance(item, ast.ClassDef) and item.name in TYPES["Python"].split():
+            names = (getattr(it, "name", "") for it in item.body)
+            yield from (it for it in names if it and not it.startswith("_"))
+
+
+def public_in_javascript(text: str) -> Iterator[str]:
+    """Yields what the module exports, and the members of its types."""
+    yield from re.findall(r"(?m)^export (?:declare )?(?:function|class|const) (\w+)", text)
+    for name, body in re.findall(r"(?ms)^export declare class (\w+)[^{]*\{$(.*?)^\}", text):
+        if name in TYPES["JavaScript"].split():
+            yield from re.findall(r"(?m)^ {4}(?:static |readonly |get )*([a-z]\w*)[(<:?]", body)
+
+
+def public_in_sql(text: str) -> Iterator[str]:
+    """Yields the functions that statements create, without those of types, operators and indexes."""
+    for name in re.findall(r"(?m)^CREATE FUNCTION (\w+)\(", text):
+        if not re.search(r"_(?:in|out|recv|send|eq|ne|lt|le|gt|ge|cmp|lower|upper|\w*support|hash|hash_extended|larger|smaller|part)$", name):
+            yield name
+
+
+# How the public names of a language are found in its files.
+PUBLIC = {
+    "Rust": public_in_rust, "Python": public_in_python, "JavaScript": public_in_javascript, "PostgreSQL": public_in_sql,
+    "SQLite": lambda text: re.findall(r'"(langtag_\w+)"', text),
+}
+
+
+def lacking(root: pathlib.Path, all_rows: list[list[str]]) -> list[str]:
+    """Returns the public calls that are in no row of their language."""
+    found = []
+    for at, language in enumerate(LANGUAGES, 1):
+        if language.name in PUBLIC:
+            text = (root / language.names.split()[0]).read_text(encoding="utf-8")
+            named = {name.rpartition("::")[2] for row in all_rows for name in names_in(row[at])} | OF_EACH_TYPE | {*OF_RESULTS.get(language.name, "").split()}
+            found += [f"{SOURCE} has no row with {name} of {language.name}" for name in sorted({*PUBLIC[language.name](text)} - named)]
+    return found
 
 
 def table(head: list[str], lines: list[list[str]]) -> str:
@@ -150,4 +207,5 @@ def faults(it: Interface, root: pathlib.Path) -> list[str]:
             names = {name for row in all_rows for name in names_in(row[at])} - OF_THE_LANGUAGE
             found += [f"{language.page} lacks {name}" for name in sorted(names) if not re.search(pattern(name), page)]
     named = {name for row in all_rows for name in names_in(row[2])}
-    return found + [f"{SOURCE} has no row with {function.name}" for function in it.functions if function.name not in named]
+    found += [f"{SOURCE} has no row with {function.name}" for function in it.functions if function.name not in named]
+    return found + lacking(root, all_rows)

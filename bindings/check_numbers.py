@@ -11,7 +11,7 @@ VERSIONS = [
     ("rust/c/Cargo.toml", r'^version = "([^"]+)"'),
     ("bindings/python/pyproject.toml", r'^version = "([^"]+)"'),
     ("bindings/python/langtag/__init__.py", r'^__version__ = "([^"]+)"'),
-    ("bindings/js/package.json", r'^  "version": "([^"]+)\+cargo"'),
+    ("bindings/js/package.json", r'^  "version": "([^"]+)"'),
 ]
 NUMBERS = [
     ("bindings/c/Makefile", r"\.so\.([0-9]+)"), ("bindings/c/langtag_verified.map", r"LANGTAG_VERIFIED_([0-9]+) "),

@@ -7,6 +7,7 @@
     bindings/python/native/calls.c            the functions for Python, in C
     bindings/python/langtag/_native.pyi       their types
     bindings/js/calls.js                      the functions in JavaScript, over the memory of the WebAssembly module
+    bindings/postgresql/langtag.sql           the SQL of the extension, from langtag.sql.in, type.sql.in and order.sql.in
     docs/CALLS.md                             the calls of each language, by task, from bindings/calls.txt
 
 It also compares the numbers that stand in several files (check_numbers.py).
@@ -25,6 +26,7 @@ import calls_page
 import check_numbers
 import interface
 import python_calls
+import sql
 from interface import Function, Interface, Parameter, Struct
 from javascript import javascript
 
@@ -179,19 +181,25 @@ FILES = {
 }
 
 
+def put(root: pathlib.Path, files: dict[str, str], is_check: bool) -> list[str]:
+    """Writes files, or returns a line for each that differs."""
+    if is_check:
+        return [f"{name} is not what bindings/generate.py writes" for name, text in files.items()
+                if not (root / name).is_file() or (root / name).read_text(encoding="utf-8") != text]
+    for name, text in files.items():
+        (root / name).write_text(text, encoding="utf-8")
+    return []
+
+
 def main(root: pathlib.Path, is_check: bool) -> int:
     it, template = interface.read(root), (root / interface.TEMPLATE).read_text(encoding="utf-8")
     faults = wrong_template(it, template)
     if not it.functions or not it.structs:
         faults.append("crates/langtag_c has no functions, or no structs")
+    files = {HEADER: header(it, template), sql.WRITTEN: sql.extension(root)} | {name: written(it) for name, written in FILES.items()}
+    faults += put(root, files, is_check)
+    faults += put(root, calls_page.pages(root), is_check)  # they read what was written
     faults += calls_page.faults(it, root) + check_numbers.wrong_numbers(root)
-    files = {HEADER: header(it, template)} | {name: written(it) for name, written in FILES.items()}
-    for name, text in (files | calls_page.pages(root)).items():
-        path = root / name
-        if not is_check:
-            path.write_text(text, encoding="utf-8")
-        elif not path.is_file() or path.read_text(encoding="utf-8") != text:
-            faults.append(f"{name} is not what bindings/generate.py writes")
     print("\n".join(faults) or f"{len(it.functions)} functions and {len(it.structs)} structs: all declarations agree")
     return 1 if faults else 0
 

@@ -124,8 +124,6 @@ from typing import Any
 
 from ._texts import Text
 
-PROVED: bool
-
 class _Value:
     @property
     def _data(self) -> bytes: ...

@@ -15,11 +15,12 @@ import calls_page
 import check_numbers
 import generate
 import interface
+import sql
 
 ROOT = pathlib.Path(sys.argv[1] if sys.argv[1:] else pathlib.Path(__file__).parent.parent).resolve()
 HEADER, TEMPLATE, MODULE = generate.HEADER, interface.TEMPLATE, "bindings/python/langtag/__init__.py"
 CRATE = "crates/langtag_c/src"
-FILES = {HEADER, TEMPLATE, MODULE, "vectors/table.txt", *generate.FILES, *calls_page.FILES, *(name for name, _ in check_numbers.VERSIONS + check_numbers.NUMBERS)}
+FILES = {HEADER, TEMPLATE, MODULE, "vectors/table.txt", *generate.FILES, *sql.FILES, sql.WRITTEN, *calls_page.FILES, *(name for name, _ in check_numbers.VERSIONS + check_numbers.NUMBERS)}
 
 # A file, a text in it, the text that replaces it, and what the message has to name.
 PLANTED = [
@@ -37,9 +38,12 @@ PLANTED = [
     (CRATE, "pub singleton: Span", "pub singletons: Span", HEADER),
     # The contract says what is written: exports.rs follows it.
     (CRATE, "ensures nothing { result ≡ false → language.new ≡ language.old }", "", "exports.rs"),
-    *((name, "hash", "hush", name) for name in generate.FILES),
+    *((name, "hash", "hush", name) for name in [*generate.FILES, sql.WRITTEN]),
     (calls_page.SOURCE, "langtag_viable_len, ", "", "no row with langtag_viable_len"),
     (calls_page.SOURCE, "viableLength", "viableLen", "JavaScript has no viableLen"),
+    *((calls_page.SOURCE, f", {name}", "", f"no row with {name} of {language}") for name, language in (
+        ("suppress_script", "Rust"), ("extended_language", "Python"), ("extendedLanguages", "JavaScript"), ("extlang", "PostgreSQL"))),
+    (calls_page.SOURCE, "langtag_group_best_for_header", "-", "no row with langtag_group_best_for_header of SQLite"),
     (calls_page.SOURCE, "try_langtag", "btequalimage", "PostgreSQL has no btequalimage"),
     (calls_page.PAGE, "hash a tag", "hash a task", calls_page.PAGE),
 ]

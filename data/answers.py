@@ -9,7 +9,7 @@ import random
 import re
 import sys
 import types
-from collections.abc import Callable, Iterable, Iterator
+from collections.abc import Callable, Iterable
 
 
 @functools.lru_cache(None)
@@ -50,16 +50,6 @@ def main(words: list[str], usage: str | None, answer: Callable[[str], str] | Non
     else:
         sys.exit(usage)
     return False
-
-
-def differing(page: dict[str, list], data: dict[str, list]) -> Iterator[str]:
-    """Yields a line for each list of specs/ that differs from a second reading of the data, or that only one of the two has."""
-    for name in sorted(page.keys() ^ data.keys()):
-        yield f"{name}: {'not read a second time' if name in page else 'not on its page'}"
-    for name in sorted(page.keys() & data.keys()):
-        if sorted(page[name]) != sorted(data[name]):
-            differ = sorted(set(page[name]) ^ set(data[name])) or "an entry that stands twice"
-            yield f"{name}: differs from a second reading of the data, as in {differ[:5]}"
 
 
 def compare(rows: Iterable[str], answers: str, answer: Callable[[str], str]) -> bool:

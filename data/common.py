@@ -3,7 +3,7 @@
 usage: generate.py                     writes the files from the data whose checksums are kept
        generate.py --accept [NAME..]   writes them from newer data, and their checksums
        generate.py --check             writes nothing, and names each fault: data with other checksums, a file that would be written
-                                       differently, a list that differs from a second reading of the data
+                                       differently
 
 Data that break a premise of the crates are refused: the row or the record that breaks it is named, nothing is written, and the status is 1.
 """
@@ -47,10 +47,6 @@ class Generator:
         """Returns a line for each change that --accept has to take."""
         return []
 
-    def second_reading(self) -> Iterable[str]:
-        """Returns a line for each list that differs from an independent reading of the data."""
-        return []
-
     def sums(self) -> str:
         """Returns the lines of sha256sum for the data, so `sha256sum -c` can check them, too, at the top of the repository."""
         return "".join(f"{hashlib.sha256((ROOT / path).read_bytes()).hexdigest()}  {path}\n" for path in self.data())
@@ -72,7 +68,6 @@ def run(generator: Generator, words: list[str]) -> bool:
         told += news
         if check:
             told += [f"differs: {path}" for path, text in files.items() if text != text_of(path)]
-            told += generator.second_reading()
         elif accept or not told:
             write(files | ({generator.checksums: generator.sums()} if generator.checksums else {}))
     except Refused as refused:
@@ -87,6 +82,12 @@ def run(generator: Generator, words: list[str]) -> bool:
 def text_of(path: str) -> str:
     """Returns the text of a file, or the empty text if there is none."""
     return (ROOT / path).read_bytes().decode("utf-8") if (ROOT / path).is_file() else ""
+
+
+def lists_of(path: str) -> dict[str, list[str]]:
+    """Returns the words of each list of a page of specs/."""
+    lists = re.findall(r"(?ms)^(\w+)(?: form)? =(.*?)(?:\n\n|\Z)", text_of(path))
+    return {name: " ".join(re.findall(r'codes "([^"]*)"', body)).split() for name, body in lists}
 
 
 def write(files: dict[str, str]) -> None:

@@ -180,9 +180,10 @@ class Api:
 def print_differences(api, commit):
     """Prints the signatures that differ from those of a commit."""
     with tempfile.TemporaryDirectory() as folder:
-        archive = subprocess.run(["git", "archive", commit, "rust"], cwd=RUST.parent, capture_output=True, check=False)
-        if archive.returncode:
-            print(f"api: not run: the comparison with {commit}, which this copy has not: {archive.stderr.decode().strip()}")
+        try:
+            archive = subprocess.run(["git", "archive", commit, "rust"], cwd=RUST.parent, capture_output=True, check=True)
+        except (OSError, subprocess.CalledProcessError) as error:
+            print(f"api: not run: the comparison with {commit}: {getattr(error, 'stderr', b'').decode().strip() or error}")
             return
         subprocess.run(["tar", "-x", "-C", folder], input=archive.stdout, check=True)
         before = Api(read_json(pathlib.Path(folder, "rust")))

@@ -8,6 +8,7 @@ from __future__ import annotations
 
 from flask import Flask, Response, make_response, request
 from langtag import Site, Tag, autonym, describe
+from markupsafe import escape
 
 PAGES = {"en": "Hello", "de": "Guten Tag", "sr-Latn": "Dobar dan", "zh-Hant": "你好", "ar": "مرحبا"}
 SITE = Site(PAGES)  # what the choice needs of each tag is computed once
@@ -33,7 +34,8 @@ def direction(tag: str) -> str:
 def menu(page: str) -> str:
     """Returns the menu of languages, each by its name in itself. The language of the page comes first."""
     tags = [page, *(tag for tag in PAGES if tag != page)]
-    return " ".join(f'<a href="?lang={tag}" lang="{tag}" dir="{direction(tag)}">{autonym(tag) or describe(tag)}</a>' for tag in tags)
+    names = {tag: escape(autonym(tag) or describe(tag)) for tag in tags}  # a name may contain &
+    return " ".join(f'<a href="?lang={tag}" lang="{tag}" dir="{direction(tag)}">{name}</a>' for tag, name in names.items())
 
 
 @app.get("/")

@@ -1,15 +1,12 @@
-"""Compares the examples in C and Python that answer requests. PROGRAM names the C program. Both
-get the same headers, and have to give the same answers."""
+"""Tests the example in C that answers requests. PROGRAM names the program."""
 import contextlib
 import http.client
 import os
 import socket
 import subprocess
-import sys
 import unittest
 
-import negotiate
-
+GREETINGS = {"en": "Hello", "de": "Guten Tag", "de-CH": "Grüezi", "fr": "Bonjour", "zh-Hant": "你好"}
 # A header, and the Content-Language of the answer.
 HEADERS = [
     (None, "en"), ("", "en"), ("de", "de"), ("fr;q=0.3, DE-ch-1996;q=0.9", "de-CH"), ("de;q=0.5,fr;q=0.5", "de"),
@@ -45,8 +42,7 @@ def answers(command):
 
 class Examples(unittest.TestCase):
     def test_servers(self):
-        wanted = [(200, tag, negotiate.GREETINGS[tag] + "\n") for _, tag in HEADERS]
-        self.assertEqual(answers([sys.executable, negotiate.__file__, "0"]), wanted)
+        wanted = [(200, tag, GREETINGS[tag] + "\n") for _, tag in HEADERS]
         self.assertEqual(answers([os.environ["PROGRAM"], "0"]), wanted)
 
     def test_who_waits_and_who_sends_a_nul(self):

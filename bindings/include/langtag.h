@@ -8,7 +8,7 @@
  *         printf("%.*s\n", (int)parts.script.len, text + parts.script.start); // Hant
  *
  * For every input, each function ends, returns and writes what its comment says, and touches only the memory of its
- * arguments. This is proved if LANGTAG_PROVED is 1. No function allocates, keeps state between calls, calls back,
+ * arguments. This is proved of its source. No function allocates, keeps state between calls, calls back,
  * prints, exits or sets errno. So the functions may be called from several threads at once, and from signal handlers.
  * Time grows linearly with the length of the strings, except for langtag_repeats, langtag_extensions_form,
  * langtag_is_locale, langtag_locale_form, and the calls that take a list of tags. langtag_next_keyword and
@@ -28,8 +28,7 @@
  *      with "(out)" is only written, so it need not be initialised.
  *   4. Memory that a call may write through one argument (an out struct, `rest`, `passed`, a buffer, the bytes of langtag_fold and
  *      langtag_recommend) does not overlap the memory of any other argument. Strings that are only read may overlap.
- *   5. An x86-64 processor has SSE4.2 (x86-64-v2). Any aarch64 processor is supported. Calls follow the C calling
- *      convention of the platform. 4 KiB of the stack is free for each call, and 16 KiB for langtag_repeats,
+ *   5. 4 KiB of the stack is free for each call, and 16 KiB for langtag_repeats,
  *      langtag_extensions_form, langtag_is_locale, langtag_locale_form, langtag_best_for_header, langtag_best_for_ranges,
  *      langtag_match_for_header, langtag_site_best_for_header, langtag_site_best_for_ranges, langtag_site_match_for_header,
  *      langtag_suitable_for_header and langtag_suitable_for_ranges.
@@ -48,11 +47,6 @@
 /* The version of the bindings, and the number in the library's soname, which changes if programs have to be rebuilt. */
 #define LANGTAG_VERSION "0.2.0-dev"
 #define LANGTAG_ABI_VERSION 1
-
-/* 1 in a package whose library was built by the prover, after it had proved the sources. 0 if cargo built the library from the same sources. */
-#ifndef LANGTAG_PROVED
-#define LANGTAG_PROVED 0
-#endif
 
 #ifdef __cplusplus
 extern "C" {

@@ -26,10 +26,6 @@ export const GRANDFATHERED = Object.freeze([
 export const REGISTRY_DATE = String(calls.registryDate()).replace(/(....)(..)(..)/, "$1-$2-$3");
 /** The version of Unicode's CLDR from which likely subtags, distances and aliases come, such as "48.2". */
 export const CLDR_VERSION = calls.cldrVersion();
-/**
- * Whether the WebAssembly module was linked from the archive that Rattle's prover built after it had proved the sources. It is false if cargo
- * built the module from the same sources.
- */
 const FNV1A = 0xcbf29ce484222325n; // the hash of an empty string
 const KINDS = [undefined, "normal", "private-use", "irregular"];
 const PARTS = ["language", "script", "region", "variants", "extensions", "privateUse"];

@@ -99,11 +99,6 @@ export const REGISTRY_DATE: string = String(calls.registryDate()).replace(/(....
 /** The version of Unicode's CLDR from which likely subtags, distances and aliases come, such as "48.2". */
 export const CLDR_VERSION: string = calls.cldrVersion();
 
-/**
- * Whether the WebAssembly module was linked from the archive that Rattle's prover built after it had proved the sources. It is false if cargo
- * built the module from the same sources.
- */
-
 const FNV1A = 0xcbf29ce484222325n; // the hash of an empty string
 
 const KINDS: any[] = [undefined, "normal", "private-use", "irregular"];

@@ -1,6 +1,6 @@
 /*
  * PostgreSQL's types langtag (a language tag, RFC 5646), langtag_range (a language range, RFC 4647) and langtag_part (some
- * subtags of a tag), over the proved C library. langtag.sql.in says what each function returns.
+ * subtags of a tag), over the proved C library. langtag.sql says what each function returns.
  *
  * A value is a varlena with only the bytes of its text, as the type text is, so that casts to text cost nothing. Values of langtag
  * are in the case that RFC 5646 recommends, so equal tags have equal bytes. The C names begin with pg_langtag_, since those of the
@@ -46,15 +46,6 @@
 #endif
 
 PG_MODULE_MAGIC;
-
-void _PG_init(void);
-
-/* The archive is built for x86-64-v2, and would crash the server on an older processor. */
-void _PG_init(void) {
-    if (!__builtin_cpu_supports("sse4.2"))
-        ereport(ERROR, (errcode(ERRCODE_FEATURE_NOT_SUPPORTED),
-                        errmsg("extension langtag needs a processor with SSE4.2 (x86-64-v2)")));
-}
 
 #define BYTES(value) ((const char *)VARDATA_ANY(value))
 #define LEN(value) ((size_t)VARSIZE_ANY_EXHDR(value))
@@ -647,9 +638,6 @@ FUNCTION(pg_langtag_version) {
     PG_RETURN_TEXT_P(cstring_to_text(psprintf("langtag %s (IANA's registry of %04u-%02u-%02u, CLDR %s)", LANGTAG_VERSION, date / 10000,
                                               date / 100 % 100, date % 100, cldr_version())));
 }
-
-/* Returns whether the archive in this module is the proved one. */
-FUNCTION(pg_langtag_proved) { PG_RETURN_BOOL(LANGTAG_PROVED); }
 
 FUNCTION(pg_langtag_cldr_version) { PG_RETURN_TEXT_P(cstring_to_text(cldr_version())); }
 

@@ -122,7 +122,7 @@ def tree(folder: pathlib.Path, wanted: str = ".*", place: str = "") -> dict[str,
 
 def module_files() -> dict[str, bytes]:
     """Returns the files of the package langtag, without a binary."""
-    return {**tree(HERE / "langtag", MODULE_FILES, "langtag/"), **tree(EXAMPLES, r"(negotiate|catalogue)\.py", "langtag/examples/")}
+    return {**tree(HERE / "langtag", MODULE_FILES, "langtag/"), **tree(EXAMPLES, r"gettext_catalogue\.py", "langtag/examples/")}
 
 
 def rows() -> dict[str, bytes]:
@@ -182,7 +182,7 @@ def wheel(folder: str | pathlib.Path, library: pathlib.Path, platforms: str, com
 
 def sdist(folder: str | pathlib.Path, library: pathlib.Path) -> str:
     """Writes an sdist, and returns its name: the sources of the C module with the archive, so that it needs no cargo."""
-    examples = tree(EXAMPLES, r"(parts|negotiate|catalogue)\.py", "examples/")
+    examples = tree(EXAMPLES, r"(parts|gettext_catalogue)\.py", "examples/")
     files = {**tree(HERE, SDIST_FILES), **module_files(), **examples, **rows(), **notes(readme()), **tree(HEADER, r"langtag_names(_data)?\.h"),
              "liblangtag_c.a": library.read_bytes(), "langtag.h": (HEADER / "langtag.h").read_bytes(), "PKG-INFO": metadata()}
     top = f"langtag_verified-{of_python()}"

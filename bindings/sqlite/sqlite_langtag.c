@@ -453,10 +453,6 @@ FUNCTION(version) {
                                          date / 100 % 100, date % 100, len <= sizeof cldr ? (int)len : 0, cldr));
 }
 
-FUNCTION(proved) {
-    sqlite3_result_int(context, LANGTAG_PROVED);
-}
-
 static int compare(void *unused, int a_len, const void *a, int b_len, const void *b) {
     (void)unused;
     return langtag_cmp(langtag_bytes(a), (size_t)a_len, langtag_bytes(b), (size_t)b_len);
@@ -472,7 +468,7 @@ int sqlite3_sqlitelangtag_init(sqlite3 *db, char **message, const sqlite3_api_ro
         {.name = "langtag_autonym", .arguments = 1, .call = autonym, .longest = LONGEST_TAG},
         CALL("langtag_unknown_modifier", 1, unknown_modifier), CALL("langtag_distance", 2, distance), CALL("langtag_version", 0, version),
         CALL("langtag_best_for_header", -1, best), CALL("langtag_match_for_header", -1, match_for_header),
-        CALL("langtag_suitable_for_header", -1, suitable), CALL("langtag_proved", 0, proved),
+        CALL("langtag_suitable_for_header", -1, suitable),
         {.name = "langtag_best_for_ranges", .arguments = -1, .call = best, .is_for_ranges = true},
         {.name = "langtag_suitable_for_ranges", .arguments = -1, .call = suitable, .is_for_ranges = true},
         FORM(langtag_extensions_form, LONGEST_TAG), FORM(langtag_locale_form, LONGEST_TAG), FORM(langtag_canonical, 0), FORM(langtag_maximized, 0),

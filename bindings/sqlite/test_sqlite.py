@@ -183,7 +183,7 @@ STATEMENTS = [
     ("PRAGMA trusted_schema = off; CREATE TABLE t (tag TEXT CHECK (langtag_is_valid(tag)), form TEXT AS (langtag_canonical(tag)) STORED); CREATE INDEX i ON t (langtag_maximized(tag));"
      "CREATE VIEW best AS SELECT langtag_group_best_for_header('he', tag) AS tag FROM t; CREATE VIEW more AS SELECT langtag_best_for_header('he', tag), langtag_match_for_header('de', tag) FROM t;"
      "INSERT INTO t VALUES ('iw'), (NULL); SELECT form FROM t WHERE form IS NOT NULL; SELECT * FROM best; SELECT count(*) FROM more;", "he\niw\n2"),
-    ("SELECT langtag_version() GLOB 'langtag *.*.* (IANA''s registry of 20[0-9][0-9]-[01][0-9]-[0-3][0-9], CLDR [0-9]*)', langtag_proved() IN (0, 1);", "1|1"),
+    ("SELECT langtag_version() GLOB 'langtag *.*.* (IANA''s registry of 20[0-9][0-9]-[01][0-9]-[0-3][0-9], CLDR [0-9]*)';", "1"),
     (TABLE + "CREATE INDEX forms ON texts (langtag_canonical(tag), langtag_part(tag, 'script'), langtag_is_valid(tag), langtag_matches_basic('de', tag)); SELECT 1;", "1"),
     (TABLE + "SELECT group_concat(tag) FROM (SELECT tag FROM texts ORDER BY tag);", "de,zh-Hant,zh,"),
     (TABLE + "INSERT OR IGNORE INTO texts VALUES ('DE'); SELECT count(*) FROM texts;", "4"),

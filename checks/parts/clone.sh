@@ -1,8 +1,8 @@
 # Installs the packages for Python and npm from a clone, as a reader of the pages does: with the tools of the language and cargo, without
-# Rattle and without a network, from an empty folder. The packages say that they are not proved, have their notices, and pass the rows.
+# Rattle and without a network, from an empty folder. The packages have their notices, and pass the rows.
 cloned() {
-    mkdir "$work/clone" && cd "$root" && { git ls-files -z -- bindings docs 'LICENSE-*' rows rust crates.txt 'crates/*/src' 2>/dev/null |
-        tar -c --null -T - --ignore-failed-read 2>/dev/null || tar -c --exclude=target --exclude=build --exclude=dist bindings docs rows rust crates.txt crates/*/src LICENSE-*; } |
+    mkdir "$work/clone" && cd "$root" && { git ls-files -z -- bindings docs 'LICENSE-*' vectors rust crates.txt 'crates/*/src' 2>/dev/null |
+        tar -c --null -T - --ignore-failed-read 2>/dev/null || tar -c --exclude=target --exclude=build --exclude=dist bindings docs vectors rust crates.txt crates/*/src LICENSE-*; } |
         tar -x -C "$work/clone"
 }
 # outside COMMAND..: runs a command in an empty folder, without rt in the PATH.
@@ -12,46 +12,29 @@ outside() {
     folder=$(mktemp -d -p "$work") || return 1
     env -u LANGTAG_ARCHIVE -u CARGO_TARGET_DIR -C "$folder" PATH="${without_rt%:}" bash -ec "$*"
 }
-# notices FOLDER: a package has its licences, that of CLDR too, and a PROVED.txt which says that it is not proved.
-notices() { (cd "$1" && grep -l 'Permission is' LICENSE-MIT && grep -l 'Unicode' LICENSE-UNICODE && ls LICENSE-APACHE && grep -x 'langtag-verified .*+cargo' PROVED.txt && grep -x 'not proved' PROVED.txt); }
+# notices FOLDER: a package has its licences, that of CLDR too.
+notices() { (cd "$1" && grep -l 'Permission is' LICENSE-MIT && grep -l 'Unicode' LICENSE-UNICODE && ls LICENSE-APACHE); }
 export -f notices
 pip_installs() {
     outside 'python3 -m venv v
         PIP_NO_INDEX=1 v/bin/python -m pip install -q --disable-pip-version-check ../clone/bindings/python
-        v/bin/python -c "from langtag import *; from langtag import __doc__; assert not PROVED and \"proved\" not in __doc__.split(\"PROVED is True only\")[0]"
-        notices v/lib/python3*/site-packages/langtag_verified-*+cargo.dist-info
+        notices v/lib/python3*/site-packages/langtag_verified-*.dist-info
         cp ../clone/bindings/python/rows.py ../clone/bindings/python/test_rows.py . && sed -i "s|^FOLDER = .*|FOLDER = pathlib.Path(\"../clone/vectors\").resolve()|" rows.py
         v/bin/python -m unittest -q test_rows
         v/bin/python -m pip show -q langtag-verified && v/bin/python -m pip uninstall -q -y langtag-verified && ! v/bin/python -c "import langtag" 2>/dev/null'
 }
 npm_installs() {
     outside 'npm install --offline --no-audit --no-fund --loglevel=error ../clone/bindings/js
-        echo "import { LanguageTag, PROVED } from \"langtag-verified\"; if (PROVED || LanguageTag.parse(\"zh-Hant-TW\").script !== \"Hant\") process.exit(1);" >first.mjs
+        echo "import { LanguageTag } from \"langtag-verified\"; if (LanguageTag.parse(\"zh-Hant-TW\").script !== \"Hant\") process.exit(1);" >first.mjs
         node first.mjs && [ -c /dev/null ]
         notices node_modules/langtag-verified/ && grep -x "# langtag for JavaScript" node_modules/langtag-verified/README.md
-        npm ls | grep "langtag-verified@.*+cargo" && grep "\"description\": .* not proved\"" node_modules/langtag-verified/package.json
         cd node_modules/langtag-verified/ && node --test test/rows.test.js test/langtag.test.js test/examples.test.js'
-}
-# Without cargo, pip, npm and make fail, and the reason is all that they say.
-said_without_cargo() {
-    mkdir -p "$work/no-cargo" && local tool
-    for tool in sh bash env dirname basename mkdir tar sed cat python3 cc ld as ar find head cmp cp rm touch grep id uname mktemp node npm nproc make sleep; do
-        ln -sf "$(command -v $tool)" "$work/no-cargo/$tool"
-    done
-    cp -r "$work/clone" "$work/bare" && rm -rf "$work"/bare/bindings/python/build "$work"/bare/rust/c/target "$work"/bare/bindings/js/module.js || return 1
-    without_rt=$work/no-cargo
-    ! outside 'python3 -m pip install -q --no-index --target t ../bare/bindings/python' >"$work/said" 2>&1 && grep 'there is no cargo' "$work/said" &&
-        ! outside 'cd ../bare/bindings/js && ./build' >"$work/said" 2>&1 && [ "$(wc -l <"$work/said")" = 1 ] && grep 'there is no cargo' "$work/said" || return 1
-    for tool in c sqlite; do
-        ! outside "make -C ../bare/bindings/$tool" >"$work/said" 2>&1 && [ "$(grep -vc '^make' "$work/said")" = 1 ] && grep 'there is no cargo' "$work/said" || return 1
-    done
 }
 lacks "a clone: pip and npm" 'has cargo' "there is no cargo" && return 0
 check "a clone: a copy of its files" cloned
 if ! lacks "a clone: pip install" "python3 -c 'import venv, ensurepip' >/dev/null 2>&1" \
     "python3 has no venv and ensurepip (in Debian: apt-get install python3-venv)"; then
     check "a clone: pip install, and the rows" pip_installs
-    check "a clone: without cargo, pip, npm and make say so" said_without_cargo
 fi
 lacks "a clone: npm install" 'node_is_new && has npm' "there is no npm, or no Node of version 20 or later" && return 0
 if outside 'cd ../clone/bindings/js && ./build' >"$work/log" 2>&1; then

@@ -7,17 +7,11 @@ negotiate() {
         -o "$work/built/negotiate"
 }
 check "C: the HTTP example builds" negotiate
-check "the HTTP examples in C and Python answer alike" env -C examples PROGRAM="$work/built/negotiate" python3 -m unittest test_examples
+check "C: the HTTP example answers each header" env -C examples PROGRAM="$work/built/negotiate" python3 -m unittest test_examples
 
 check "Flask, Django and films: what a reader and a viewer pick" env -C examples python3 -m unittest test_sites
 python3 -c 'import flask' 2>/dev/null || not_run "Python: the Flask site" "Flask is not there"
 
-# The messages of the catalogue for a tag: that of a parent, of the tag itself, of the default.
-catalogues() {
-    local asked=("pt-AO bus" "de-ch-1996 bike" "de-CH hello" "zh-TW bike" "zh-TW hello" "fr train")
-    for it in "${asked[@]}"; do python3 examples/catalogue.py $it; done | diff <(printf '%s\n' autocarro Velo Hallo 腳踏車 Hello train) -
-}
-check "the example of a catalogue asks the parents of a tag" catalogues
 check "gettext reads the messages of the parents of a locale" env -C examples python3 -m unittest test_gettext
 
 # Debian's rdflib is for Debian's own Python.

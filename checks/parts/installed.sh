@@ -39,7 +39,7 @@ another_archive() {
     ar r "$work/another.a" "$work/surplus.o" && touch -d 2000-01-01 "$work/another.a" || return 1
     elsewhere install && cmp "$work/another.a" "$work/another/lib64/liblangtag_verified.a" || return 1
     grep "^libdir=$work/another/lib64$" "$work/another/lib64/pkgconfig/langtag_verified.pc" || return 1
-    grep '^#define LANGTAG_PROVED 0$' "$work/another/headers/langtag.h" && grep -v LANGTAG_PROVED include/langtag.h | cmp - <(grep -v LANGTAG_PROVED "$work/another/headers/langtag.h")
+    cmp include/langtag.h "$work/another/headers/langtag.h"
 }
 check "C: make install of another archive" another_archive
 

@@ -6,14 +6,14 @@ check "JavaScript: the module and the page, twice the same" js_built
 # wasm_without_imports FILE: the module imports nothing, and exports what the header declares.
 wasm_symbols() {
     sed -n 's/^[A-Za-z].* \**\(langtag_[a-z_]*\)(.*[,;]$/\1/p' include/langtag.h | sort >"$work/declared"
-    node -e 'const module = new WebAssembly.Module(require("fs").readFileSync("js/langtag32.wasm"));
+    node -e 'const module = new WebAssembly.Module(require("fs").readFileSync("js/langtag.wasm"));
         if (WebAssembly.Module.imports(module).length > 0) throw new Error("it has imports");
         for (const { name, kind } of WebAssembly.Module.exports(module)) if (kind === "function") console.log(name);' |
         sort | diff "$work/declared" -
 }
 
 lacks "JavaScript: tests" node_is_new "there is no Node of version 20 or later" && return 0
-echo "Node $(node --version)$(has wasm-opt && echo ", $(wasm-opt --version)")"
+echo "Node $(node --version)"
 check "JavaScript: no import, and the functions of the header" wasm_symbols
 js_tests() { (cd js && LANGTAG_ANSWERS=$work/answers node --test --test-reporter=spec test/rows.test.js test/langtag.test.js test/examples.test.js); }
 check "JavaScript: tests, the example, the rows, and C's answers to random calls" js_tests

@@ -24,9 +24,8 @@ postgresql_released() {
 }
 
 postgresql_regress() { make -s -C "$pg_folder/first" installcheck PG_CONFIG="$pg_config" || { cat "$pg_folder/first/regression.diffs"; return 1; }; }
-# What SQL says of the library in the extension, and what it has to say of the archive that was given.
-postgresql_says() { psql -X -q -At -c "CREATE EXTENSION IF NOT EXISTS langtag; SELECT langtag_proved(), langtag_version()" postgres; }
-postgresql_proved() { postgresql_says | diff - <(echo "f|$(cd python && versions)"); }
+postgresql_says() { psql -X -q -At -c "CREATE EXTENSION IF NOT EXISTS langtag; SELECT langtag_version()" postgres; }
+postgresql_versions() { postgresql_says | diff - <(cd python && versions); }
 
 # Installs from the clone of parts/clone.sh, by cargo. The second `make install` is that of root, who may have no cargo.
 postgresql_clone() {
@@ -34,7 +33,7 @@ postgresql_clone() {
     without=$(mktemp -d -p "$work") && printf '#!/bin/sh\nexit 3\n' >"$without/cargo" && chmod +x "$without/cargo" || return 1
     env -u LANGTAG_ARCHIVE -u LANGTAG_INCLUDE -u CARGO_TARGET_DIR make -s -C "$clone/bindings/postgresql" PG_CONFIG="$pg_config" || return 1
     env -u LANGTAG_ARCHIVE -u LANGTAG_INCLUDE PATH="$without:$PATH" make -s -C "$clone/bindings/postgresql" install PG_CONFIG="$pg_config" DESTDIR="$pg_folder/server" &&
-        postgresql_says | grep '^f|langtag '
+        postgresql_says | grep '^langtag '
 }
 postgresql_later() { later "$here/postgresql" "$here/include" "$work/lib/liblangtag_c.a"; }
 in_postgresql() { cd postgresql/test && LANGTAG_ANSWERS=$work/answers_about_tags python3 -m unittest "$1"; }
@@ -59,7 +58,7 @@ else
     check "PostgreSQL: an owner gets no rights by the scripts of the extension" in_postgresql test_privileges
     needs '[ -f "$("$pg_config" --sharedir)/extension/amcheck.control" ]' "there is no amcheck" \
         "PostgreSQL: the update to another registry" in_postgresql test_update
-    check "PostgreSQL: SQL says whether the library is proved, and the versions of the program" postgresql_proved
+    check "PostgreSQL: SQL says the versions of the program" postgresql_versions
     needs '[ -d "$work/clone" ]' "there is no cargo" "PostgreSQL: a clone installs by cargo" postgresql_clone
     check "PostgreSQL: planted faults are found by make installcheck" postgresql_wrong
 fi

@@ -19,12 +19,12 @@ on_pypy() {
         pypy3 -m unittest test_rows test_langtag.{Values,Negotiation,Sites,WrongCalls,Help}
 }
 needs 'ls /usr/include/pypy3*/Python.h >/dev/null 2>&1' "its headers are not there (in Debian: apt-get install pypy3-dev)" "Python: tests by PyPy" on_pypy
-. "$here/checks/python_leaks.sh"
+. "$root/checks/parts/python_leaks.sh"
 
 # mypy of this Python, or the program that Debian installs. It also checks a user's program, and has to find the mistake in it.
 mypy=
 if python3 -m mypy --version >/dev/null 2>&1; then mypy="python3 -m mypy"; elif has mypy; then mypy=mypy; fi
-type_check() { cd python && $mypy --strict langtag && $mypy --strict ../examples/{parts,negotiate,catalogue,gettext_catalogue,film,hreflang}.py; }
+type_check() { cd python && $mypy --strict langtag && $mypy --strict ../examples/{parts,gettext_catalogue,film,hreflang}.py; }
 mistake() {
     cd python && printf '%s\n' 'import langtag' 'langtag.Tag("de").replace(script=5)' >"$work/mistake.py"
     ($mypy --strict "$work/mistake.py" || true) | grep 'mistake.py:2: error: Argument "script"'

@@ -1,8 +1,6 @@
 # Installs each package that `bindings/release` makes in an empty folder, by a process that cannot see the repository, and runs its
 # first program. Two runs of `bindings/release` have to make the same bytes.
 
-COMMIT=$(git -C "$root" rev-parse HEAD 2>/dev/null || echo "not known") # for `bindings/release` in a copy without git, and for `proves`
-
 releases() {
     (cd "$root" && cp --parents CHANGELOG.md LICENSE-APACHE LICENSE-MIT LICENSE-UNICODE "$work") || return 1
     cp -r "$root/docs" "$work" || return 1
@@ -11,17 +9,6 @@ releases() {
 }
 check "release: two runs give the same bytes" releases
 
-# opened PACKAGE: unpacks a package, and changes to its folder.
-opened() {
-    rm -rf "$work/opened" && mkdir "$work/opened" && cd "$work/opened" || return 1
-    case $1 in
-        *.deb) dpkg-deb -R "$1" . ;;
-        *x86_64.whl) python3 -m zipfile -e "$1" . && python3 -c 'import langtag; print("PROVED =", langtag.PROVED)' >label ;;
-        *.whl | *.zip) python3 -m zipfile -e "$1" . ;;
-        *.html) cp "$1" . ;;
-        *) tar -xzf "$1" ;;
-    esac
-}
 # Checks what only the tarball has: the archive under the name in the page, and the examples.
 by_itself() {
     away 'tar -xzf ../dist/*-x86_64-elf.tar.gz; cd liblangtag-verified-*; rm ../parts.*

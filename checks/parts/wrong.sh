@@ -1,5 +1,5 @@
 # Plants faults in the wrappers. The rows have to find each of them.
-languages=(C C++ Python)
+languages=(C++ Python)
 if has cargo; then languages+=(Rust); else not_run "wrong wrappers in Rust" "there is no cargo"; fi
 if [ -e "$work/built/sqlite_langtag.so" ]; then languages+=(SQLite); fi
 if [ -e js/module.js ] && node_is_new; then languages+=(JavaScript); else not_run "wrong wrappers in JavaScript" "its tests were not run"; fi

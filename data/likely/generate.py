@@ -14,7 +14,6 @@ import sys
 
 sys.path.append(str(pathlib.Path(__file__).resolve().parent.parent))
 import common  # noqa: E402
-import lists as second_reading  # noqa: E402
 from common import (Generator, Refused, bits, cldr_version, codes, files_of, folded_number, head, joined, keys, letter_number, rows_of, run,  # noqa: E402
                     table, word_list)
 from matching import Matching  # noqa: E402
@@ -320,16 +319,12 @@ class OfLikely(Generator):
     def lost(self, named):
         """Returns the languages that lost their row, or lost their rule and have no row. The results for their tags change."""
         likely, matching = read_all()
-        standing = second_reading.standing(common.ROOT / "crates")
+        standing = common.lists_of("crates/langtag_cldr/specs/LikelySubtags.antt") | common.lists_of("crates/langtag_choice/specs/MatchingData.antt")
         rows = {row[0] for row in likely.of_languages}
         rules = {text for row in matching.languages for text in row[:2]}
-        had_row = {row[0] for row in standing.get("language_rows", [])}
-        had_rule = {text for row in standing.get("language_rules", []) for text in row[:2]}
+        had_row, had_rule = {*standing["language_rows"][::3]}, {*standing["language_rules"][::3], *standing["language_rules"][1::3]}
         for language in sorted((had_row - rows | had_rule - rows - rules) - {row[0] for row in matching.aliases} - set(named)):
             yield f"{language}: it had a {'row' if language in had_row else 'rule'}, and has none now"
-
-    def second_reading(self):
-        return second_reading.differences(common.ROOT / "crates")
 
 
 if __name__ == "__main__":

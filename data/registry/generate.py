@@ -10,7 +10,6 @@ import sys
 
 sys.path.append(str(pathlib.Path(__file__).resolve().parent.parent))
 import common  # noqa: E402
-import lists as second_reading  # noqa: E402
 from common import Generator, Refused, bits, codes, folded_number, joined, keys, refuse, run, table, text_of  # noqa: E402
 from premises import broken  # noqa: E402
 from proof_pages import PAGES  # noqa: E402
@@ -155,7 +154,7 @@ class OfRegistry(Generator):
     def lost(self, named):
         """Returns a line for a registry that is not newer, and for the subtags and tags of the current lists that it lacks. No record
         is ever removed (section 3.4)."""
-        registry, lists = read(), second_reading.words(text_of(LISTS))
+        registry, lists = read(), common.lists_of(LISTS)
         date = re.search(r'FILE_DATE: &str = "([0-9-]+)"', text_of(TABLES))
         if date and registry.date <= date[1]:
             yield f"a registry of {registry.date}, with other bytes, is not newer than that of {date[1]}, which stands"
@@ -166,9 +165,6 @@ class OfRegistry(Generator):
         for text in lists.get("tag_preferred", [])[::2] + lists.get("deprecated_tags", []):
             if not any(registry.get(kind, text) for kind in TAG_TYPES):
                 yield f"{text}: a whole tag before, and not in this registry"
-
-    def second_reading(self):
-        return second_reading.differences(common.ROOT / REGISTRY, text_of(LISTS))
 
 
 if __name__ == "__main__":

@@ -195,10 +195,8 @@ impl<T: AsRef<str>> fmt::Display for InvalidSubtag<T> {
     fn fmt(&self, f: &mut fmt::Formatter<'_>) -> fmt::Result {
         let [_, what, how] = self.fault.words();
         write!(f, "{what} {} {how}", self.subtag())?;
-        match self.suggestion() {
-            Some(code) => write!(f, ": did you mean {code}?"),
-            None => Ok(()),
-        }
+        self.suggestion()
+            .map_or(Ok(()), |code| write!(f, ": did you mean {code}?"))
     }
 }
 

@@ -165,7 +165,8 @@ pub fn write_parent<'a, 'b>(
 /// An iterator over a tag and its parents, in the order in which a catalogue looks for a string.
 ///
 /// All of them are written in the same script if CLDR lists the language, so `zh-TW` is followed by
-/// `zh-Hant`, and never by `zh`. A script that is likely anyway goes first, and comes back before the
+/// `zh-Hant`, and never by `zh`. This does not hold for regions that CLDR replaces, such as `UK` and
+/// `SU`. A script that is likely anyway goes first, and comes back before the
 /// language alone. Extensions and private use go next, then each variant, the last one first, and
 /// then the region. The variants come back with each parent. Case is ignored.
 ///

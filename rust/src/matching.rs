@@ -122,10 +122,10 @@ pub fn wanted_ranges(header: &(impl AsRef<[u8]> + ?Sized)) -> WantedRanges<'_> {
 /// ```
 ///
 /// [RFC 4647 section 3.3.1]: https://www.rfc-editor.org/rfc/rfc4647#section-3.3.1
-pub fn filter_basic<'t, T: TagEntry>(
-    ranges: &[impl AsRef<str>],
+pub fn filter_basic<'r, 't, R: AsRef<str>, T: TagEntry>(
+    ranges: &'r [R],
     tags: &'t [T],
-) -> impl Iterator<Item = &'t T> {
+) -> impl Iterator<Item = &'t T> + use<'r, 't, R, T> {
     filtered(ranges, tags, |range, tag| range.matches_basic(tag))
 }
 
@@ -140,18 +140,18 @@ pub fn filter_basic<'t, T: TagEntry>(
 /// ```
 ///
 /// [RFC 4647 section 3.3.2]: https://www.rfc-editor.org/rfc/rfc4647#section-3.3.2
-pub fn filter_extended<'t, T: TagEntry>(
-    ranges: &[impl AsRef<str>],
+pub fn filter_extended<'r, 't, R: AsRef<str>, T: TagEntry>(
+    ranges: &'r [R],
     tags: &'t [T],
-) -> impl Iterator<Item = &'t T> {
+) -> impl Iterator<Item = &'t T> + use<'r, 't, R, T> {
     filtered(ranges, tags, |range, tag| range.matches_extended(tag))
 }
 
-fn filtered<'t, T: TagEntry>(
-    ranges: &[impl AsRef<str>],
+fn filtered<'r, 't, R: AsRef<str>, T: TagEntry>(
+    ranges: &'r [R],
     tags: &'t [T],
     matches: fn(LanguageRange<'_>, LangTag<'_>) -> bool,
-) -> impl Iterator<Item = &'t T> {
+) -> impl Iterator<Item = &'t T> + use<'r, 't, R, T> {
     let ranges = Ranges(ranges);
     ranges.enumerate().flat_map(move |(index, range)| {
         tags.iter().filter(move |entry| {

@@ -54,7 +54,7 @@ impl core::error::Error for TooShort {}
 pub(crate) fn written(buffer: &[u8], len: usize) -> Result<&str, TooShort> {
     let bytes = buffer.get(..len).ok_or(TooShort { needed: len })?;
     // Each form of a tag is ASCII.
-    core::str::from_utf8(bytes).map_err(|_| TooShort { needed: len })
+    Ok(core::str::from_utf8(bytes).unwrap_or_default())
 }
 
 /// Returns what was written to a buffer, as [`written`] does, or `None` if there is no result.

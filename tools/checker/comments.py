@@ -10,7 +10,7 @@ ADDED = (
     "Panics if `index` is not less than `len()`.",
     "A source that counts wrongly or that changes its bytes gets a wrong answer or a panic, and nothing worse.",
     "The error borrows the string. A function that drops the string and returns the error calls "
-    "`LangTag::new(text).map_err(InvalidLangTag::into_owned)?`.",
+    "`text.parse::<LangTagBuf>()?`, or `LangTag::new(text).map_err(InvalidLangTag::into_owned)?`.",
 )
 SECTION = r"RFC\s+(\d+)\s+section\s+([\d.]*\d)"
 TARGET = re.compile(rf"\[{SECTION}\]: (\S+)")

@@ -148,3 +148,73 @@ def condition(words, at):
             at += 1
         at = group_end(words, at) if words[at] in ("(", "[", "{") else at + 1
     return at, joints
+
+
+def with_short_forms(words, counts):
+    """Writes a `match` on an option as a call of the option, and leaves out a lifetime that rustc adds itself."""
+    for at in range(len(words) - 1, -1, -1):
+        if words[at] == "match" and (short := short_match(words, at)):
+            counts["short match"] += 1
+            words = words[:at] + short + words[group_end(words, skip_to(words, at, ("{",))) :]
+        elif words[at] == "fn" and words[at + 2] == "<" and words[at + 3].startswith("'") and words[at + 4] == ">":
+            words = with_short_signature(words, at, counts)
+    return words
+
+
+def short_match(words, at):
+    """Returns the words of the call for `match option { Some(name) => some, None => none }`, or for a result with `Ok(name)` and `Err(_)`."""
+    body = skip_to(words, at, ("{",))
+    option, arms = words[at + 1 : body], words[body + 1 : group_end(words, body) - 1]
+    first = skip_to([*arms, ","], 0, (",",))
+    second = arms[first + 1 : len(arms) - (arms[-1] == ",")]
+    is_result = arms[:1] == ["Ok"]
+    absent = ["Err", "(", "_", ")", "=", ">"] if is_result else ["None", "=", ">"]
+    if arms[:2] != ["Ok" if is_result else "Some", "("] or arms[2] == "_" or second[: len(absent)] != absent or not is_reached(option):
+        return None
+    opens = group_end(arms, 1)
+    name, some, none = arms[2 : opens - 1], arms[opens + 2 : first], second[len(absent) :]
+    if arms[opens : opens + 2] != ["=", ">"] or "{" in (some[0], none[0]) or skip_to([*none, ","], 0, (",",)) < len(none):
+        return None
+    if {"return", "break", "continue", "?"} & {*some, *none} or (len(option) == 1 and is_reference(words, at, option[0])):
+        return None
+    start = len(some) - len(name) - 2
+    is_call = start > 0 and some[start:] == ["(", *name, ")"] and all(re.fullmatch(r"\w+|:", word) for word in some[:start])
+    closure = some[:start] if is_call and len(name) == 1 else ["|", *name, "|", *some]
+    is_plain = re.fullmatch(r"""(\w+|"[^"]*"|b?'[^']*')((::|\.)\w+)*""", "".join(none))
+    if none == ["false"] or none == ["true"] and not is_result:
+        return [*option, ".", {"true": "is_none_or", "false": "is_ok_and" if is_result else "is_some_and"}[none[0]], "(", *closure, ")"]
+    if some == name:
+        ignored = ["_"] if is_result else []
+        return [*option, ".", *(["unwrap_or", "("] if is_plain else ["unwrap_or_else", "(", "|", *ignored, "|"]), *none, ")"]
+    if none == ["None"]:
+        option = [*option, ".", "ok", "(", ")"] if is_result else option
+        is_some = some[:2] == ["Some", "("] and group_end(some, 1) == len(some)
+        return [*option, ".", *(["map", "(", "|", *name, "|", *some[2:-1]] if is_some else ["and_then", "(", *closure]), ")"]
+    return [*option, ".", "map_or", "(", *none, ",", *closure, ")"] if is_plain else None
+
+
+def is_reached(words):
+    """Returns whether words are a value, with its fields and calls."""
+    at = 0
+    while at < len(words) and (words[at] in ("(", "[", ".", ":") or re.fullmatch(r"[A-Za-z_]\w*", words[at])):
+        at = group_end(words, at)
+    return at == len(words)
+
+
+def is_reference(words, at, name):
+    start = max((place for place in range(at) if words[place] == "fn"), default=at)
+    return any(starts(words, place, name, ":", "&") for place in range(start, at))
+
+
+def with_short_signature(words, at, counts):
+    """Leaves out the lifetime of a function if one argument has it, and rustc knows no other for the result."""
+    name, close = words[at + 3], group_end(words, at + 5)
+    body = next((place for place in range(close, len(words)) if words[place] in ("{", ";", "where")), len(words) - 1)
+    arguments, result = words[at + 5 : close], words[close:body]
+    others = [place for place, word in enumerate(arguments) if word in ("self", "'_") or (word == "&" and arguments[place + 1] != name)]
+    in_body = name in words[body : group_end(words, body)]
+    if arguments.count(name) != 1 or words[body] == "where" or in_body or (name in result and others):
+        return words
+    counts["lifetime"] += 1
+    short = [word if word != name else "'_" for place, word in enumerate(words[at + 5 : body], at + 5) if word != name or words[place - 1] != "&"]
+    return words[: at + 2] + short + words[body:]

@@ -71,5 +71,14 @@ def without_arm_braces(words):
     return words
 
 
+def without_closure_braces(words):
+    """Removes the braces around the body of a closure, `|a| { b }`, since they are layout if it is a single expression."""
+    for at in range(len(words) - 3, -1, -1):
+        if starts(words, at, "|", "{") and ";" not in words[at : group_end(words, at + 1)]:
+            end = group_end(words, at + 1)
+            words = words[: at + 1] + words[at + 2 : end - 1] + words[end:]
+    return words
+
+
 def without_layout(words):
-    return without_last_commas(without_arm_braces(words))
+    return without_last_commas(without_closure_braces(without_arm_braces(words)))

@@ -19,6 +19,7 @@ from ghosts import erase_ghosts
 from memory import erase_allocators
 from paths import add_imports, erase_imports, erase_paths
 from rust import erase_forms, mark_inlined
+from short import shorten
 from tokens import Code
 
 ROOT = pathlib.Path(__file__).resolve().parents[2]
@@ -39,6 +40,7 @@ def erase(source, module):
     mark_inlined(code, module, source.stem)
     if module.crate not in OF_C:
         add_attributes(code, source)
+        shorten(code)
     erase_paths(code, module)
     erase_imports(code)
     add_imports(code)

@@ -24,7 +24,7 @@ def erase_docs(code, module):
 # The end of a doc comment's paragraph, and what only users of the Rust crate need to know.
 ADDITIONS = {
     "such as `zh_Hant` or the empty string.": "The error borrows the string. A function that drops the string and returns the error calls "
-    "`LangTag::new(text).map_err(InvalidLangTag::into_owned)?`.",
+    "`text.parse::<LangTagBuf>()?`, or `LangTag::new(text).map_err(InvalidLangTag::into_owned)?`.",
 }
 
 

@@ -1,7 +1,8 @@
 /*
  * Measures how the instructions of functions grow with their text. Under callgrind, which counts instructions, each function is
  * called with texts of n and of 2n bytes, of each shape. growth.py runs the program and compares the counts. n is 20,000, or
- * 100,000 if many thousands of variants or ranges are needed, or 2,000 or 4,000 if the function is known to be quadratic.
+ * 100,000 if many thousands of variants or ranges are needed, or 2,000 or 4,000 if the function is known to be quadratic. It also
+ * prints the stack of each call.
  */
 #include <stdint.h>
 #include <stdio.h>
@@ -92,13 +93,27 @@ static size_t write_shape(char *to, size_t shape, size_t most) {
     return at + write_keys(to + at, keys);
 }
 
-/* Calls a function, and lets callgrind print the instructions. */
+/* Fills the stack below its caller with a pattern, or returns how many of these bytes were written since. */
+#define DEEPEST 65536
+static __attribute__((noinline)) size_t stack_used(int is_after) {
+    unsigned char room[DEEPEST], *start = room;
+    __asm__ volatile("" : "+r"(start) : : "memory");
+    if (!is_after) memset(start, 0x5a, DEEPEST);
+    __asm__ volatile("" : : "r"(start) : "memory");
+    size_t at = 0;
+    while (is_after && at < DEEPEST && start[at] == 0x5a) at++;
+    return DEEPEST - at;
+}
+
+/* Calls a function, lets callgrind print the instructions, and prints the stack. */
 static void count_call(struct function function, const char *shape, size_t times) {
     char label[80];
     snprintf(label, sizeof label, "%s %s %zu", function.name, shape, times);
+    stack_used(0);
     CALLGRIND_ZERO_STATS;
     function.call();
     CALLGRIND_DUMP_STATS_AT(label);
+    printf("%s %zu\n", function.name, stack_used(1));
 }
 
 /* Calls each function with each text. Each text is written only once, since that takes longer than most calls. */

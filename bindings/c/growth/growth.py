@@ -1,5 +1,6 @@
 #!/usr/bin/env python3
-"""Fails if the instructions of a function grow faster than its text, or if a choice takes more than CHOICES says.
+"""Fails if the instructions of a function grow faster than its text, if a choice takes more than CHOICES says, or if a call takes more of
+the stack than rule 5 of the header says.
 
     growth.py PROGRAM FILE..
 
@@ -29,24 +30,26 @@ SQUARES = {(name, shape): most for names, shapes, most in (
 ) for name in names.split() for shape in shapes.split()}
 # The millions of instructions of a choice for 8 kB of a header that names one range again and again, by the number of tags.
 CHOICES = {"best_of_list": {"40": 18, "1000": 340}, "best_of_site": {"40": 6, "1000": 60}}
-# The functions that a header declares.
-DECLARED = re.compile(r'\blangtag_(\w+)\([^;{]*\);')
+# The functions that a header declares, and those that may take 16 KiB of the stack. Any other call may take 4 KiB.
+DECLARED = re.compile(r"(?m)^[A-Za-z].* \**langtag_(\w+)\(.*[,;]$")
+DEEP = re.compile(r"(?s)16 KiB for (.*?)\.\n")
 # By function and shape, the instructions by the times of the text, or by the number of tags.
 Counts = dict[tuple[str, str], dict[str, int]]
 
 
-def counted(program: str) -> tuple[Counts, int]:
-    """Runs the program. Returns its counts and its exit status."""
+def counted(program: str) -> tuple[Counts, dict[str, int], int]:
+    """Runs the program. Returns its counts, the most bytes of stack that each function took, and its exit status."""
     counts: Counts = {}
     with tempfile.TemporaryDirectory() as room:
-        ended = subprocess.run(["valgrind", "-q", "--tool=callgrind", f"--callgrind-out-file={room}/out", program]).returncode
+        ended = subprocess.run(["valgrind", "-q", "--tool=callgrind", f"--callgrind-out-file={room}/out", program], stdout=subprocess.PIPE, text=True)
         for path in glob.glob(f"{room}/out*"):
             text = pathlib.Path(path).read_text(encoding="utf-8")
             label = re.search(r"Client Request: (\w+) (\w+) (\d+)", text)
             total = re.search(r"(?m)^(?:summary|totals): (\d+)", text)
             if label and total:
                 counts.setdefault((label[1], label[2]), {})[label[3]] = int(total[1])
-    return counts, ended
+    stacks = sorted((name, int(size)) for name, size in map(str.split, ended.stdout.splitlines()))
+    return counts, dict(stacks), ended.returncode
 
 
 def faults_of(counts: Counts) -> Iterator[str]:
@@ -59,12 +62,14 @@ def faults_of(counts: Counts) -> Iterator[str]:
 
 
 def main(program: str, *declaring: str) -> int:
-    counts, ended = counted(program)
-    declared = {name for path in declaring for name in DECLARED.findall(pathlib.Path(path).read_text(encoding="utf-8"))}
+    counts, stacks, ended = counted(program)
+    headers = "".join(pathlib.Path(path).read_text(encoding="utf-8") for path in declaring)
+    declared, deep = set(DECLARED.findall(headers)), set(re.findall(r"langtag_(\w+)", "".join(DEEP.findall(headers))))
     called = {function for function, _ in counts}
     faults = [f"{it} is not called" for it in sorted((declared | set(CHOICES)) - called)]
     faults += [f"{program} ended with {ended}"] * (ended != 0)
     faults += faults_of(counts)
+    faults += [f"{it} takes {most} bytes of stack" for it, most in stacks.items() if most > (4096 if it in declared - deep else 16384)]
     print(*faults, f"{len(counts)} pairs of counts, {len(faults)} faults", sep="\n")
     return 1 if faults else 0
 

@@ -194,7 +194,7 @@ static size_t write_parent(const char *bytes, size_t len, char *buffer, size_t b
     return parent_index == 1 ? langtag_parent(bytes, len, buffer, buffer_len) : langtag_nth_parent(bytes, len, parent_index, buffer, buffer_len);
 }
 OF_ONE(parents, a) {
-    for (parent_index = 0; parent_index == 0 || langtag_nth_parent(a.at, a.len, parent_index, NULL, 0) > 0; parent_index++)
+    for (parent_index = 0; parent_index == 0 || langtag_nth_parent(a.at, a.len, parent_index, (char[1]){0}, 0) > 0; parent_index++)
         put_form(to, a, write_parent);
 }
 

@@ -11,7 +11,8 @@ const MESSAGES = new Map([
     ["de-CH", { bike: "Velo" }],
     ["pt", { bus: "ônibus", train: "trem", hello: "Olá" }],
     ["pt-PT", { bus: "autocarro", train: "comboio" }],
-    ["zh", { bike: "自行车", hello: "你好" }],
+    ["zh-Hans", { bike: "自行车", hello: "你好" }],
+    ["he", { bike: "אופניים" }],
     ["zh-Hant", { bike: "腳踏車" }],
     ["en", { bike: "bike", bus: "bus", train: "train", hello: "Hello" }],
 ]);
@@ -19,7 +20,8 @@ const DEFAULT = "en";
 
 /** Returns the tags of the messages to load, in the order in which they are asked: the tag and its parents, and then the default. */
 function order(text) {
-    const tags = LanguageTag.parse(text).canonical().parents.map((tag) => tag.toRecommended().text);
+    const tag = LanguageTag.parse(text), form = tag.localeForm() ?? tag; // iw becomes he
+    const tags = [tag, form, form.maximize()].flatMap((it) => it.parents.map((parent) => parent.toRecommended().text)); // zh-CN: .. zh-Hans
     return [...new Set([...tags, DEFAULT])].filter((tag) => MESSAGES.has(tag));
 }
 

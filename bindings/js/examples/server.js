@@ -20,12 +20,14 @@ function picked(request) {
     return [asked, kept].map((text) => site.matchForHeader(text)).find((match) => match?.distance < SAME)?.tag;
 }
 
+/** Returns the name of a language in itself, for HTML: a name may contain `&`. */
+const nameOf = (tag) => (autonym(tag) ?? describe(tag)).replaceAll("&", "&amp;").replaceAll("<", "&lt;");
 const direction = (tag) => (LanguageTag.parse(tag).isRightToLeft ? "rtl" : "ltr");
 
 /** Returns the menu of languages, each by its name in itself. The language of the page comes first. */
 function menu(page) {
     const tags = [page, ...site.tags.filter((tag) => tag !== page)];
-    return tags.map((tag) => `<a href="?lang=${tag}" lang="${tag}" dir="${direction(tag)}">${autonym(tag) ?? describe(tag)}</a>`).join(" ");
+    return tags.map((tag) => `<a href="?lang=${tag}" lang="${tag}" dir="${direction(tag)}">${nameOf(tag)}</a>`).join(" ");
 }
 
 const server = createServer((request, response) => {

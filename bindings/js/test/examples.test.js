@@ -37,7 +37,7 @@ test("the site answers in the language that its user picked", async () => {
 test("the catalogue asks the parents of a tag", () => {
     const program = fileURLToPath(new URL("../examples/catalogue.js", import.meta.url));
     for (const [tag, key, wanted] of [["pt-AO", "bus", "autocarro"], ["de-ch-1996", "bike", "Velo"], ["de-CH", "hello", "Hallo"],
-        ["zh-TW", "bike", "腳踏車"], ["zh-TW", "hello", "Hello"], ["fr", "train", "train"]]) {
+        ["zh-CN", "bike", "自行车"], ["iw-IL", "bike", "אופניים"], ["zh-TW", "bike", "腳踏車"], ["zh-TW", "hello", "Hello"], ["fr", "train", "train"]]) {
         assert.equal(execFileSync(process.execPath, [program, tag, key], { encoding: "utf8" }), `${wanted}\n`);
     }
 });

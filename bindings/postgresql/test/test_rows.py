@@ -113,7 +113,7 @@ def yes_or_no(function):
     return lambda tag: f"SELECT CASE {function}(try_langtag({text(tag)})) WHEN true THEN 'yes' WHEN false THEN 'no' END"
 
 
-FUNCTIONS = re.findall(r"\w+", " ".join(re.findall(r"CREATE FUNCTION (.*)\(langtag\)", (pathlib.Path(__file__).parents[1] / "langtag.sql.in").read_text())))
+FUNCTIONS = re.findall(r"\w+", " ".join(re.findall(r"CREATE FUNCTION (.*)\(langtag\)", (pathlib.Path(__file__).parents[1] / "langtag.sql").read_text())))
 # Each call of the rows as a query, or None if SQL has no answer. A function with the name of a call, or with `is_` before it, answers the call.
 QUERIES = {
     **{call: of_tag(name) for call in rows.CALLS if (name := call.replace("-", "_")) in FUNCTIONS},

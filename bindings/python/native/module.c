@@ -26,8 +26,7 @@ static int add_class(PyObject *module, const char *name, const char *full, initp
 
 static int fill(PyObject *module) {
     static PyMethodDef none[] = {{NULL, NULL, 0, NULL}};
-    return add(module, "PROVED", PyBool_FromLong(LANGTAG_PROVED)) ||
-           add_class(module, "TagBase", "langtag._native.TagBase", lt_tag_init, none, lt_tag_members) ||
+    return add_class(module, "TagBase", "langtag._native.TagBase", lt_tag_init, none, lt_tag_members) ||
            add_class(module, "RangeBase", "langtag._native.RangeBase", range_init, lt_range_methods, lt_range_members) ? -1 : 0;
 }
 

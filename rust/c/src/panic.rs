@@ -1,12 +1,21 @@
 //! The panic handler of a build without std. It is proved that no function panics.
 #![allow(unsafe_code)]
 
-extern "C" {
-    fn abort() -> !;
+#[cfg(target_family = "wasm")]
+fn end() -> ! {
+    core::arch::wasm32::unreachable()
+}
+
+#[cfg(not(target_family = "wasm"))]
+fn end() -> ! {
+    extern "C" {
+        fn abort() -> !;
+    }
+    // SAFETY: C's abort may be called at any time.
+    unsafe { abort() }
 }
 
 #[panic_handler]
 fn panic(_: &core::panic::PanicInfo<'_>) -> ! {
-    // SAFETY: C's abort may be called at any time.
-    unsafe { abort() }
+    end()
 }

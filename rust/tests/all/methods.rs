@@ -158,7 +158,7 @@ fn second_ways() {
     #[cfg(feature = "names")]
     assert_eq!(
         names::describe(LangTag::new("de-a-bbb-u-co-phonebk-A-ccc").unwrap()),
-        "German (a-bbb, u-co-phonebk)"
+        "German"
     );
     assert!(LangTag::new(&long[0]).unwrap().matches("de-CH"));
     let repeated: LangTagBuf = "de-a-aaa-b-bbb-c-ccc-d-ddd-A-aaa".parse().unwrap();

@@ -98,7 +98,10 @@ fn help_fits_a_screen() {
         let help = String::from_utf8(output.stdout).unwrap();
         let widest = help.lines().map(|line| line.chars().count()).max();
         assert!(output.status.success());
-        assert!(help.lines().count() <= lines && widest <= Some(84), "{help}");
+        assert!(
+            help.lines().count() <= lines && widest <= Some(84),
+            "{help}"
+        );
     }
     let version = String::from_utf8(langtag(&["-V"], b"").stdout).unwrap();
     assert!(version.starts_with("langtag ") && version.contains(langtag::registry::FILE_DATE));

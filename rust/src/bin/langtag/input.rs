@@ -32,6 +32,14 @@ impl Failure {
             Failure::Write | Failure::Closed => 5,
         }
     }
+
+    /// Returns the failure of an error in writing.
+    pub fn write(error: io::Error) -> Failure {
+        match error.kind() {
+            ErrorKind::BrokenPipe => Failure::Closed,
+            _ => Failure::Write,
+        }
+    }
 }
 
 /// Passes each of the given texts to `answer` or, if no texts are given, each line of standard

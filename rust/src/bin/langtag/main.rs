@@ -7,7 +7,7 @@ mod pointer;
 mod read;
 
 use std::env;
-use std::io::{self, BufWriter, ErrorKind, IsTerminal, Write};
+use std::io::{self, BufWriter, IsTerminal, Write};
 use std::process::ExitCode;
 
 use answers::{Answer, Asked};
@@ -125,13 +125,4 @@ fn put(answer: &Answer, options: &Options, output: &mut impl Write) -> Result<()
         let _ = writeln!(io::stderr(), "langtag: {reason}");
     }
     Ok(())
-}
-
-impl Failure {
-    fn write(error: io::Error) -> Failure {
-        match error.kind() {
-            ErrorKind::BrokenPipe => Failure::Closed,
-            _ => Failure::Write,
-        }
-    }
 }

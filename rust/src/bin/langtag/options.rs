@@ -147,5 +147,5 @@ fn help(words: &[Vec<u8>]) -> String {
 
 fn version() -> String {
     let version = env!("CARGO_PKG_VERSION");
-    format!("langtag {version} (IANA's registry of {FILE_DATE}, CLDR {CLDR_VERSION})\nnot proved\n")
+    format!("langtag {version} (IANA's registry of {FILE_DATE}, CLDR {CLDR_VERSION})\n")
 }

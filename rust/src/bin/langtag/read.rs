@@ -4,7 +4,7 @@ use std::io::{self, Write};
 
 use langtag::likely::{from_posix, unknown_modifier, PosixError};
 use langtag::registry::validate;
-use langtag::LangTagBuf;
+use langtag::{LangTag, LangTagBuf};
 
 use crate::answers::without_tabs;
 use crate::input::{texts, Failure};
@@ -122,7 +122,11 @@ fn is_hyphen(c: char) -> bool {
 /// Says why a string is neither a tag nor a locale name.
 fn why(name: &str) -> String {
     let is_other = |c: &char| !c.is_ascii_graphic();
-    if name.is_empty() {
+    let tag = name.replace('_', "-");
+    let invalid = LangTag::new(&tag).ok().and_then(|it| it.validate().err());
+    if let Some(invalid) = invalid {
+        invalid.to_string()
+    } else if name.is_empty() {
         "empty".into()
     } else if let Some(other) = name.chars().find(is_other) {
         format!("U+{:04X} is not allowed", u32::from(other))

@@ -151,8 +151,5 @@ fn write_canonical_parts(tag: NormalLangTag<'_>, buffer: &mut [u8]) -> usize {
 /// `sgn-DE`, which is `sgn-DD` with its parts in their canonical forms.
 #[inline]
 fn preferred_to(parts: &[u8]) -> &[u8] {
-    match preferred_for(parts) {
-        Some(preferred) => preferred.as_bytes(),
-        None => parts,
-    }
+    preferred_for(parts).map_or(parts, |preferred| preferred.as_bytes())
 }

@@ -49,8 +49,5 @@ fn has_canonical_parts(tag: NormalLangTag<'_>) -> bool {
 /// Returns whether the region has no Preferred-Value.
 #[inline]
 fn is_canonical_region(region: Option<Region<'_>>) -> bool {
-    match region {
-        Some(region) => preferred_region(region).is_none(),
-        None => true,
-    }
+    region.is_none_or(|region| preferred_region(region).is_none())
 }

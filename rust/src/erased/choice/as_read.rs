@@ -16,10 +16,7 @@ pub(crate) fn lost_as_read(range: &[u8], tag: &[u8], written: usize) -> usize {
     if begin_alike(range, tag) {
         return written;
     }
-    match removed_as_read(range, tag) {
-        Some(removed) => removed,
-        None => written,
-    }
+    removed_as_read(range, tag).unwrap_or(written)
 }
 
 /// Returns `true` only if a range and a tag have the same two bytes as their first subtags. This is

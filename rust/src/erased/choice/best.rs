@@ -218,8 +218,6 @@ fn is_chosen<'a, R: RangeList<'a>, T: TagList>(
     index: usize,
     has_zero: bool,
 ) -> bool {
-    match tags.tag_at(index) {
-        Some(tag) => !has_zero || !is_refused(ranges, tag.as_bytes()),
-        None => false,
-    }
+    tags.tag_at(index)
+        .is_some_and(|tag| !has_zero || !is_refused(ranges, tag.as_bytes()))
 }

@@ -133,10 +133,7 @@ impl Candidate<'_, '_> {
     /// Returns how unlikely the region of the tag is.
     #[inline]
     fn unlikely(&self) -> u8 {
-        match self.unlikely {
-            Some(kept) => kept,
-            None => unlikely(self.form),
-        }
+        self.unlikely.unwrap_or_else(|| unlikely(self.form))
     }
 
     /// Returns how many bytes lookup removes from the range to find the tag, or the length of the

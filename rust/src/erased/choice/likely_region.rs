@@ -9,10 +9,7 @@ use crate::erased::scan::case_insensitive_eq;
 /// if the form is one of CLDR's paradigm locales, and 2 otherwise.
 #[inline]
 pub(crate) fn unlikely(form: Option<TagFields<'_>>) -> u8 {
-    match form {
-        Some(form) => unlikely_form(form),
-        None => 2,
-    }
+    form.map_or(2, unlikely_form)
 }
 
 /// Returns how unlikely the region of a matching form is.

@@ -122,7 +122,7 @@ fn nearer_places<'t>(
 
 /// Returns the fields; if they have no language, likely subtags are added first.
 #[inline]
-fn with_language<'t>(fields: TagFields<'t>) -> TagFields<'t> {
+fn with_language(fields: TagFields<'_>) -> TagFields<'_> {
     if fields.language.is_empty() {
         completed(fields)
     } else {

@@ -129,18 +129,15 @@ impl PreparedForm {
     /// Returns whether the language of the tag is that of a range.
     #[inline]
     pub(crate) fn has_language_of(&self, wish: &Wish<'_>) -> bool {
-        match wish.language {
-            Some(own) => self.number != 0 && own.number == u32::from(self.number),
-            None => false,
-        }
+        wish.language
+            .is_some_and(|own| self.number != 0 && own.number == u32::from(self.number))
     }
 
     /// Returns whether the region of the tag is not that of a range.
     pub(crate) fn has_other_region(&self, wish: &Wish<'_>) -> bool {
-        match wish.form {
-            Some(form) => self.number != 0 && !case_insensitive_eq(form.region, name(&self.region)),
-            None => false,
-        }
+        wish.form.is_some_and(|form| {
+            self.number != 0 && !case_insensitive_eq(form.region, name(&self.region))
+        })
     }
 
     /// Returns whether the first letters and the language of the tag show that it cannot serve a

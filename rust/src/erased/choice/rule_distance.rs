@@ -14,10 +14,9 @@ pub(crate) fn language_distance(desired: TagFields<'_>, supported: TagFields<'_>
     if desired.language.len().max(supported.language.len()) > 3 {
         return 80;
     }
-    match language_rule_keys().binary_search(&language_pair(desired, supported)) {
-        Ok(index) => language_rule_distance(index),
-        Err(_) => 80,
-    }
+    language_rule_keys()
+        .binary_search(&language_pair(desired, supported))
+        .map_or(80, language_rule_distance)
 }
 
 /// Returns the distance of two scripts, each with its language.
@@ -28,10 +27,9 @@ pub(crate) fn script_distance(desired: TagFields<'_>, supported: TagFields<'_>) 
     if desired.language.len().max(supported.language.len()) > 3 {
         return 50;
     }
-    match script_rule_keys().binary_search(&script_pair(desired, supported)) {
-        Ok(index) => script_rule_distance(index),
-        Err(_) => 50,
-    }
+    script_rule_keys()
+        .binary_search(&script_pair(desired, supported))
+        .map_or(50, script_rule_distance)
 }
 
 /// Returns the number that stands for two languages.

@@ -64,10 +64,7 @@ impl<'a> Wish<'a> {
     /// begin as the range does.
     #[inline]
     fn is_far_without_form(&self, letters: (u8, u8)) -> bool {
-        match self.language {
-            Some(own) => letters != own.letters,
-            None => false,
-        }
+        self.language.is_some_and(|own| letters != own.letters)
     }
 
     /// Returns whether a tag cannot serve the range, which has this language. The tag is given by

@@ -13,22 +13,19 @@ use crate::erased::cldr::tag_fields::TagFields;
 /// region that comes with the new language.
 #[inline]
 #[must_use]
-pub fn language_replaced<'a>(fields: TagFields<'a>) -> TagFields<'a> {
-    match language_alias(fields) {
-        Some(other) => fields.with_language(other),
-        None => fields,
-    }
+pub fn language_replaced(fields: TagFields<'_>) -> TagFields<'_> {
+    language_alias(fields).map_or(fields, |other| fields.with_language(other))
 }
 
 /// Returns the fields with deprecated subtags replaced.
 #[inline]
-pub(crate) fn canonical_fields<'a>(fields: TagFields<'a>) -> TagFields<'a> {
+pub(crate) fn canonical_fields(fields: TagFields<'_>) -> TagFields<'_> {
     region_replaced(language_replaced(fields))
 }
 
 /// Returns the fields with the region replaced if it has two letters and is deprecated.
 #[inline]
-pub(crate) fn letters_replaced<'a>(fields: TagFields<'a>) -> TagFields<'a> {
+pub(crate) fn letters_replaced(fields: TagFields<'_>) -> TagFields<'_> {
     if fields.region.len() == 2 {
         region_replaced(fields)
     } else {
@@ -38,11 +35,8 @@ pub(crate) fn letters_replaced<'a>(fields: TagFields<'a>) -> TagFields<'a> {
 
 /// Returns the fields with the region replaced if it is deprecated.
 #[inline]
-fn region_replaced<'a>(fields: TagFields<'a>) -> TagFields<'a> {
-    match region_alias(fields) {
-        Some(other) => fields.with_region(other),
-        None => fields,
-    }
+fn region_replaced(fields: TagFields<'_>) -> TagFields<'_> {
+    region_alias(fields).map_or(fields, |other| fields.with_region(other))
 }
 
 /// Returns the replacement of the language, if there is one.

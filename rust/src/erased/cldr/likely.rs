@@ -9,7 +9,7 @@ use crate::erased::cldr::tag_fields::TagFields;
 /// Returns the fields with the likely subtag instead of each empty field, or `None` if no row fits.
 #[inline]
 #[must_use]
-pub fn add_likely<'a>(fields: TagFields<'a>) -> Option<TagFields<'a>> {
+pub fn add_likely(fields: TagFields<'_>) -> Option<TagFields<'_>> {
     Some(fields.filled(looked_up(fields)?))
 }
 
@@ -31,7 +31,7 @@ fn looked_up(fields: TagFields<'_>) -> Option<TagFields<'static>> {
 /// Returns the fields with the likely subtag instead of each empty field, or `None` if no row fits.
 /// Deprecated subtags count as their replacements, and stay.
 #[must_use]
-pub fn add_likely_subtags<'a>(fields: TagFields<'a>) -> Option<TagFields<'a>> {
+pub fn add_likely_subtags(fields: TagFields<'_>) -> Option<TagFields<'_>> {
     // A language that has a row is not deprecated.
     if is_current_region(fields) {
         if let Some(most) = add_likely(fields) {
@@ -44,13 +44,13 @@ pub fn add_likely_subtags<'a>(fields: TagFields<'a>) -> Option<TagFields<'a>> {
 /// Returns the fewest fields that have the same maximal form, or `None` if no row fits.
 #[inline]
 #[must_use]
-pub fn remove_likely_subtags<'a>(fields: TagFields<'a>) -> Option<TagFields<'a>> {
+pub fn remove_likely_subtags(fields: TagFields<'_>) -> Option<TagFields<'_>> {
     Some(least(add_likely_subtags(fields)?))
 }
 
 /// Returns the fewest fields of a maximal form that have the same maximal form. A region is
 /// preferred to a script.
-fn least<'a>(most: TagFields<'a>) -> TagFields<'a> {
+fn least(most: TagFields<'_>) -> TagFields<'_> {
     let known = most.known();
     if suffices(most, known.language_alone()) {
         return known.language_alone();
@@ -68,8 +68,5 @@ fn least<'a>(most: TagFields<'a>) -> TagFields<'a> {
 #[inline]
 #[must_use]
 pub fn suffices(most: TagFields<'_>, few: TagFields<'_>) -> bool {
-    match add_likely_subtags(few) {
-        Some(form) => most.are_alike(form),
-        None => false,
-    }
+    add_likely_subtags(few).is_some_and(|form| most.are_alike(form))
 }

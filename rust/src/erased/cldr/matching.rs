@@ -33,20 +33,17 @@ pub fn replaced_form(text: &[u8]) -> Option<TagFields<'_>> {
 /// added.
 #[inline]
 #[must_use]
-pub fn completed<'a>(fields: TagFields<'a>) -> TagFields<'a> {
+pub fn completed(fields: TagFields<'_>) -> TagFields<'_> {
     most_likely(letters_replaced(fields))
 }
 
 /// Returns the fields with likely subtags added. If no likely subtags of the language are known,
 /// script and region are what they would be without the language.
-fn most_likely<'a>(fields: TagFields<'a>) -> TagFields<'a> {
+fn most_likely(fields: TagFields<'_>) -> TagFields<'_> {
     if let Some(most) = add_likely(fields) {
         return most;
     }
-    match add_likely(fields.without_language()) {
-        Some(likely) => fields.keeping_language(likely),
-        None => fields,
-    }
+    add_likely(fields.without_language()).map_or(fields, |likely| fields.keeping_language(likely))
 }
 
 impl<'a> TagFields<'a> {

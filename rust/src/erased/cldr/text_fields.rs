@@ -52,7 +52,7 @@ fn language_and_mark<'a>(primary: &'a [u8], text: &'a [u8]) -> (&'a [u8], &'a [u
 
 /// Returns the last extended language at the start of the string, which is empty if there is none,
 /// and the rest of the string.
-fn last_extended<'a>(text: &'a [u8]) -> (&'a [u8], &'a [u8]) {
+fn last_extended(text: &[u8]) -> (&[u8], &[u8]) {
     let mut language: &[u8] = b"";
     let mut left = text;
     while let Some((subtag, rest)) = next_subtag(left) {
@@ -106,7 +106,7 @@ fn after_mark(subtag: &[u8]) -> &[u8] {
 
 /// Returns the script at the start, and the rest of the string.
 #[inline]
-fn script_before<'a>(text: &'a [u8]) -> (&'a [u8], &'a [u8]) {
+fn script_before(text: &[u8]) -> (&[u8], &[u8]) {
     match next_subtag(text) {
         Some((subtag, rest)) if is_script(subtag) => (subtag, rest),
         _ => (b"", text),

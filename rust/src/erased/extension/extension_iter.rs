@@ -53,7 +53,7 @@ impl<'a> ExtensionIter<'a> {
 
 /// Returns the subtags of a string except the first, which is the singleton.
 #[inline]
-fn after_singleton<'a>(text: &'a str) -> Subtags<'a> {
+fn after_singleton(text: &str) -> Subtags<'_> {
     let mut rest = Subtags::new(text);
     let _singleton = rest.next();
     rest

@@ -37,7 +37,7 @@ impl<'a> Iterator for ExtensionTexts<'a> {
 /// Returns the string of the first extension, and the string of the other extensions if there are
 /// any, without the hyphen in between.
 #[inline]
-fn split_extension<'a>(text: &'a str) -> (&'a str, Option<&'a str>) {
+fn split_extension(text: &str) -> (&str, Option<&str>) {
     let end = first_extension_end(text.as_bytes());
     if end == text.len() {
         return (text, None);

@@ -49,10 +49,8 @@ pub fn prefix_of_language(language: PrimaryLanguage<'_>) -> Option<PrimaryLangua
 #[inline]
 #[must_use]
 pub fn is_prefix_of(language: &[u8], extlang: &[u8]) -> bool {
-    match value_of(&EXTLANG_PREFIX_KEYS, &EXTLANG_PREFIX_VALUES, extlang) {
-        Some(prefix) => case_insensitive_eq(prefix.as_bytes(), language),
-        None => false,
-    }
+    value_of(&EXTLANG_PREFIX_KEYS, &EXTLANG_PREFIX_VALUES, extlang)
+        .is_some_and(|prefix| case_insensitive_eq(prefix.as_bytes(), language))
 }
 
 /// Returns the number of each variant that should follow a prefix, and the prefix; a variant may

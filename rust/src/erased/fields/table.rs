@@ -17,8 +17,7 @@ pub(crate) fn value_of(
     values: &'static [&'static str],
     text: &[u8],
 ) -> Option<&'static str> {
-    match keys.binary_search(&folded_number(text)) {
-        Ok(index) => Some(values[index]),
-        Err(_) => None,
-    }
+    keys.binary_search(&folded_number(text))
+        .ok()
+        .map(|index| values[index])
 }

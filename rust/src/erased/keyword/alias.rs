@@ -45,26 +45,17 @@ fn without_true(value: &str) -> &str {
 
 #[inline]
 fn subdivision(value: &str) -> &str {
-    match alias_for(subdivision_aliases(), value.as_bytes()) {
-        Some(other) => other,
-        None => value,
-    }
+    alias_for(subdivision_aliases(), value.as_bytes()).unwrap_or(value)
 }
 
 #[inline]
 fn unicode_type<'a>(key: &[u8], value: &'a str) -> &'a str {
-    match key_alias_for(unicode_type_aliases(), key, value.as_bytes()) {
-        Some(other) => other,
-        None => value,
-    }
+    key_alias_for(unicode_type_aliases(), key, value.as_bytes()).unwrap_or(value)
 }
 
 #[inline]
 fn transform_value<'a>(key: &[u8], value: &'a str) -> &'a str {
-    match key_alias_for(transform_type_aliases(), key, value.as_bytes()) {
-        Some(other) => other,
-        None => value,
-    }
+    key_alias_for(transform_type_aliases(), key, value.as_bytes()).unwrap_or(value)
 }
 
 /// Returns the replacement of a type of a key, if there is one.

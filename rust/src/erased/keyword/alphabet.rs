@@ -20,10 +20,7 @@ pub(crate) fn push_in_alphabet(out: &mut Output<'_>, rest: Option<&str>) {
 #[inline]
 #[must_use]
 pub fn are_few(rest: Option<&str>) -> bool {
-    match rest {
-        Some(text) => text.len() <= 128,
-        None => true,
-    }
+    rest.is_none_or(|text| text.len() <= 128)
 }
 
 /// Appends what [`push_in_alphabet`] appends. Each walk over the subtags finds the next `ROOM / 2`

@@ -56,7 +56,7 @@ fn is_after(singleton: u8, extension: Extension<'_>, is_after: bool) -> bool {
 /// Returns the subtags after the singleton, joined by hyphens.
 #[inline]
 #[must_use]
-pub fn subtags_of<'a>(extension: Extension<'a>) -> &'a str {
+pub fn subtags_of(extension: Extension<'_>) -> &str {
     &extension.as_str()[2..]
 }
 

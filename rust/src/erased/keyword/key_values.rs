@@ -9,11 +9,7 @@ use crate::erased::scan::into_smallcase;
 
 /// Returns the values of the keys that begin with a character, ignoring case. The index of a value
 /// is the place of the second character of its key.
-pub(crate) fn values_after<'a>(
-    first: u8,
-    text: &'a str,
-    keys: Keys,
-) -> [Option<&'a str>; CHARACTERS] {
+pub(crate) fn values_after(first: u8, text: &str, keys: Keys) -> [Option<&str>; CHARACTERS] {
     let mut values = [None; CHARACTERS];
     let mut rest = nonempty(text);
     while let Some(text) = rest {

@@ -45,7 +45,7 @@ pub fn is_unicode_language(subtag: &str) -> bool {
 
 /// Returns the script at the start, if there is one, and the rest.
 #[must_use]
-pub fn take_script<'a>(rest: Option<&'a str>) -> (Option<&'a str>, Option<&'a str>) {
+pub fn take_script(rest: Option<&str>) -> (Option<&str>, Option<&str>) {
     if let Some(text) = rest {
         let (first, others) = split_first(text);
         if is_script(first.as_bytes()) {
@@ -57,7 +57,7 @@ pub fn take_script<'a>(rest: Option<&'a str>) -> (Option<&'a str>, Option<&'a st
 
 /// Returns the region at the start, if there is one, and the rest.
 #[must_use]
-pub fn take_region<'a>(rest: Option<&'a str>) -> (Option<&'a str>, Option<&'a str>) {
+pub fn take_region(rest: Option<&str>) -> (Option<&str>, Option<&str>) {
     if let Some(text) = rest {
         let (first, others) = split_first(text);
         if is_region(first.as_bytes()) {
@@ -70,10 +70,7 @@ pub fn take_region<'a>(rest: Option<&'a str>) -> (Option<&'a str>, Option<&'a st
 /// Returns whether all subtags are variants, and no two of them are equal.
 #[inline]
 fn are_variants(rest: Option<&str>) -> bool {
-    match rest {
-        Some(text) => are_all_variants(rest) && are_different(text),
-        None => true,
-    }
+    rest.is_none_or(|text| are_all_variants(rest) && are_different(text))
 }
 
 /// Returns whether all subtags are variants.

@@ -29,11 +29,8 @@ pub fn split_first(text: &str) -> (&str, Option<&str>) {
 /// Returns the string before the first key.
 #[inline]
 #[must_use]
-pub fn before_key<'a>(rest: Option<&'a str>, keys: Keys) -> &'a str {
-    match rest {
-        Some(text) => cut_before_key(text, keys),
-        None => "",
-    }
+pub fn before_key(rest: Option<&str>, keys: Keys) -> &str {
+    rest.map_or("", |text| cut_before_key(text, keys))
 }
 
 /// Returns the subtags before the first key of a string, if there are any.

@@ -20,10 +20,7 @@ pub fn is_transform(text: &str) -> bool {
 /// Returns whether the string before the fields is a language or empty.
 #[inline]
 fn is_language_or_none(text: &str) -> bool {
-    match preceding(text, Keys::Transform) {
-        Some(language) => is_language_id(language),
-        None => true,
-    }
+    preceding(text, Keys::Transform).is_none_or(is_language_id)
 }
 
 /// Appends the canonical form of the extension `t` with these subtags.

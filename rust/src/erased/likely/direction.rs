@@ -28,8 +28,5 @@ use crate::erased::tag::LangTag;
 #[inline]
 #[must_use]
 pub fn is_right_to_left(tag: LangTag<'_>) -> bool {
-    match matching_form(tag.as_bytes()) {
-        Some(form) => is_right_to_left_script(form.script),
-        None => false,
-    }
+    matching_form(tag.as_bytes()).is_some_and(|form| is_right_to_left_script(form.script))
 }

@@ -46,7 +46,7 @@ fn is_language_read(language: Language<'_>) -> bool {
 
 /// Returns the last extended subtag, or the primary subtag if there is none. Returns the empty
 /// string for `und`.
-fn language_field<'a>(language: Language<'a>) -> &'a [u8] {
+fn language_field(language: Language<'_>) -> &[u8] {
     let mut extlangs = language.extension_subtags();
     let Some(first) = extlangs.next() else {
         return known(b"und", language.primary().as_bytes());

@@ -133,7 +133,7 @@ fn fewest_fields(tag: NormalLangTag<'_>) -> Option<TagFields<'_>> {
 
 /// Returns the maximal form of a tag, in pieces.
 #[inline(always)]
-fn maximal_pieces<'a>(tag: LangTag<'a>) -> [&'a [u8]; 6] {
+fn maximal_pieces(tag: LangTag<'_>) -> [&[u8]; 6] {
     match tag.as_normal() {
         Some(normal) => changed(normal, most_fields(normal)),
         None => whole(tag.as_bytes()),
@@ -142,7 +142,7 @@ fn maximal_pieces<'a>(tag: LangTag<'a>) -> [&'a [u8]; 6] {
 
 /// Returns the minimal form of a tag, in pieces.
 #[inline(always)]
-fn minimal_pieces<'a>(tag: LangTag<'a>) -> [&'a [u8]; 6] {
+fn minimal_pieces(tag: LangTag<'_>) -> [&[u8]; 6] {
     match tag.as_normal() {
         Some(normal) => changed(normal, fewest_fields(normal)),
         None => whole(tag.as_bytes()),

@@ -45,7 +45,7 @@ fn hyphen_before(subtag: &[u8]) -> &[u8] {
 
 /// Returns the rest of a tag after its region, with the hyphen before it.
 #[inline]
-fn after_region<'a>(tag: NormalLangTag<'a>) -> &'a [u8] {
+fn after_region(tag: NormalLangTag<'_>) -> &[u8] {
     let text = tag.as_str();
     &text.as_bytes()[tag.ends().region..]
 }

@@ -144,7 +144,7 @@ fn put_parts(tag: NormalLangTag<'_>, buffer: &mut [u8]) -> usize {
 
 /// Returns the primary language, the script and the region of a tag.
 #[inline]
-fn fields_of<'a>(tag: NormalLangTag<'a>) -> TagFields<'a> {
+fn fields_of(tag: NormalLangTag<'_>) -> TagFields<'_> {
     TagFields {
         language: primary_field(tag.language()),
         script: script_field(tag.script()),
@@ -153,6 +153,6 @@ fn fields_of<'a>(tag: NormalLangTag<'a>) -> TagFields<'a> {
 }
 
 #[inline]
-fn primary_field<'a>(language: Language<'a>) -> &'a [u8] {
+fn primary_field(language: Language<'_>) -> &[u8] {
     language.primary().as_bytes()
 }

@@ -36,10 +36,7 @@ use crate::erased::tag::{Extension, Extensions, LangTag, NormalLangTag, Subtags}
 #[inline]
 #[must_use]
 pub fn is_locale(tag: LangTag<'_>) -> bool {
-    match tag.as_normal() {
-        Some(normal) => is_locale_record(normal),
-        None => false,
-    }
+    tag.as_normal().is_some_and(is_locale_record)
 }
 
 /// Returns whether a normal tag is a Unicode locale identifier.

@@ -79,7 +79,7 @@ fn push_locale_language_id(out: &mut Output<'_>, text: &str) {
 
 /// Returns the string of a subtag, or the empty string if there is no subtag.
 #[inline]
-fn text_of<'a>(subtag: Option<&'a str>) -> &'a [u8] {
+fn text_of(subtag: Option<&str>) -> &[u8] {
     match subtag {
         Some(subtag) => subtag.as_bytes(),
         None => b"",

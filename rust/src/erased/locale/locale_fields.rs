@@ -51,16 +51,13 @@ fn language_with<'a>(language: &'a [u8], variants: Option<&str>) -> &'a [u8] {
 /// Returns the fields of the sign language if the language is `sgn` and the region has one.
 /// Otherwise the fields stay.
 #[inline]
-fn sign_language<'a>(fields: TagFields<'a>) -> TagFields<'a> {
-    match sign_for(fields) {
-        Some(language) => without_sgn(fields, language),
-        None => fields,
-    }
+fn sign_language(fields: TagFields<'_>) -> TagFields<'_> {
+    sign_for(fields).map_or(fields, |language| without_sgn(fields, language))
 }
 
 /// Returns the sign language of the region if the language is `sgn`.
 #[inline]
-fn sign_for<'a>(fields: TagFields<'a>) -> Option<&'a [u8]> {
+fn sign_for(fields: TagFields<'_>) -> Option<&[u8]> {
     if !case_insensitive_eq(fields.language, b"sgn") {
         return None;
     }
@@ -116,24 +113,23 @@ fn other_region<'a>(fields: TagFields<'a>, region: &'a [u8]) -> TagFields<'a> {
 
 /// Returns the fields with the region that replaces their region, if there is one.
 #[inline]
-fn with_new_region<'a>(fields: TagFields<'a>) -> TagFields<'a> {
+fn with_new_region(fields: TagFields<'_>) -> TagFields<'_> {
     other_region(fields, new_region(fields))
 }
 
 /// Returns the region that replaces the region of the fields, or their region.
-fn new_region<'a>(fields: TagFields<'a>) -> &'a [u8] {
+fn new_region(fields: TagFields<'_>) -> &[u8] {
     if let Some(region) = region_replacement(fields) {
         return region;
     }
-    match alias_for(region_heirs(), fields.region) {
-        Some(regions) => heir(likely_region(fields), regions),
-        None => fields.region,
-    }
+    alias_for(region_heirs(), fields.region).map_or(fields.region, |regions| {
+        heir(likely_region(fields), regions)
+    })
 }
 
 /// Returns the likely region of the language and the script, or the empty string.
 #[inline]
-fn likely_region<'a>(fields: TagFields<'a>) -> &'a [u8] {
+fn likely_region(fields: TagFields<'_>) -> &[u8] {
     match add_likely(language_and_script(fields)) {
         Some(most) => most.region,
         None => b"",
@@ -143,7 +139,7 @@ fn likely_region<'a>(fields: TagFields<'a>) -> &'a [u8] {
 /// Returns the language and the script, for the lookup of likely subtags. `und` counts as no
 /// language.
 #[inline]
-fn language_and_script<'a>(fields: TagFields<'a>) -> TagFields<'a> {
+fn language_and_script(fields: TagFields<'_>) -> TagFields<'_> {
     let is_unknown = case_insensitive_eq(b"und", fields.language);
     TagFields {
         language: if is_unknown { b"" } else { fields.language },
@@ -164,7 +160,7 @@ fn heir<'a>(likely: &'a [u8], regions: &'static str) -> &'a [u8] {
 
 /// Returns the fields with the script that replaces their script, if there is one.
 #[inline]
-fn with_new_script<'a>(fields: TagFields<'a>) -> TagFields<'a> {
+fn with_new_script(fields: TagFields<'_>) -> TagFields<'_> {
     TagFields {
         language: fields.language,
         script: new_script(fields),
@@ -174,11 +170,8 @@ fn with_new_script<'a>(fields: TagFields<'a>) -> TagFields<'a> {
 
 /// Returns the script that replaces the script of the fields, or their script.
 #[inline]
-fn new_script<'a>(fields: TagFields<'a>) -> &'a [u8] {
-    match alias_for(script_aliases(), fields.script) {
-        Some(script) => script.as_bytes(),
-        None => fields.script,
-    }
+fn new_script(fields: TagFields<'_>) -> &[u8] {
+    alias_for(script_aliases(), fields.script).map_or(fields.script, |script| script.as_bytes())
 }
 
 #[inline]

@@ -13,7 +13,7 @@ use crate::erased::tag::{ExtendedLangTag, LangTag, NormalLangTag};
 /// Returns the Unicode locale identifier whose form is the form of a tag: the tag itself, its
 /// Preferred-Value, or the tag from its extended language on. Returns `None` if the tag has no
 /// form.
-pub(crate) fn locale_for<'a>(tag: LangTag<'a>) -> Option<NormalLangTag<'a>> {
+pub(crate) fn locale_for(tag: LangTag<'_>) -> Option<NormalLangTag<'_>> {
     if let Some(locale) = as_locale(tag) {
         return Some(locale);
     }
@@ -28,7 +28,7 @@ pub(crate) fn locale_for<'a>(tag: LangTag<'a>) -> Option<NormalLangTag<'a>> {
 
 /// Returns a tag as a normal tag if it is a Unicode locale identifier.
 #[inline]
-fn as_locale<'a>(tag: LangTag<'a>) -> Option<NormalLangTag<'a>> {
+fn as_locale(tag: LangTag<'_>) -> Option<NormalLangTag<'_>> {
     let normal = tag.as_normal()?;
     if !is_locale_record(normal) {
         return None;
@@ -38,7 +38,7 @@ fn as_locale<'a>(tag: LangTag<'a>) -> Option<NormalLangTag<'a>> {
 
 /// Returns a tag from its extended language on: `yue-HK` for `zh-yue-HK`. Returns `None` if the
 /// extended language is not registered, or not the only one.
-fn from_extlang<'a>(tag: NormalLangTag<'a>) -> Option<LangTag<'a>> {
+fn from_extlang(tag: NormalLangTag<'_>) -> Option<LangTag<'_>> {
     let language = tag.language();
     let extlang = ExtendedLangTag::new(language.extension()?.as_str()).ok()?;
     if !is_registered_extlang(extlang) {

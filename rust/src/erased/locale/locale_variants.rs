@@ -91,10 +91,7 @@ fn variant_form<'a>(language: &[u8], variants: Option<&str>, variant: &'a str) -
     if let Some(new) = replaced_pair(variant, variants) {
         return new;
     }
-    match alias_for(variant_aliases(), variant.as_bytes()) {
-        Some(new) => new,
-        None => variant,
-    }
+    alias_for(variant_aliases(), variant.as_bytes()).unwrap_or(variant)
 }
 
 /// Returns the variant that replaces a variant together with another variant.

@@ -8,17 +8,14 @@ use crate::erased::parent::stated::stated_parent;
 
 /// Returns the parent of a short base: what CLDR states, or else the usual parent.
 #[inline]
-pub(crate) fn parent_of<'a>(base: Base<'a>) -> Option<Base<'a>> {
-    match stated_parent(base) {
-        Some(stated) => stated,
-        None => usual_parent(base),
-    }
+pub(crate) fn parent_of(base: Base<'_>) -> Option<Base<'_>> {
+    stated_parent(base).unwrap_or_else(|| usual_parent(base))
 }
 
 /// Returns the parent of a base for which CLDR states none: without the region, or else without the
 /// script.
 #[inline]
-fn usual_parent<'a>(base: Base<'a>) -> Option<Base<'a>> {
+fn usual_parent(base: Base<'_>) -> Option<Base<'_>> {
     if !base.region.is_empty() {
         return parent_of_region(base);
     }
@@ -30,7 +27,7 @@ fn usual_parent<'a>(base: Base<'a>) -> Option<Base<'a>> {
 
 /// Returns the language, if its likely script is not known.
 #[inline]
-fn parent_of_script<'a>(base: Base<'a>) -> Option<Base<'a>> {
+fn parent_of_script(base: Base<'_>) -> Option<Base<'_>> {
     let alone = base.language_alone();
     match likely_script(alone) {
         Some(_) => None,
@@ -40,7 +37,7 @@ fn parent_of_script<'a>(base: Base<'a>) -> Option<Base<'a>> {
 
 /// Returns the parent of a language in a region.
 #[inline]
-fn parent_of_region<'a>(base: Base<'a>) -> Option<Base<'a>> {
+fn parent_of_region(base: Base<'_>) -> Option<Base<'_>> {
     match other_script(base) {
         Some(script) => parent_in_script(base.with_script(script)),
         None => Some(base.without_region()),
@@ -49,9 +46,6 @@ fn parent_of_region<'a>(base: Base<'a>) -> Option<Base<'a>> {
 
 /// Returns the parent of a language in a region, read with its script.
 #[inline]
-fn parent_in_script<'a>(base: Base<'a>) -> Option<Base<'a>> {
-    match stated_parent(base) {
-        Some(stated) => stated,
-        None => Some(base.without_region()),
-    }
+fn parent_in_script(base: Base<'_>) -> Option<Base<'_>> {
+    stated_parent(base).unwrap_or_else(|| Some(base.without_region()))
 }

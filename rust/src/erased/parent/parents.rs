@@ -151,7 +151,7 @@ fn split_last(text: &[u8]) -> (Option<&[u8]>, &[u8]) {
 
 /// Returns what stands after the region of a tag, with the hyphen before it.
 #[inline]
-fn after_region<'a>(tag: NormalLangTag<'a>) -> &'a [u8] {
+fn after_region(tag: NormalLangTag<'_>) -> &[u8] {
     let text = tag.as_str();
     &text.as_bytes()[tag.ends().region..]
 }

@@ -12,15 +12,13 @@ pub(crate) fn has_likely_script(base: Base<'_>) -> bool {
     if base.script.is_empty() {
         return false;
     }
-    match likely_script(base.without_script()) {
-        Some(likely) => case_insensitive_eq(base.script, likely),
-        None => false,
-    }
+    likely_script(base.without_script())
+        .is_some_and(|likely| case_insensitive_eq(base.script, likely))
 }
 
 /// Returns the fields without a script that is likely anyway.
 #[inline]
-pub(crate) fn short<'a>(base: Base<'a>) -> Base<'a> {
+pub(crate) fn short(base: Base<'_>) -> Base<'_> {
     if has_likely_script(base) {
         base.without_script()
     } else {
@@ -44,7 +42,7 @@ pub(crate) fn named<'a>(base: Base<'a>, tag: Base<'a>) -> Base<'a> {
 
 /// Returns the likely script of fields without a script, if the language is usually written in
 /// another one.
-pub(crate) fn other_script<'a>(base: Base<'a>) -> Option<&'a [u8]> {
+pub(crate) fn other_script(base: Base<'_>) -> Option<&[u8]> {
     if !base.script.is_empty() {
         return None;
     }
@@ -60,6 +58,6 @@ pub(crate) fn other_script<'a>(base: Base<'a>) -> Option<&'a [u8]> {
 /// Returns the script in which a language is most likely written in a region, or everywhere if
 /// there is no region. Returns `None` if CLDR has no likely subtags of the language.
 #[inline]
-pub(crate) fn likely_script<'a>(base: Base<'a>) -> Option<&'a [u8]> {
+pub(crate) fn likely_script(base: Base<'_>) -> Option<&[u8]> {
     Some(add_likely(base.fields()?)?.script)
 }

@@ -98,18 +98,12 @@ fn key_and_type(keyword: &[u8]) -> (&[u8], &[u8]) {
 
 #[inline]
 fn key_named(name: &[u8]) -> &[u8] {
-    match alias_for(key_names(), name) {
-        Some(key) => key.as_bytes(),
-        None => name,
-    }
+    alias_for(key_names(), name).map_or(name, |key| key.as_bytes())
 }
 
 #[inline]
 fn type_named<'a>(key: &[u8], name: &'a [u8]) -> &'a [u8] {
-    match type_alias_for(type_names(), key, name) {
-        Some(value) => value.as_bytes(),
-        None => name,
-    }
+    type_alias_for(type_names(), key, name).map_or(name, |value| value.as_bytes())
 }
 
 #[inline]

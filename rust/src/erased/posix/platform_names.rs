@@ -74,10 +74,9 @@ fn platform_read<'a>(text: &'a [u8], short: &'a mut [u8; MOST_READ]) -> &'a [u8]
     if let Some((first, second)) = platform_text(language, behind) {
         return written(language, first, second, short);
     }
-    match filled_behind(language, behind) {
-        Some((first, second)) => written(language_or_und(language), first, second, short),
-        None => text,
-    }
+    filled_behind(language, behind).map_or(text, |(first, second)| {
+        written(language_or_und(language), first, second, short)
+    })
 }
 
 /// Writes a language and one or two subtags into `room`, and returns them as one string.
@@ -164,10 +163,7 @@ fn last_field(text: &[u8]) -> Option<&'static [u8]> {
     if text.len() < SHORTEST_LAST {
         return None;
     }
-    match alias_for(last_fields(), text) {
-        Some(tag) => Some(tag.as_bytes()),
-        None => None,
-    }
+    alias_for(last_fields(), text).map(|tag| tag.as_bytes())
 }
 
 #[inline]

@@ -144,10 +144,8 @@ pub fn write_from_posix(name: &[u8], buffer: &mut [u8]) -> Option<usize> {
 /// Returns whether each variant of a tag is registered, or the tag is grandfathered.
 #[inline]
 fn has_registered_variants(tag: LangTag<'_>) -> bool {
-    match tag.as_normal() {
-        Some(normal) => all_registered(normal.variants()) || tag.is_grandfathered(),
-        None => true,
-    }
+    tag.as_normal()
+        .is_none_or(|normal| all_registered(normal.variants()) || tag.is_grandfathered())
 }
 
 #[inline]
@@ -179,10 +177,7 @@ fn tag_with_script<'a>(
         return tag;
     };
     let len = write_part(normal, Part::Script(Some(script)), room);
-    match LangTag::from_bytes(&room[..len]) {
-        Ok(tag) => tag,
-        Err(_) => unreachable!(),
-    }
+    LangTag::from_bytes(&room[..len]).unwrap_or_else(|_| unreachable!())
 }
 
 /// Writes a tag with its variants replaced by the given variant.

@@ -13,7 +13,7 @@ use crate::erased::tag::NormalLangTag;
 /// Returns the string of a language that can stand in a name: it has two or three letters, and is
 /// not `und`.
 #[inline]
-pub(crate) fn named_language<'a>(language: Language<'a>) -> Option<&'a [u8]> {
+pub(crate) fn named_language(language: Language<'_>) -> Option<&[u8]> {
     let text = language.as_bytes();
     if text.len() > 3 || case_insensitive_eq(b"und", text) {
         return None;
@@ -23,7 +23,7 @@ pub(crate) fn named_language<'a>(language: Language<'a>) -> Option<&'a [u8]> {
 
 /// Returns the string of a region, or the empty string if there is none.
 #[inline]
-pub(crate) fn region_text<'a>(region: Option<Region<'a>>) -> &'a [u8] {
+pub(crate) fn region_text(region: Option<Region<'_>>) -> &[u8] {
     match region {
         Some(region) => region.as_bytes(),
         None => b"",
@@ -39,7 +39,7 @@ pub(crate) fn variant_of_tag(tag: NormalLangTag<'_>) -> Option<&'static [u8]> {
 
 /// Returns the extensions and the private use part of a tag, with the hyphen before them.
 #[inline]
-fn after_variants<'a>(tag: NormalLangTag<'a>) -> &'a [u8] {
+fn after_variants(tag: NormalLangTag<'_>) -> &[u8] {
     let text = tag.as_str();
     &text.as_bytes()[tag.ends().variants..]
 }
@@ -81,8 +81,5 @@ fn name_modifier(fields: TagFields<'_>, script: &[u8], variants: &[u8]) -> Optio
 /// Returns whether a script is the likely script of fields that have none.
 #[inline]
 fn is_likely(fields: TagFields<'_>, script: &[u8]) -> bool {
-    match add_likely_subtags(fields) {
-        Some(most) => case_insensitive_eq(most.script, script),
-        None => false,
-    }
+    add_likely_subtags(fields).is_some_and(|most| case_insensitive_eq(most.script, script))
 }

@@ -24,15 +24,12 @@ pub(crate) fn tag_with_keyword<'a>(
     };
     let pieces: [&[u8]; 3] = [before, b"-u-va-posix", after];
     let len = write_pieces(&pieces, room);
-    match LangTag::from_bytes(&room[..len]) {
-        Ok(tag) => tag,
-        Err(_) => unreachable!(),
-    }
+    LangTag::from_bytes(&room[..len]).unwrap_or_else(|_| unreachable!())
 }
 
 /// Returns the string before `-POSIX` and after it if this is the only variant, and there are no
 /// extensions.
-fn around_posix<'a>(tag: NormalLangTag<'a>) -> Option<(&'a [u8], &'a [u8])> {
+fn around_posix(tag: NormalLangTag<'_>) -> Option<(&[u8], &[u8])> {
     let text = tag.as_str().as_bytes();
     let ends = tag.ends();
     if ends.variants != ends.extensions {

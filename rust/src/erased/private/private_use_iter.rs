@@ -53,7 +53,7 @@ impl<'a> PrivateUseIter<'a> {
 
 /// Returns the subtags of a string except the first, which is `x` or `X`.
 #[inline]
-fn after_mark<'a>(text: &'a str) -> Subtags<'a> {
+fn after_mark(text: &str) -> Subtags<'_> {
     let mut rest = Subtags::new(text);
     let _mark = rest.next();
     rest

@@ -54,7 +54,7 @@ pub struct WantedRanges<'a> {
 /// ```
 #[inline]
 #[must_use]
-pub fn wanted_ranges<'a>(header: &'a [u8]) -> WantedRanges<'a> {
+pub fn wanted_ranges(header: &[u8]) -> WantedRanges<'_> {
     WantedRanges { rest: header }
 }
 

@@ -38,7 +38,7 @@ const REMEMBERED: usize = 512;
 /// [RFC 5646 section 3.1.8]: https://www.rfc-editor.org/rfc/rfc5646#section-3.1.8
 /// [RFC 4647 section 3.3.2]: https://www.rfc-editor.org/rfc/rfc4647#section-3.3.2
 #[must_use]
-pub fn misplaced_variant<'a>(tag: NormalLangTag<'a>) -> Option<Variant<'a>> {
+pub fn misplaced_variant(tag: NormalLangTag<'_>) -> Option<Variant<'_>> {
     let mut end = tag.ends().region;
     let mut matching = [false; REMEMBERED];
     for variant in tag.variants().iter() {
@@ -72,7 +72,7 @@ pub fn misplaced_variant<'a>(tag: NormalLangTag<'a>) -> Option<Variant<'a>> {
 ///
 /// [RFC 5646 section 3.1.8]: https://www.rfc-editor.org/rfc/rfc5646#section-3.1.8
 #[must_use]
-pub fn misplaced_extlang<'a>(tag: NormalLangTag<'a>) -> Option<ExtendedLangTag<'a>> {
+pub fn misplaced_extlang(tag: NormalLangTag<'_>) -> Option<ExtendedLangTag<'_>> {
     let language = tag.language();
     let mut extlangs = language.extension_subtags();
     let extlang = extlangs.next()?;

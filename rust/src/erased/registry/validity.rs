@@ -36,7 +36,7 @@ use crate::erased::tag::{is_among_first, LangTag, NormalLangTag};
 ///
 /// [RFC 5646 section 2.2.9]: https://www.rfc-editor.org/rfc/rfc5646#section-2.2.9
 #[inline]
-pub fn validate<'a>(tag: LangTag<'a>) -> Result<(), InvalidSubtag<'a>> {
+pub fn validate(tag: LangTag<'_>) -> Result<(), InvalidSubtag<'_>> {
     match fault_at(tag) {
         Some((fault, _)) => Err(fault),
         None => Ok(()),
@@ -59,7 +59,7 @@ pub fn validate<'a>(tag: LangTag<'a>) -> Result<(), InvalidSubtag<'a>> {
 /// ```
 #[inline]
 #[must_use]
-pub fn fault_at<'a>(tag: LangTag<'a>) -> Option<(InvalidSubtag<'a>, usize)> {
+pub fn fault_at(tag: LangTag<'_>) -> Option<(InvalidSubtag<'_>, usize)> {
     let normal = tag.as_normal()?;
     let fault = find_fault_of_normal(normal)?;
     if tag.is_grandfathered() {
@@ -69,7 +69,7 @@ pub fn fault_at<'a>(tag: LangTag<'a>) -> Option<(InvalidSubtag<'a>, usize)> {
 }
 
 /// Returns the first fault of a normal tag. It does not check whether the tag is grandfathered.
-fn find_fault_of_normal<'a>(tag: NormalLangTag<'a>) -> Option<(InvalidSubtag<'a>, usize)> {
+fn find_fault_of_normal(tag: NormalLangTag<'_>) -> Option<(InvalidSubtag<'_>, usize)> {
     if let Some(fault) = find_language_fault(tag.language()) {
         return Some((fault, 0));
     }
@@ -87,7 +87,7 @@ fn find_fault_of_normal<'a>(tag: NormalLangTag<'a>) -> Option<(InvalidSubtag<'a>
 }
 
 /// Returns the first fault of a language.
-fn find_language_fault<'a>(language: Language<'a>) -> Option<InvalidSubtag<'a>> {
+fn find_language_fault(language: Language<'_>) -> Option<InvalidSubtag<'_>> {
     let primary = language.primary();
     if !is_registered_language(primary) {
         return Some(InvalidSubtag::Language(primary));
@@ -103,7 +103,7 @@ fn find_language_fault<'a>(language: Language<'a>) -> Option<InvalidSubtag<'a>> 
 
 /// Returns the fault of a script, if it has one.
 #[inline]
-fn find_script_fault<'a>(script: Option<Script<'a>>) -> Option<InvalidSubtag<'a>> {
+fn find_script_fault(script: Option<Script<'_>>) -> Option<InvalidSubtag<'_>> {
     let script = script?;
     if is_registered_script(script) {
         return None;
@@ -113,7 +113,7 @@ fn find_script_fault<'a>(script: Option<Script<'a>>) -> Option<InvalidSubtag<'a>
 
 /// Returns the fault of a region, if it has one.
 #[inline]
-fn find_region_fault<'a>(region: Option<Region<'a>>) -> Option<InvalidSubtag<'a>> {
+fn find_region_fault(region: Option<Region<'_>>) -> Option<InvalidSubtag<'_>> {
     let region = region?;
     if is_registered_region(region) {
         return None;
@@ -124,7 +124,7 @@ fn find_region_fault<'a>(region: Option<Region<'a>>) -> Option<InvalidSubtag<'a>
 /// Returns the first fault among variants, and the index of that variant.
 // Each variant is compared with the variants before it. The earlier variants are registered and all different, so they
 // are few.
-fn find_variant_fault<'a>(variants: Variants<'a>) -> Option<(InvalidSubtag<'a>, usize)> {
+fn find_variant_fault(variants: Variants<'_>) -> Option<(InvalidSubtag<'_>, usize)> {
     for (index, variant) in variants.iter().enumerate() {
         if !is_registered_variant(variant) {
             return Some((InvalidSubtag::Variant(variant), index));
@@ -137,7 +137,7 @@ fn find_variant_fault<'a>(variants: Variants<'a>) -> Option<(InvalidSubtag<'a>, 
 }
 
 /// Returns the first repeated singleton, and the index of its extension.
-fn find_repeated_singleton<'a>(tag: NormalLangTag<'a>) -> Option<(Singleton, usize)> {
+fn find_repeated_singleton(tag: NormalLangTag<'_>) -> Option<(Singleton, usize)> {
     let index = tag.repeated_singleton_index()?;
     let extension = tag.extensions().iter().nth(index)?;
     Some((extension.singleton(), index))

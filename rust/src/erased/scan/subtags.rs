@@ -83,7 +83,7 @@ impl<'a> DoubleEndedIterator for Subtags<'a> {
 /// Returns the string before the first hyphen and the string after it. If there is no hyphen,
 /// returns the whole string and `None`.
 #[inline]
-fn split_first<'a>(text: &'a str) -> (&'a str, Option<&'a str>) {
+fn split_first(text: &str) -> (&str, Option<&str>) {
     let end = segment_end(text.as_bytes(), 0);
     if end == text.len() {
         return (text, None);
@@ -94,7 +94,7 @@ fn split_first<'a>(text: &'a str) -> (&'a str, Option<&'a str>) {
 /// Returns the string before the last hyphen and the string after it. If there is no hyphen,
 /// returns `None` and the whole text.
 #[inline]
-fn split_last<'a>(text: &'a str) -> (Option<&'a str>, &'a str) {
+fn split_last(text: &str) -> (Option<&str>, &str) {
     let start = segment_start(text.as_bytes(), text.len());
     if start == 0 {
         return (None, text);

@@ -39,7 +39,7 @@ pub fn viable_len_with_hyphen(bytes: &[u8]) -> usize {
 
 /// Returns the length in bytes of the longest prefix of a source with which some tag begins.
 #[inline]
-fn viable_len_of<'a>(source: &mut Metered<'a>) -> usize {
+fn viable_len_of(source: &mut Metered<'_>) -> usize {
     let len = source.len();
     match read(source) {
         Ok(_) => len,

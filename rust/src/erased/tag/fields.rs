@@ -7,7 +7,7 @@ use crate::erased::place::{Region, Script};
 /// Returns the string of a script, or the empty string if there is none.
 #[inline]
 #[must_use]
-pub fn script_field<'a>(script: Option<Script<'a>>) -> &'a [u8] {
+pub fn script_field(script: Option<Script<'_>>) -> &[u8] {
     match script {
         Some(script) => script.as_bytes(),
         None => b"",
@@ -17,7 +17,7 @@ pub fn script_field<'a>(script: Option<Script<'a>>) -> &'a [u8] {
 /// Returns the string of a region, or the empty string if there is none.
 #[inline]
 #[must_use]
-pub fn region_field<'a>(region: Option<Region<'a>>) -> &'a [u8] {
+pub fn region_field(region: Option<Region<'_>>) -> &[u8] {
     match region {
         Some(region) => region.as_bytes(),
         None => b"",

@@ -76,7 +76,7 @@ impl<'a> LangTag<'a> {
     ///
     /// Returns the string if it is not a tag, such as `zh_Hant` or the empty string. The error
     /// borrows the string. A function that drops the string and returns the error calls
-    /// `LangTag::new(text).map_err(InvalidLangTag::into_owned)?`.
+    /// `text.parse::<LangTagBuf>()?`, or `LangTag::new(text).map_err(InvalidLangTag::into_owned)?`.
     ///
     /// ```
     /// use langtag::LangTag;

@@ -21,7 +21,7 @@ use crate::erased::unicode::transformation::Transformation;
 ///
 /// [RFC 6497 section 2.2]: https://www.rfc-editor.org/rfc/rfc6497#section-2.2
 #[must_use]
-pub fn transform<'a>(tag: LangTag<'a>) -> Option<Transformation<'a>> {
+pub fn transform(tag: LangTag<'_>) -> Option<Transformation<'_>> {
     let singleton = Singleton::new(b't').ok()?;
     let text = nonempty(extension_text(tag, singleton))?;
     Some(Transformation::new(text))

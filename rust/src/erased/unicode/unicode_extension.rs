@@ -77,7 +77,7 @@ pub fn keyword<'a>(tag: LangTag<'a>, key: &str) -> Option<&'a str> {
 /// [RFC 6067 section 2.1]: https://www.rfc-editor.org/rfc/rfc6067#section-2.1
 #[inline]
 #[must_use]
-pub fn keywords<'a>(tag: LangTag<'a>) -> KeywordsIter<'a> {
+pub fn keywords(tag: LangTag<'_>) -> KeywordsIter<'_> {
     KeywordsIter::new(unicode_text(tag), Keys::Unicode)
 }
 
@@ -102,6 +102,6 @@ pub fn keywords<'a>(tag: LangTag<'a>) -> KeywordsIter<'a> {
 /// [RFC 6067 section 2.1]: https://www.rfc-editor.org/rfc/rfc6067#section-2.1
 #[inline]
 #[must_use]
-pub fn attributes<'a>(tag: LangTag<'a>) -> AttributesIter<'a> {
+pub fn attributes(tag: LangTag<'_>) -> AttributesIter<'_> {
     AttributesIter::new(before_key(nonempty(unicode_text(tag)), Keys::Unicode))
 }
