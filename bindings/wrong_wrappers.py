@@ -154,7 +154,7 @@ index.js unicode.txt: if (key !== ""` && !found.has(key)``)
 index.js keywords.txt: tag = tag.#withKeyword(key, value `??`||` undefined)
 index.js locale.txt: `form === "" ? undefined : ``new
 index.js parents.txt: calls.nthParent(this.text, found.length`` + 1`)
-index.js names.txt: read.`localeForm() ?? read.``canonical()
+index.js names.txt: `read.localeForm() ?? LanguageTag.fromPosix(read.text)?.localeForm() ?? ``read.canonical()
 index.js posix.txt: return found && text.slice(found[`0], found[0] + found[``1]);
 index.js keywords that are set and removed: `Array.isArray(pair) && ``[pair[0]
 index.js negotiation.txt: AcceptLanguageError, text, `index, offset`offset, index`,

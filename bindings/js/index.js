@@ -699,10 +699,10 @@ function languageName(code) {
         return undefined;
     return nameIn(code.length === 2 ? TWO_LETTERS : code.charCodeAt(2) & 31, code);
 }
-/** Returns the form of a tag whose subtags have the names: de for ger. */
+/** Returns the form of a tag whose subtags have the names: de for ger, and es-US for es-rUS, as Android writes it. */
 function named(tag) {
     const read = tagOf(tag);
-    return read.localeForm() ?? read.canonical();
+    return read.localeForm() ?? LanguageTag.fromPosix(read.text)?.localeForm() ?? read.canonical();
 }
 /**
  * Returns an English name of a tag, made of CLDR's names for the subtags of its locale form, or of its canonical form if it has none:

@@ -944,10 +944,10 @@ function languageName(code: string): string | undefined {
     return nameIn(code.length === 2 ? TWO_LETTERS : code.charCodeAt(2) & 31, code);
 }
 
-/** Returns the form of a tag whose subtags have the names: de for ger. */
+/** Returns the form of a tag whose subtags have the names: de for ger, and es-US for es-rUS, as Android writes it. */
 function named(tag: Text): LanguageTag {
     const read = tagOf(tag);
-    return read.localeForm() ?? read.canonical();
+    return read.localeForm() ?? LanguageTag.fromPosix(read.text)?.localeForm() ?? read.canonical();
 }
 
 /**

@@ -19,6 +19,7 @@ use alloc::string::String;
 use alloc::vec::Vec;
 
 use self::data::{INDEX, PAIRS, ROWS};
+use crate::likely::from_posix;
 use crate::{LangTag, LangTagBuf, NormalLangTag, Script};
 
 /// Returns an English name of a tag, made of CLDR's names for the subtags of its
@@ -69,9 +70,12 @@ pub fn describe<'a>(tag: impl Into<LangTag<'a>>) -> String {
     String::from_utf8(name).unwrap_or_default()
 }
 
-/// Returns the form of a tag whose subtags have the names: `de` for `ger`, as in [`LangTag::locale_form`].
+/// Returns the form of a tag whose subtags have the names: `de` for `ger`, as in [`LangTag::locale_form`],
+/// and `es-US` for `es-rUS`, as Android writes it, and as a choice reads it.
 fn form_of(tag: LangTag<'_>) -> LangTagBuf {
-    tag.locale_form().unwrap_or_else(|| tag.canonical())
+    tag.locale_form()
+        .or_else(|| from_posix(tag.as_str()).ok()?.locale_form())
+        .unwrap_or_else(|| tag.canonical())
 }
 
 /// Returns the subtags that a name has in parentheses.
