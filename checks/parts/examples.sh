@@ -1,5 +1,4 @@
-# Runs the examples that are servers, the count of a million rows, and the extension of SQLite. The store of
-# RDF literals runs with the Rust crate.
+# Runs the examples that are servers, catalogues and a store of RDF literals, and the extension of SQLite.
 strict="-std=c99 -O2 -Wall -Wextra -Wpedantic -Werror"
 PYTHONPATH=$work/bindings/python
 
@@ -20,6 +19,11 @@ catalogues() {
 }
 check "the example of a catalogue asks the parents of a tag" catalogues
 check "gettext reads the messages of the parents of a locale" env -C examples python3 -m unittest test_gettext
+
+# Debian's rdflib is for Debian's own Python.
+rdflib_python() { for it in python3 /usr/bin/python3; do "$it" -c 'import rdflib' 2>/dev/null && echo "$it" && return; done; false; }
+if [ "${CI:-}" = true ] && ! rdflib_python >/dev/null; then (apt-get update -qq && apt-get install -y -qq --no-install-recommends python3-rdflib) >/dev/null; fi
+needs rdflib_python "there is no rdflib (in Debian: apt-get install python3-rdflib)" "RDF literals beside rdflib" env -C examples "$(rdflib_python)" -m unittest test_literals
 
 sqlite_make() { make -s -B -C sqlite LANGTAG_ARCHIVE="$work/usr/lib/liblangtag_verified.a" LANGTAG_INCLUDE="$work/usr/include" "$@"; }
 sqlite_extension() {

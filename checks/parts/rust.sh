@@ -29,21 +29,6 @@ check "Rust: the calls of C's rows of each length to 4,200 bytes, and to 2 MB" b
 check "Rust: names of languages" bash -c 'cd "$rust_crate" && cargo test -q --features names,oxilangtag --test rows display_names && cargo test -q --features names,oxilangtag --doc names'
 check "Rust: the names of oxilangtag" bash -c 'cd "$rust_crate" && cargo test -q --features oxilangtag --doc oxilangtag && cargo test -q --features oxilangtag --test all oxilangtag::'
 
-# The same program with the crate for which it was written. Only the line with `use` differs.
-literals_elsewhere() {
-    local folder=$work/literals
-    cargo new -q --vcs none "$folder" && sed 's/^use langtag::oxilangtag::/use oxilangtag::/' "$rust_crate/examples/literals.rs" >"$folder/src/main.rs" || return 1
-    [ "$(diff "$rust_crate/examples/literals.rs" "$folder/src/main.rs" | grep -c '^>')" = 1 ] && echo 'oxilangtag = "0.1"' >>"$folder/Cargo.toml" || return 1
-    (cd "$folder" && cargo build -q --config "source.crates-io.replace-with='folder'" --config "source.folder.directory='$registry'")
-}
-literals() {
-    (cd "$rust_crate" && cargo build -q --features oxilangtag --example literals) || return 1
-    local programs=("$CARGO_TARGET_DIR/debug/examples/literals")
-    if ls -d "$registry"/oxilangtag-0.1.* >/dev/null 2>&1; then literals_elsewhere && programs+=("$CARGO_TARGET_DIR/debug/literals") || return 1; fi
-    python3 "$rust_crate/examples/test_literals.py" "${programs[@]}"
-}
-check "Rust: the store of RDF's literals over the names of oxilangtag" literals
-ls -d "$registry"/oxilangtag-0.1.* >/dev/null 2>&1 || not_run "Rust: the same over oxilangtag" "its source is not in $registry"
 needs 'ls -d "$registry"/oxilangtag-0.1.[36] "$registry/language-tags-0.3.2" >/dev/null 2>&1' "their sources are not in $registry" \
     "Rust: the tests of oxilangtag and language-tags, but for those that are named" "$rust_crate/peers/run"
 

@@ -83,6 +83,10 @@ from!(['a] &LangTag<'a> => LanguageRange<'a>: tag => LanguageRange::from(*tag));
 from!(['a] &'a LangTagBuf => LanguageRange<'a>: tag => LanguageRange::from(tag.as_lang_tag()));
 #[cfg(feature = "alloc")]
 from!([] LangTagBuf => LanguageRangeBuf: tag => LanguageRange::from(&tag).to_owned());
+#[cfg(feature = "alloc")]
+from!([] &LangTagBuf => LanguageRangeBuf: tag => LanguageRange::from(tag).to_owned());
+#[cfg(feature = "alloc")]
+from!(['a] LangTag<'a> => LanguageRangeBuf: tag => LanguageRange::from(tag).to_owned());
 from!([] GrandfatheredLangTag => LangTag<'static>: tag => tag.as_lang_tag());
 try_from!(['a] LangTag<'a> => NormalLangTag<'a>, InvalidNormalLangTag<&'a str>: tag => {
     tag.as_normal().ok_or(InvalidNormalLangTag(tag.as_str()))

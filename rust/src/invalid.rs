@@ -29,7 +29,7 @@ macro_rules! errors {
 
 for_text_types!(errors);
 
-impl<T: AsRef<str>> InvalidLangTag<T> {
+impl<T: AsRef<[u8]>> InvalidLangTag<T> {
     /// Returns where the string is wrong.
     ///
     /// It is `None` only if a program made the error from a string that is a tag.
@@ -46,7 +46,7 @@ impl<T: AsRef<str>> InvalidLangTag<T> {
     #[must_use]
     #[inline]
     pub fn refusal(&self) -> Option<Refusal> {
-        Refusal::of(self.0.as_ref().as_bytes())
+        Refusal::of(self.0.as_ref())
     }
 
     /// Returns the reason in words, as a value that can be displayed.
@@ -61,6 +61,6 @@ impl<T: AsRef<str>> InvalidLangTag<T> {
     /// ```
     #[inline]
     pub fn reason(&self) -> Reason<'_> {
-        Reason(self.0.as_ref().as_bytes())
+        Reason(self.0.as_ref())
     }
 }

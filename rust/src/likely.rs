@@ -32,7 +32,6 @@ pub use crate::erased::likely::CLDR_VERSION;
 #[doc(alias = "gettext")]
 #[doc(alias = "java")]
 pub use crate::erased::posix::from_posix;
-pub use crate::erased::posix::unknown_modifier;
 #[cfg(feature = "alloc")]
 pub use crate::erased::posix::PosixError;
 
@@ -76,6 +75,20 @@ pub fn write_from_posix(
 ) -> Result<Option<&str>, TooShort> {
     let len = posix::write_from_posix(name.as_ref(), buffer);
     written_if_any(buffer, len)
+}
+
+/// Returns the modifier of a locale name that `from_posix` drops, or `None` if it drops nothing:
+/// `x` for `en_US@x`.
+///
+/// ```
+/// use langtag::likely::unknown_modifier;
+///
+/// assert_eq!(unknown_modifier("en_US@x"), Some(&b"x"[..]));
+/// assert_eq!(unknown_modifier("sr_RS@latin"), None);
+/// ```
+#[must_use]
+pub fn unknown_modifier(name: &(impl AsRef<[u8]> + ?Sized)) -> Option<&[u8]> {
+    posix::unknown_modifier(name.as_ref())
 }
 
 form! {

@@ -163,3 +163,14 @@ impl<'a, R: AsRef<str>> crate::choice::RangeList<'a> for Ranges<'a, R> {
         None
     }
 }
+
+/// An `Accept-Language` header.
+#[cfg(feature = "data")]
+impl<'a> crate::choice::RangeList<'a> for &'a str {
+    #[inline]
+    fn split_range(self) -> Option<(crate::matching::WantedRange<'a>, Self)> {
+        let (wanted, rest) = self.as_bytes().split_range()?;
+        // The rest is empty, or begins after a comma.
+        Some((wanted, &self[self.len() - rest.len()..]))
+    }
+}

@@ -188,6 +188,16 @@ impl<E: TagEntry> Site<E> {
     }
 }
 
+impl<E> Default for Site<E> {
+    /// Returns a site without tags, for which no tag is chosen.
+    fn default() -> Site<E> {
+        Site {
+            tags: Vec::new(),
+            forms: Vec::new(),
+        }
+    }
+}
+
 impl<E: TagEntry> FromIterator<E> for Site<E> {
     fn from_iter<I: IntoIterator<Item = E>>(tags: I) -> Site<E> {
         Site::new(Vec::from_iter(tags))

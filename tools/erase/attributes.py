@@ -24,10 +24,10 @@ REFUSING = "Clone, Copy, PartialEq, Eq, Hash"
 CONST = {
     "class": {"is_letter", "is_digit", "are_letters", "are_digits", "is_primary", "is_script", "is_region"},
     "ends": {"new", "set", "ends", "later"},
-    "lang_tag": {"with_found", "as_str"},
-    "primary_language": {"from_checked"},
-    "region": {"from_checked"},
-    "script": {"from_checked"},
+    "lang_tag": {"with_found", "as_str", "as_bytes"},
+    "primary_language": {"from_checked", "as_str", "as_bytes"},
+    "region": {"from_checked", "as_str", "as_bytes"},
+    "script": {"from_checked", "as_str", "as_bytes"},
     "state": {"start", "after", "after_class", "part_before", "ending"},
 }
 

@@ -2,6 +2,9 @@
 #![cfg(all(feature = "alloc", feature = "data"))]
 mod edits;
 mod likely;
+#[allow(dead_code)] // the example is a program
+#[path = "../../examples/literals.rs"]
+mod literals;
 mod matching;
 mod reader;
 mod registry;
@@ -15,6 +18,7 @@ use langtag::likely::{unknown_modifier, CLDR_VERSION};
 use langtag::names::{autonym, describe};
 use langtag::registry::{extlang_form, misplaced_extlang};
 use langtag::unicode::is_locale;
+use literals::Object;
 #[cfg(feature = "names")]
 use reader::escaped_text;
 use reader::{ask, escaped, list, word, yes, Row};
@@ -49,6 +53,10 @@ fn answer(row: &Row) -> String {
         "registered" => row.of_tag(registry::registered),
         "range" => matching::range(row.text(0)),
         "match" => matching::matches(row.text(0), row.tag(1)),
+        "same-term" => {
+            let [one, other] = [0, 1].map(|index| Object::read(row.str(index)).unwrap().0);
+            yes(one == other)
+        }
         "header" => matching::header(row.str(0), row.str(1)),
         "ranges" => matching::ranges(row.str(0), row.str(1)),
         "elements" => matching::elements(row.str(0)),
@@ -117,6 +125,7 @@ files! {
     subtags: "registry.txt";
     headers: "negotiation.txt";
     ranges: "ranges.txt";
+    literal_strings: "rdf.txt";
     refusals: "refused.txt";
     forms: "likely.txt";
     distances: "distance.txt";
