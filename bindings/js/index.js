@@ -15,8 +15,6 @@
 import * as calls from "./calls.js";
 import { prepareSite } from "./memory.js";
 // @ts-ignore: `build` makes it
-import * as built from "./module.js";
-// @ts-ignore: `build` makes it
 import { AUTONYMS, NAMES } from "./names.js";
 /** The 26 grandfathered tags in their registered spelling (RFC 5646 section 2.1). The first seventeen are irregular. */
 export const GRANDFATHERED = Object.freeze([
