@@ -73,8 +73,8 @@ langtag.hpp suitable.txt: found.data(), room`` / 2`));
 langtag.hpp posix.txt: name.substr(modifier.`start, modifier.``len)
 langtag.hpp parents.txt: std::string next(`text_`written(langtag_parent)`);
 langtag.hpp lists.txt: ranges()) ``if (wanted.empty()) `wanted.push_back(it.range)
-langtag_names.h names.txt: = `langtag_locale_form`langtag_canonical`(tag ;; `if (langtag_english_name(own, sizeof own))``
-langtag_names.h names.txt: `is_usual ? language_len : 0`language_len`; ;; `if (form[extension.start] != last)`` ;; ? "`]`)`" :
+langtag_names.h names.txt: = `langtag_locale_form`langtag_canonical`(tag ;; `if (!langtag_name_row(LANGTAG_NAME_REPLACED, own, sizeof own)) return;``
+langtag_names.h names.txt: `is_usual ? language_len : 0`language_len`; ;; byte == '(' ? '[' : '`]`)`' ;; `if (*row != kind) continue;``
 """),
     "Rust": ("rust/src", r"""
 text.rs owned: `case_insensitive_eq(self.as_str().as_bytes(), other.as_bytes()`self.as_str().as_bytes() == other.as_bytes(`)
@@ -83,7 +83,7 @@ text.rs owned: self.`$lend().partial_cmp(other`as_str().partial_cmp(other.as_str
 text.rs habits: core::str::from_utf8(bytes).`map_err(|_| $error(bytes))?`unwrap_or("und")`
 text.rs habits: $name::new(text``.trim()`).map_err(|_| $error(bytes))
 text.rs guesses: $error(`error.into_bytes`Vec::new`())
-names.rs rows: `to_ascii_uppercase`to_ascii_lowercase` ;; `is_usual.then_some`Some`(language)
+names.rs rows: .filter(|own| `*own != named.language()`false`) ;; `if is_usual { 4 } else { 3 }`4`
 lent.rs owned: `self.$lend`$name::try_from("zh").unwrap`().$call($($argument)?)
 caseless_text.rs habits: `case_insensitive_cmp(self.text().as_bytes(), other.text().as_bytes`self.text().cmp(other.text`())
 caseless_text.rs habits: `case_insensitive_eq(self.text().as_bytes(), other.text().as_bytes()`self.text() == other.text(`)

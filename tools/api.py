@@ -3,11 +3,12 @@
 names of its functions, constants and fields. The hash covers all that `--show` prints of it: signatures, fields, variants, traits and
 #[must_use].
 
-    python3 tools/api.py            writes rust/api.txt again
-    python3 tools/api.py --show     prints the whole API. Compare what it prints for two commits, to see what a new hash means
-    python3 tools/api.py --check    says how the crate differs from the list
+    python3 tools/api.py                  writes rust/api.txt again
+    python3 tools/api.py --show           prints the whole API
+    python3 tools/api.py --diff [COMMIT]  prints the signatures that differ from those of a commit, which is the one before if none is given
+    python3 tools/api.py --check          does the same, and fails if the list is another
 
-It reads the JSON of rustdoc, whose form changes with rustc. So it says that it was not run if the form is another.
+It reads the JSON of rustdoc, whose form changes with rustc. It fails if the form is another.
 """
 import difflib
 import hashlib
@@ -16,6 +17,7 @@ import os
 import pathlib
 import subprocess
 import sys
+import tempfile
 
 RUST = pathlib.Path(__file__).resolve().parents[1] / "rust"
 LISTED = RUST / "api.txt"
@@ -24,12 +26,16 @@ FORMAT = 57  # of rustc 1.95
 OF_RUSTC = {"StructuralPartialEq", "TrivialClone", "Freeze", "UnsafeUnpin"}  # traits that are only for rustc
 
 
-def read_json():
-    target = pathlib.Path(os.environ.get("CARGO_TARGET_DIR") or RUST / "target") / "api"
+def read_json(crate=RUST):
+    target = pathlib.Path(os.environ.get("CARGO_TARGET_DIR") or RUST / "target") / ("api" if crate == RUST else "api_before")
     command = ["cargo", "rustdoc", "-q", "--lib", "--features", "names,oxilangtag", "--target-dir", target, "--", "-Z", "unstable-options",
                "--output-format", "json", "--document-hidden-items"]
-    subprocess.run(command, cwd=RUST, check=True, env={**os.environ, "RUSTC_BOOTSTRAP": "1", "CARGO_NET_OFFLINE": "true"})
-    return json.loads((target / "doc/langtag.json").read_text())
+    subprocess.run(command, cwd=crate, check=True, env={**os.environ, "RUSTC_BOOTSTRAP": "1", "CARGO_NET_OFFLINE": "true"})
+    data = json.loads((target / "doc/langtag.json").read_text())
+    if data["format_version"] != FORMAT:
+        version = subprocess.run(["rustc", "--version"], capture_output=True, text=True, check=True).stdout.strip()
+        sys.exit(f"api: rustdoc of {version} writes the form {data['format_version']}, and this program reads {FORMAT}: use rustc 1.95, or change FORMAT and what reads it")
+    return data
 
 
 def type_of(it):
@@ -131,6 +137,8 @@ class Api:
         if kind == "trait":
             members = "; ".join(self.text_of(it["name"], it) for it in self.all_of(value["items"]))
             return f"trait {name}{generics_of(value)}: {' + '.join(map(bound_of, value['bounds']))} {{ {members} }}"
+        if kind == "assoc_type":
+            return f"type {name}: {' + '.join(map(bound_of, value['bounds']))}"
         return f"macro {name}!" if kind == "macro" else f"{kind} {name}: {type_of(value['type'])}"
 
     def take_type(self, path, kind, value, item):
@@ -155,10 +163,9 @@ class Api:
         return found + [".."] * (None in fields or isinstance(value, dict) and value["has_stripped_fields"])
 
     def shown(self):
-        """Yields all text, below the path of each module and type."""
+        """Yields all text, each line with the path of its module or type."""
         for path, items in sorted(self.items.items()):
-            yield path
-            yield from (f"  {text}" for text in sorted(text for _, text in items))
+            yield from (f"{path}: {text}" for text in sorted(text for _, text in items))
 
     def listed(self):
         """Yields the lines of the list. Two paths of one type share a line."""
@@ -170,24 +177,32 @@ class Api:
             yield " ".join([digest, *of]) + ": " + " ".join(name for name, _ in items if name)
 
 
+def print_differences(api, commit):
+    """Prints the signatures that differ from those of a commit."""
+    with tempfile.TemporaryDirectory() as folder:
+        archive = subprocess.run(["git", "archive", commit, "rust"], cwd=RUST.parent, capture_output=True, check=False)
+        if archive.returncode:
+            print(f"api: not run: the comparison with {commit}, which this copy has not: {archive.stderr.decode().strip()}")
+            return
+        subprocess.run(["tar", "-x", "-C", folder], input=archive.stdout, check=True)
+        before = Api(read_json(pathlib.Path(folder, "rust")))
+    lines = [line for line in difflib.unified_diff([*before.shown()], [*api.shown()], n=0, lineterm="") if line[:3] not in ("---", "+++") and line[0] != "@"]
+    print(*(f"api: {line}" for line in lines), f"api: {len(lines)} lines differ from {commit}", sep="\n")
+
+
 def main(arguments):
-    data = read_json()
-    if data["format_version"] != FORMAT:
-        print(f"api: not run: rustdoc writes the form {data['format_version']}, and this program reads {FORMAT}")
-        return False
-    api = Api(data)
+    api = Api(read_json())
     if arguments == ["--show"]:
         print(*api.shown(), sep="\n")
         return False
     text = HEAD + "".join(f"{line}\n" for line in api.listed())
-    if arguments != ["--check"]:
+    if not arguments:
         LISTED.write_text(text)
         return False
-    listed = LISTED.read_text()
-    for line in difflib.unified_diff(listed.splitlines(), text.splitlines(), "listed", "in the crate", lineterm="", n=0):
-        print(f"api: {line}")
-    print(f"api: {text.count(chr(10))} lines" + (", and the list is another: compare what --show prints" if text != listed else ""))
-    return text != listed
+    print_differences(api, arguments[1] if arguments[1:] else "HEAD^")
+    is_other = arguments[0] == "--check" and text != LISTED.read_text()
+    print(f"api: {text.count(chr(10))} lines" + (f", and {LISTED.name} is another: run tools/api.py, and read what it changes" if is_other else ""))
+    return is_other
 
 
 if __name__ == "__main__":

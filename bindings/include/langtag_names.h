@@ -11,6 +11,10 @@
 #include "langtag_names_data.h"
 #include <string.h>
 
+/* The bytes that begin rows, as data/names/generate.py describes them. A smaller byte is the third letter of a language, and a greater one
+ * is text. While a byte is expanded, at most LANGTAG_NAME_DEPTH bytes wait. */
+enum { LANGTAG_NAME_TWO_LETTERS = 27, LANGTAG_NAME_SUBTAG, LANGTAG_NAME_OWN, LANGTAG_NAME_REPLACED, LANGTAG_NAME_TEXT = 32, LANGTAG_NAME_DEPTH = 16 };
+
 /* Writes the form of a tag whose subtags have the names, as langtag_canonical writes its form: the locale form, "de" for "ger", or the
  * canonical form if there is no locale form. */
 static inline size_t langtag_name_form(const char *tag, size_t len, char *buffer, size_t buffer_len) {
@@ -18,71 +22,75 @@ static inline size_t langtag_name_form(const char *tag, size_t len, char *buffer
     return form_len > 0 ? form_len : langtag_canonical(tag, len, buffer, buffer_len);
 }
 
-/* A string that is written to a buffer. Bytes that do not fit are counted. */
+/* A string that is written to a buffer. Bytes that do not fit are counted. Parentheses inside parentheses are written as brackets. */
 typedef struct langtag_name {
     char *buffer;
     size_t room, len;
+    bool is_inside;
 } langtag_name;
 
-static inline void langtag_name_put(langtag_name *to, const char *bytes, size_t len) {
-    for (size_t k = 0; k < len; k++, to->len++)
-        if (to->len < to->room) to->buffer[to->len] = bytes[k];
+static inline void langtag_name_put(langtag_name *to, char byte) {
+    if (to->is_inside && (byte == '(' || byte == ')')) byte = byte == '(' ? '[' : ']';
+    if (to->len < to->room) to->buffer[to->len] = byte;
+    to->len++;
 }
 
-/* Returns the name of a key, or NULL if no row has the key. The rows are in order, a NUL ends each, and NULs fill each page. */
-static inline const char *langtag_name_in(const char (*pages)[LANGTAG_NAMES_PAGE], size_t count, const char *key, size_t len) {
-    while (count > 1) {
-        const char *first = pages[count / 2];
-        const int order = strncmp(first, key, len);
-        if (order < 0 || (order == 0 && first[len] == ' ')) pages += count / 2, count -= count / 2;
-        else count /= 2;
+/* Writes the bytes for which a byte of a packed name stands. */
+static inline void langtag_name_expand(langtag_name *to, unsigned char packed) {
+    unsigned char waiting[LANGTAG_NAME_DEPTH] = {packed};
+    for (size_t count = 1; count > 0;) {
+        const unsigned char *pair = langtag_name_pairs[waiting[count - 1]];
+        if (pair[0] == 0) langtag_name_put(to, (char)waiting[--count]);
+        else waiting[count - 1] = pair[1], waiting[count++] = pair[0];
     }
-    for (const char *row = *pages; row < *pages + LANGTAG_NAMES_PAGE && *row != '\0'; row += strlen(row) + 1)
-        if (strncmp(row, key, len) == 0 && row[len] == ' ') return row + len + 1;
+}
+
+/* Returns the name in the row of a key of at least two bytes, or NULL if there is none. It is packed unless it is a language's own name. */
+static inline const unsigned char *langtag_name_row(int kind, const char *key, size_t len) {
+    size_t group = 0;
+    for (size_t k = 0; k < 2; k++) group = 36 * group + (size_t)(key[k] <= '9' ? key[k] - '0' : (key[k] | 0x20) - 'a' + 10);
+    const unsigned char *row = langtag_name_rows + langtag_name_index[group], *end = langtag_name_rows + langtag_name_index[group + 1];
+    for (; row < end; row++) {
+        if (*row != kind) continue;
+        if (kind <= LANGTAG_NAME_TWO_LETTERS) return row + 1;
+        if (strncmp((const char *)row + 1, key + 2, len - 2) == 0 && row[len - 1] == ' ') return row + len;
+    }
     return NULL;
 }
 
-/* Returns the English name of a language, or of another subtag with the hyphen before it. */
-static inline const char *langtag_english_name(const char *key, size_t len) {
-    return langtag_name_in(langtag_english_names, sizeof langtag_english_names / sizeof *langtag_english_names, key, len);
+static inline const unsigned char *langtag_name_language(const char *code, size_t len) {
+    if (len != 2 && len != 3) return NULL;
+    if (*code < 'a') return langtag_name_row(LANGTAG_NAME_REPLACED, code, len);
+    return langtag_name_row(len == 2 ? LANGTAG_NAME_TWO_LETTERS : code[2] & 31, code, len);
 }
 
-static inline const char *langtag_own_name(const char *key, size_t len) {
-    return langtag_name_in(langtag_own_names, sizeof langtag_own_names / sizeof *langtag_own_names, key, len);
-}
-
-/* Adds a part to the list in parentheses. Parentheses inside are written as brackets. */
-static inline void langtag_name_detail(langtag_name *to, bool *is_first, const char *bytes, size_t len) {
-    langtag_name_put(to, *is_first ? " (" : ", ", 2);
-    *is_first = false;
-    for (size_t k = 0; k < len; k++) langtag_name_put(to, bytes[k] == '(' ? "[" : bytes[k] == ')' ? "]" : bytes + k, 1);
+/* Writes a packed name, or the subtag if it has no name. */
+static inline void langtag_name_write(langtag_name *to, const unsigned char *name, const char *subtag, size_t len) {
+    if (name)
+        while (*name >= LANGTAG_NAME_TEXT) langtag_name_expand(to, *name++);
+    else
+        for (size_t k = 0; k < len; k++) langtag_name_put(to, subtag[k]);
 }
 
 /* Adds the English name of a subtag after the language, or the subtag if it has no name. */
-static inline void langtag_name_subtag(langtag_name *to, bool *is_first, const char *bytes, langtag_span subtag) {
-    const char *name = subtag.len > 0 ? langtag_english_name(bytes + subtag.start - 1, subtag.len + 1) : NULL;
+static inline void langtag_name_subtag(langtag_name *to, const char *form, langtag_span subtag) {
+    const char *bytes = form + subtag.start;
     if (subtag.len == 0) return;
-    langtag_name_detail(to, is_first, name ? name : bytes + subtag.start, name ? strlen(name) : subtag.len);
+    langtag_name_write(to, NULL, to->is_inside ? ", " : " (", 2);
+    to->is_inside = true;
+    langtag_name_write(to, langtag_name_row(LANGTAG_NAME_SUBTAG, bytes, subtag.len), bytes, subtag.len);
 }
 
-/* Puts the tag's own language in its form, in uppercase, if it is replaced with a language that CLDR does not name: HIM, not srx. Such
- * languages have three letters. */
+/* Puts the tag's own language in its form, its first letter in uppercase, if it is replaced with a language that CLDR does not name: Him,
+ * not srx. Such languages have three letters. */
 static inline void langtag_name_keep_language(const char *tag, size_t len, char *form) {
     char own[3];
     langtag_parts parts;
     if (langtag_parse(tag, len, &parts) != LANGTAG_NORMAL || parts.language.len != sizeof own) return;
-    for (size_t k = 0; k < sizeof own; k++) own[k] = tag[k] & 0x5f; /* in uppercase */
-    if (langtag_english_name(own, sizeof own)) memcpy(form, own, sizeof own);
-}
-
-/* Adds each extension as it stands, but only the first with the same singleton. */
-static inline void langtag_name_extensions(langtag_name *to, bool *is_first, const char *form, size_t len, langtag_span extensions) {
-    langtag_span rest = extensions, extension;
-    char last = 0;
-    while (langtag_next_extension(form, len, &rest, &extension)) {
-        if (form[extension.start] != last) langtag_name_detail(to, is_first, form + extension.start, extension.len);
-        last = form[extension.start];
-    }
+    for (size_t k = 0; k < sizeof own; k++) own[k] = tag[k] | 0x20; /* in lowercase */
+    if (!langtag_name_row(LANGTAG_NAME_REPLACED, own, sizeof own)) return;
+    memcpy(form, own, sizeof own);
+    form[0] &= 0x5f;
 }
 
 /*
@@ -91,23 +99,17 @@ static inline void langtag_name_extensions(langtag_name *to, bool *is_first, con
  * Call langtag_name_keep_language first.
  */
 static inline size_t langtag_name_describe(const char *form, size_t len, char *buffer, size_t buffer_len) {
-    langtag_name to = {buffer, buffer_len, 0};
+    langtag_name to = {buffer, buffer_len, 0, false};
     langtag_parts parts;
-    const uint32_t kind = langtag_parse(form, len, &parts);
-    const char *language = langtag_english_name(form, parts.language.len);
-    bool is_first = true;
-    if (kind != LANGTAG_NORMAL) {
-        langtag_name_put(&to, form, len);
+    if (langtag_parse(form, len, &parts) != LANGTAG_NORMAL) {
+        langtag_name_write(&to, NULL, form, len);
         return to.len;
     }
-    langtag_name_put(&to, language ? language : form, language ? strlen(language) : parts.language.len);
-    langtag_name_subtag(&to, &is_first, form, parts.script);
-    langtag_name_subtag(&to, &is_first, form, parts.region);
-    for (langtag_span rest = parts.variants, variant; langtag_next_subtag(form, len, &rest, &variant);)
-        langtag_name_subtag(&to, &is_first, form, variant);
-    langtag_name_extensions(&to, &is_first, form, len, parts.extensions);
-    if (parts.private_use.len > 0) langtag_name_detail(&to, &is_first, form + parts.private_use.start, parts.private_use.len);
-    if (!is_first) langtag_name_put(&to, ")", 1);
+    langtag_name_write(&to, langtag_name_language(form, parts.language.len), form, parts.language.len);
+    langtag_name_subtag(&to, form, parts.script);
+    langtag_name_subtag(&to, form, parts.region);
+    for (langtag_span rest = parts.variants, variant; langtag_next_subtag(form, len, &rest, &variant);) langtag_name_subtag(&to, form, variant);
+    if (to.is_inside) to.is_inside = false, langtag_name_put(&to, ')');
     return to.len;
 }
 
@@ -161,8 +163,9 @@ static inline const char *langtag_name_autonym(const char *form, size_t len) {
     if (langtag_parse(form, len, &parts) != LANGTAG_NORMAL) return NULL;
     langtag_name_keys(form, &parts, key, lens);
     for (size_t k = 0; k < sizeof lens / sizeof *lens; k++) {
-        const char *name = lens[k] > 0 && lens[k] < LANGTAG_NAME_ROOM ? langtag_own_name(key, lens[k]) : NULL;
-        if (name) return name;
+        const bool is_asked = lens[k] > 0 && lens[k] < LANGTAG_NAME_ROOM;
+        const unsigned char *name = is_asked ? langtag_name_row(LANGTAG_NAME_OWN, key, lens[k]) : NULL;
+        if (name) return (const char *)name;
     }
     return NULL;
 }

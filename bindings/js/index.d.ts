@@ -414,8 +414,8 @@ export declare class Site<Tag extends Text = string> {
 /**
  * Returns an English name of a tag, made of CLDR's names for the subtags of its locale form, or of its canonical form if it has none:
  * "Portuguese (Brazil)" for pt-BR. If CLDR does not name the language, the name is the tag's own language as IANA's registry describes it:
- * "Himachali languages" for him. A subtag without a name is shown as it is, and so are extensions and private use. For names in other
- * languages, use `Intl.DisplayNames`.
+ * "Himachali languages" for him. A subtag without a name is shown as it is. Extensions and private use are left out, but a tag that is only
+ * private use is shown as it is. For names in other languages, use `Intl.DisplayNames`.
  */
 export declare function describe(tag: Text): string;
 /**

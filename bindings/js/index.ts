@@ -17,7 +17,7 @@ import { prepareSite } from "./memory.js";
 // @ts-ignore: `build` makes it
 import * as built from "./module.js";
 // @ts-ignore: `build` makes it
-import { AUTONYMS, NAMES } from "./names.js";
+import { INDEX, PAIRS, ROWS } from "./names.js";
 
 /** A string, or an object with a `text`, such as a tag or a range, also from another copy of this module or from `structuredClone`. */
 export type Text = string | { readonly text: string };
@@ -939,17 +939,30 @@ export class Site<Tag extends Text = string> {
     }
 }
 
-/** Returns a function that returns the name of a key. The lines are split when it is first called. */
-function namesIn(lines) {
-    let names;
-    return (key) => {
-        names ??= new Map(lines.split("\n").map((line) => [line.slice(0, line.indexOf(" ")), line.slice(line.indexOf(" ") + 1)]));
-        return names.get(key);
-    };
+// The bytes that begin rows, as data/names/generate.py describes them. A smaller byte is the third letter of a language.
+const TWO_LETTERS = 27, SUBTAG = 28, OWN = 29, REPLACED = 30;
+let rows: string | undefined;
+
+/** Returns the bytes for which the bytes of a packed name stand. */
+function expanded(packed: string): string {
+    return [...packed].map((byte) => PAIRS[byte.charCodeAt(0)] === "" ? byte : expanded(PAIRS[byte.charCodeAt(0)])).join("");
 }
 
-// The keys are languages, other subtags with a hyphen, or tags. The calls are pure, so that a bundler can leave unused names out.
-const englishName = /* @__PURE__ */ namesIn(NAMES), ownName = /* @__PURE__ */ namesIn(AUTONYMS);
+/** Returns the name in the row of a key. */
+function nameIn(kind: number, key: string): string | undefined {
+    rows ??= atob(ROWS);
+    const group = parseInt(key.slice(0, 2), 36);
+    const start = String.fromCharCode(kind) + (kind > TWO_LETTERS ? `${key.slice(2)} ` : "");
+    const packed = rows.slice(INDEX[group], INDEX[group + 1]).split(start)[1]?.split(/[\0-\x1f]/)[0];
+    if (packed === undefined) return undefined;
+    return new TextDecoder().decode(Uint8Array.from(kind === OWN ? packed : expanded(packed), (byte) => byte.charCodeAt(0)));
+}
+
+/** Returns the English name of a language, which has letters in lowercase. */
+function languageName(code: string): string | undefined {
+    if (code.length > 3) return undefined;
+    return nameIn(code.length === 2 ? TWO_LETTERS : code.charCodeAt(2) & 31, code);
+}
 
 /** Returns the form of a tag whose subtags have the names: de for ger. */
 function named(tag: Text): LanguageTag {
@@ -960,17 +973,16 @@ function named(tag: Text): LanguageTag {
 /**
  * Returns an English name of a tag, made of CLDR's names for the subtags of its locale form, or of its canonical form if it has none:
  * "Portuguese (Brazil)" for pt-BR. If CLDR does not name the language, the name is the tag's own language as IANA's registry describes it:
- * "Himachali languages" for him. A subtag without a name is shown as it is, and so are extensions and private use. For names in other
- * languages, use `Intl.DisplayNames`.
+ * "Himachali languages" for him. A subtag without a name is shown as it is. Extensions and private use are left out, but a tag that is only
+ * private use is shown as it is. For names in other languages, use `Intl.DisplayNames`.
  */
 export function describe(tag: Text): string {
     const form = named(tag);
     if (form.language === undefined) return form.text;
-    const own = tagOf(tag).language?.toUpperCase(); // a key, if the language is replaced with one that CLDR does not name
-    const language = englishName(own) ?? englishName(form.language) ?? form.language;
-    const subtags = [form.script, form.region, ...form.variants].filter(Boolean).map((subtag) => englishName(`-${subtag}`) ?? subtag);
-    const extensions = [...form.extensions].map(([singleton, rest]) => [singleton, ...rest].join("-"));
-    const inside = [...subtags, ...extensions, form.privateUse ?? []].flat().join(", ").replaceAll("(", "[").replaceAll(")", "]");
+    // The tag's own language has a name if it is replaced with one that CLDR does not name.
+    const language = nameIn(REPLACED, (tagOf(tag).language ?? form.language).toLowerCase()) ?? languageName(form.language) ?? form.language;
+    const subtags = [form.script ?? [], form.region ?? [], ...form.variants].flat().map((subtag) => nameIn(SUBTAG, subtag) ?? subtag);
+    const inside = subtags.join(", ").replaceAll("(", "[").replaceAll(")", "]");
     return inside === "" ? language : `${language} (${inside})`;
 }
 
@@ -986,5 +998,5 @@ export function autonym(tag: Text): string | undefined {
     const isUsual = script === undefined || script === new LanguageTag(form.language).maximize().script;
     const written = form.script ?? (isUsual ? undefined : script);
     const asked = [[written, form.region, ...form.variants], [written, form.region], [written], ...(isUsual ? [[]] : [])];
-    return asked.map((subtags) => ownName([form.language, ...subtags.filter(Boolean)].join("-"))).find((name) => name !== undefined);
+    return asked.map((subtags) => nameIn(OWN, [form.language, ...subtags.filter(Boolean)].join("-"))).find((name) => name !== undefined);
 }

@@ -17,25 +17,23 @@
 //! The tags are a slice, an array or a `Vec` of [`LangTag`], `LangTagBuf`, `&str` or `String`, or
 //! another [`TagList`]. An entry that is not a tag is never chosen.
 use crate::erased::choice;
-#[cfg(feature = "alloc")]
-use crate::matching::AcceptLanguage;
+use crate::erased::choice::PreparedForm;
 #[cfg(feature = "alloc")]
 use crate::memory::or_abort;
-use crate::LangTag;
+use crate::{LangTag, TooShort};
 #[cfg(feature = "alloc")]
 use alloc::vec::Vec;
 use core::fmt;
 
-pub use crate::erased::choice::{BestMatch, PreparedForm, RangeList, TagList, FORMLESS_DISTANCE};
-use crate::lists::Ranges;
-pub use crate::lists::TagEntry;
+pub use crate::erased::choice::{BestMatch, TagList, FORMLESS_DISTANCE};
+pub use crate::lists::{RangeList, TagEntry};
 #[cfg(feature = "alloc")]
 pub use crate::site::Site;
 
 /// Returns the index of the best tag for an `Accept-Language` header ([RFC 9110 section 12.5.4]),
 /// or `None` if no tag is suitable.
 ///
-/// The range with the greatest weight that has a tag at a [`distance`] below 16 is served by its
+/// The range with the greatest weight that has a tag at a [`distance`](LangTag::distance) below 16 is served by its
 /// nearest tag. If there is no such range, the limit is 50, and after that, lookup is tried (RFC
 /// 4647 section 3.4). A tag whose longest matching range has the weight 0 is never chosen. A range
 /// `*` chooses nothing, so the program's default is used.
@@ -67,27 +65,6 @@ pub fn best_for_header(
     choice::best_among(header.as_ref(), &tags)
 }
 
-/// Returns the index of the best tag for a parsed header, as [`best_for_header`] does.
-///
-/// A tag that the header excludes by the weight 0 can be chosen, since [`AcceptLanguage`] has no
-/// such ranges.
-///
-/// ```
-/// use langtag::choice::best_for_accept_language;
-/// use langtag::matching::AcceptLanguage;
-///
-/// let accepted = AcceptLanguage::lenient("zh-TW,zh;q=0.9,en;q=0.8");
-/// assert_eq!(best_for_accept_language(&accepted, &["en", "zh-Hant"]), Some(1));
-/// ```
-#[cfg(feature = "alloc")]
-#[must_use]
-pub fn best_for_accept_language(
-    accepted: &AcceptLanguage<'_>,
-    tags: &(impl TagList + ?Sized),
-) -> Option<usize> {
-    choice::best_among(accepted.ranges(), &tags)
-}
-
 /// Returns the index of the best tag for a list of language ranges in order of preference, as
 /// [`best_for_header`] does.
 ///
@@ -104,11 +81,11 @@ pub fn best_for_accept_language(
 /// ```
 #[doc(alias = "choose")]
 #[must_use]
-pub fn best_for_ranges(
-    ranges: &[impl AsRef<str>],
+pub fn best_for_ranges<'a>(
+    ranges: impl RangeList<'a>,
     tags: &(impl TagList + ?Sized),
 ) -> Option<usize> {
-    choice::best_among(Ranges(ranges), &tags)
+    choice::best_among(ranges.split(), &tags)
 }
 
 /// Returns the best tag for an `Accept-Language` header, as [`best_for_header`] chooses it, with
@@ -130,37 +107,20 @@ pub fn match_for_header<'a>(
     choice::match_among(header.as_ref(), &tags)
 }
 
-/// Returns the index of the best tag, as [`best_for_header`] does, for any list of ranges.
+/// Returns the best tag for a list of language ranges, as [`best_for_ranges`] chooses it, with the
+/// range that it serves and its distance from that range.
 ///
 /// ```
-/// use langtag::choice::best_among;
-/// use langtag::matching::AcceptLanguage;
+/// use langtag::choice::match_for_ranges;
 ///
-/// let accepted = AcceptLanguage::lenient("nn, de;q=0.5");
-/// assert_eq!(best_among(accepted.ranges(), &["en", "nb"]), Some(1));
-/// ```
-#[must_use]
-pub fn best_among<'a>(ranges: impl RangeList<'a>, tags: &(impl TagList + ?Sized)) -> Option<usize> {
-    choice::best_among(ranges, &tags)
-}
-
-/// Returns the best tag with the range that it serves, as [`match_for_header`] does, for any list
-/// of ranges.
-///
-/// ```
-/// use langtag::choice::match_among;
-/// use langtag::matching::LanguageRange;
-///
-/// let ranges = [LanguageRange::new("tlh")?, LanguageRange::new("gsw")?];
-/// assert_eq!(match_among(&ranges[..], &["en", "de"]).unwrap().distance, 8);
-/// # Ok::<(), Box<dyn std::error::Error>>(())
+/// assert_eq!(match_for_ranges(&["tlh", "gsw"], &["en", "de"]).unwrap().distance, 8);
 /// ```
 #[must_use]
-pub fn match_among<'a>(
+pub fn match_for_ranges<'a>(
     ranges: impl RangeList<'a>,
     tags: &(impl TagList + ?Sized),
 ) -> Option<BestMatch<'a>> {
-    choice::match_among(ranges, &tags)
+    choice::match_among(ranges.split(), &tags)
 }
 
 /// Returns the indices of all suitable tags for an `Accept-Language` header, best first.
@@ -184,7 +144,7 @@ pub fn suitable_for_header(
     header: &(impl AsRef<[u8]> + ?Sized),
     tags: &(impl TagList + ?Sized),
 ) -> Vec<usize> {
-    suitable_among(header.as_ref(), tags)
+    or_abort(choice::suitable_among(header.as_ref(), &tags))
 }
 
 /// Returns the indices of all suitable tags for a list of language ranges in order of preference,
@@ -197,78 +157,71 @@ pub fn suitable_for_header(
 /// ```
 #[cfg(feature = "alloc")]
 #[must_use]
-pub fn suitable_for_ranges(
-    ranges: &[impl AsRef<str>],
-    tags: &(impl TagList + ?Sized),
-) -> Vec<usize> {
-    suitable_among(Ranges(ranges), tags)
-}
-
-/// Returns the indices of all suitable tags, as [`suitable_for_header`] does, for any list of
-/// ranges.
-///
-/// ```
-/// use langtag::choice::suitable_among;
-/// use langtag::matching::AcceptLanguage;
-///
-/// let accepted = AcceptLanguage::lenient("de-CH, fr;q=0.5");
-/// assert_eq!(suitable_among(accepted.ranges(), &["en", "fr", "de"]), [2, 1]);
-/// ```
-#[cfg(feature = "alloc")]
-#[must_use]
-pub fn suitable_among<'a>(
+pub fn suitable_for_ranges<'a>(
     ranges: impl RangeList<'a>,
     tags: &(impl TagList + ?Sized),
 ) -> Vec<usize> {
-    or_abort(choice::suitable_among(ranges, &tags))
+    or_abort(choice::suitable_among(ranges.split(), &tags))
 }
 
 /// Writes the indices of the suitable tags to an array, best first, and returns those that it
 /// wrote.
 ///
-/// If the array is too short, it gets the best. It does not allocate.
+/// It does not allocate.
+///
+/// # Errors
+///
+/// Returns an error if more tags are suitable than the array has room for. The array then has the
+/// best. The length that is needed is at most the number of tags, which the error contains.
 ///
 /// ```
 /// use langtag::choice::write_suitable;
 ///
-/// let mut found = [0; 2];
 /// let tracks = ["en", "fr", "de", "de-AT"];
-/// assert_eq!(write_suitable(&b"de-CH,fr;q=0.7"[..], &tracks, &mut found), [2, 3]);
+/// assert_eq!(write_suitable("de-CH,fr;q=0.7", &tracks, &mut [0; 4])?, [2, 3, 1]);
+/// let mut found = [0; 2];
+/// assert!(write_suitable("de-CH,fr;q=0.7", &tracks, &mut found).is_err());
+/// assert_eq!(found, [2, 3]);
+/// # Ok::<(), langtag::TooShort>(())
 /// ```
-#[must_use]
 pub fn write_suitable<'a, 'f>(
     ranges: impl RangeList<'a>,
     tags: &(impl TagList + ?Sized),
     found: &'f mut [usize],
-) -> &'f [usize] {
+) -> Result<&'f [usize], TooShort> {
+    let (ranges, room) = (ranges.split(), found.len());
     let count = choice::write_suitable(ranges, &tags, found);
-    &found[..count]
+    let found = &found[..count];
+    if count == room && choice::best_among(ranges, &Others { tags, found }).is_some() {
+        return Err(TooShort::of(tags.count()));
+    }
+    Ok(found)
 }
 
-/// Returns the distance from the tag that a user wants to the tag that a site has.
-///
-/// It is 0 if language, script and region are equal, with their likely subtags: from `zh-TW` to
-/// `zh-Hant`. Up to 15, it is the same language, perhaps in another region or script, or one that
-/// is nearly the same. Below 50, most users of the desired language read the supported one. It is
-/// at most 134, or [`FORMLESS_DISTANCE`] if the tags differ and one of them is only `und`, is a
-/// private-use tag, or is `i-default`, `i-enochian` or `i-mingo`. Variants, extensions and private
-/// use are ignored. A tag that the registry replaces as a whole is compared as its replacement:
-/// `i-klingon` as `tlh`, `zh-hakka` as `hak`.
-///
-/// The distance is not symmetric: users of `gsw` read `de`, but not the reverse.
-///
-/// ```
-/// use langtag::choice::distance;
-/// use langtag::LangTag;
-///
-/// let (swiss, german) = (LangTag::new("gsw")?, LangTag::new("de")?);
-/// assert_eq!(distance(swiss, german), 8);
-/// assert!(distance(german, swiss) > 50);
-/// # Ok::<(), Box<dyn std::error::Error>>(())
-/// ```
-#[must_use]
-pub fn distance<'a, 'b>(desired: impl Into<LangTag<'a>>, supported: impl Into<LangTag<'b>>) -> u8 {
-    choice::distance(desired.into(), supported.into())
+/// The tags of a list that were not found yet. Those that were found cannot be chosen.
+struct Others<'a, T: ?Sized> {
+    tags: &'a T,
+    found: &'a [usize],
+}
+
+impl<T: TagList + ?Sized> TagList for Others<'_, T> {
+    fn count(&self) -> usize {
+        self.tags.count()
+    }
+
+    fn tag_at(&self, index: usize) -> Option<LangTag<'_>> {
+        self.tags
+            .tag_at(index)
+            .filter(|_| !self.found.contains(&index))
+    }
+
+    fn bytes_at(&self, index: usize) -> &[u8] {
+        if self.found.contains(&index) {
+            b""
+        } else {
+            self.tags.bytes_at(index)
+        }
+    }
 }
 
 impl fmt::Debug for PreparedForm {

@@ -5,7 +5,7 @@ use crate::matching::LanguageRange;
 #[cfg(feature = "alloc")]
 use crate::matching::{AcceptLanguage, LanguageRangeBuf};
 #[cfg(feature = "alloc")]
-use crate::memory::{or_abort, AllocError};
+use crate::memory::or_abort;
 
 impl Default for LangTag<'_> {
     #[inline]
@@ -179,21 +179,6 @@ impl LangTagBuf {
         region: Option<Region<'_>>,
     ) -> LangTagBuf {
         NormalLangTagBuf::from_parts(language, script, region).into()
-    }
-
-    /// Returns the tag with a language, a script and a region, as [`from_parts`](Self::from_parts)
-    /// does.
-    ///
-    /// # Errors
-    ///
-    /// Returns an error if allocation fails.
-    #[inline]
-    pub fn try_from_parts(
-        language: Language<'_>,
-        script: Option<Script<'_>>,
-        region: Option<Region<'_>>,
-    ) -> Result<LangTagBuf, AllocError> {
-        NormalLangTagBuf::try_from_parts(language, script, region).map(Into::into)
     }
 }
 

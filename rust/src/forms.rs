@@ -1,96 +1,59 @@
-//! The calls that return a form of a tag, such as its canonical form. Each form has four: a function
-//! of a module, `try_` it, `write_` it to a buffer, and a method of the tag.
+//! The methods of tags that a module computes, and the functions that write a form of a tag, such as
+//! its canonical form, to a buffer.
 
-/// Writes the calls of a form. `$text` says what the functions return, and the last literals are an
-/// example.
-///
-/// If some tags have no form, the invocation also names the module with the proved calls, the
-/// types, and what unwraps the example. Such a form gets no method.
-macro_rules! form {
-    (
+/// Writes methods of a tag and of an owned tag.
+#[cfg(feature = "data")]
+macro_rules! methods {
+    ($(
         $(#[$text:meta])+
-        $module:ident: $form:ident $(, $other:ident)+;
-        $what:literal, $tag:literal is $value:literal
-    ) => {
-        form! {
+        $tag:ident.$name:ident($($argument:ident: $type:ty)?) -> $result:ty $body:block
+    )+) => {
+        impl<'a> LangTag<'a> {$(
             $(#[$text])+
-            $module in $module: $form $(, $other)+ -> LangTagBuf, &'b str, written;
-            $what, "", $tag is $value, ""
-        }
-
-        #[cfg(feature = "alloc")]
-        impl LangTag<'_> {
-            #[doc = concat!("Returns ", $what, ", as [`", stringify!($module), "::", stringify!($form), "`](crate::", stringify!($module), "::", stringify!($form), ") does.")]
-            ///
-            /// ```
-            #[doc = concat!("let tag = langtag::LangTag::new(\"", $tag, "\")?;")]
-            #[doc = concat!("assert_eq!(tag.", stringify!($form), "(), \"", $value, "\");")]
-            /// # Ok::<(), Box<dyn std::error::Error>>(())
-            /// ```
             #[must_use]
-            pub fn $form(self) -> LangTagBuf {
-                $form(self)
+            pub fn $name(self $(, $argument: $type)?) -> $result {
+                let $tag = self;
+                $body
             }
-        }
+        )+}
 
         #[cfg(feature = "alloc")]
-        lent! { LangTagBuf: LangTag by as_lang_tag { $form() -> LangTagBuf; } }
+        lent! { LangTagBuf: LangTag by as_lang_tag {
+            $($(#[$text])+ $name of 'a ($($argument: $type)?) -> $result;)+
+        } }
     };
-    (
-        $(#[$text:meta])+
-        $calls:ident in $module:ident: $form:ident, $try_form:ident $(, $write_form:ident)?
-            -> $owned:ty, $shown:ty, $written:ident;
-        $what:literal, $or_none:literal, $tag:literal is $value:literal, $unwrap:literal
-    ) => {
-        $(#[$text])+
-        ///
-        /// ```
-        #[doc = concat!("use langtag::", stringify!($module), "::", stringify!($form), ";")]
-        /// use langtag::LangTag;
-        ///
-        #[doc = concat!("assert_eq!(", stringify!($form), "(LangTag::new(\"", $tag, "\")?)", $unwrap, ", \"", $value, "\");")]
-        /// # Ok::<(), Box<dyn std::error::Error>>(())
-        /// ```
-        #[cfg(feature = "alloc")]
-        #[must_use]
-        pub fn $form<'a>(tag: impl Into<LangTag<'a>>) -> $owned {
-            or_abort($try_form(tag))
-        }
+}
 
-        #[doc = concat!("Returns ", $what, ", as [`", stringify!($form), "`] does.")]
+/// Writes the function that writes a form to a buffer. `$what` is the form, and the last literals are
+/// an example. If some tags have no form, `$or_none` says so.
+#[cfg(feature = "data")]
+macro_rules! writer {
+    (
+        $calls:ident in $module:ident: $write_form:ident of $form:literal -> $shown:ty, $written:ident;
+        $what:literal $(, $or_none:literal)?; $tag:literal is $value:literal $(, $unwrap:literal)?
+    ) => {
+        #[doc = concat!("Writes ", $what, " to a buffer, as `", $form, "` returns it, and returns what was written", $($or_none,)? ".")]
+        ///
+        /// It does not allocate.
         ///
         /// # Errors
         ///
-        /// Returns an error if allocation fails.
-        #[cfg(feature = "alloc")]
-        pub fn $try_form<'a>(tag: impl Into<LangTag<'a>>) -> Result<$owned, AllocError> {
-            $calls::$form(tag.into())
+        /// Returns the length that is needed if the buffer is too short.
+        ///
+        /// ```
+        #[doc = concat!("use langtag::", stringify!($module), "::", stringify!($write_form), ";")]
+        /// use langtag::LangTag;
+        ///
+        #[doc = concat!("let tag = LangTag::new(\"", $tag, "\")?;")]
+        #[doc = concat!("assert_eq!(", stringify!($write_form), "(tag, &mut [0; 32])?", $($unwrap,)? ", \"", $value, "\");")]
+        /// # Ok::<(), Box<dyn std::error::Error>>(())
+        /// ```
+        pub fn $write_form<'a, 'b>(
+            tag: impl Into<LangTag<'a>>,
+            buffer: &'b mut [u8],
+        ) -> Result<$shown, TooShort> {
+            let len = $calls::$write_form(tag.into(), buffer);
+            $written(buffer, len)
         }
-
-        $(
-            #[doc = concat!("Writes ", $what, " to a buffer, as `", stringify!($form), "` returns it, and returns what was written", $or_none, ".")]
-            ///
-            /// It does not allocate.
-            ///
-            /// # Errors
-            ///
-            /// Returns the length that is needed if the buffer is too short.
-            ///
-            /// ```
-            #[doc = concat!("use langtag::", stringify!($module), "::", stringify!($write_form), ";")]
-            /// use langtag::LangTag;
-            ///
-            #[doc = concat!("let tag = LangTag::new(\"", $tag, "\")?;")]
-            #[doc = concat!("assert_eq!(", stringify!($write_form), "(tag, &mut [0; 32])?", $unwrap, ", \"", $value, "\");")]
-            /// # Ok::<(), Box<dyn std::error::Error>>(())
-            /// ```
-            pub fn $write_form<'a, 'b>(
-                tag: impl Into<LangTag<'a>>,
-                buffer: &'b mut [u8],
-            ) -> Result<$shown, TooShort> {
-                let len = $calls::$write_form(tag.into(), buffer);
-                $written(buffer, len)
-            }
-        )?
     };
 }

@@ -74,26 +74,6 @@ impl core::error::Error for SetKeywordError {}
 
 from!([] AllocError => SetKeywordError: error => SetKeywordError::Memory(error));
 
-/// Sets the value of a key of the extension `u`, as [`LangTagBuf::set_keyword`] does.
-///
-/// # Errors
-///
-/// Returns the same errors.
-#[inline]
-pub fn set_keyword(tag: &mut LangTagBuf, key: &str, value: &str) -> Result<(), SetKeywordError> {
-    unicode::set_keyword(tag, key, value).map_err(|error| SetKeywordError::of(error, key, value))
-}
-
-/// Removes a key of the extension `u`, as [`LangTagBuf::remove_keyword`] does.
-///
-/// # Errors
-///
-/// Returns the same errors.
-#[inline]
-pub fn remove_keyword(tag: &mut LangTagBuf, key: &str) -> Result<(), SetKeywordError> {
-    unicode::remove_keyword(tag, key).map_err(|error| SetKeywordError::of(error, key, ""))
-}
-
 impl LangTagBuf {
     /// Sets the value of a key of the extension `u`: with `buddhist` for `ca`, `th-TH` becomes
     /// `th-TH-u-ca-buddhist`.
@@ -113,7 +93,8 @@ impl LangTagBuf {
     /// ```
     #[inline]
     pub fn set_keyword(&mut self, key: &str, value: &str) -> Result<(), SetKeywordError> {
-        set_keyword(self, key, value)
+        unicode::set_keyword(self, key, value)
+            .map_err(|error| SetKeywordError::of(error, key, value))
     }
 
     /// Removes a key of the extension `u`: without `ca`, `th-TH-u-ca-buddhist` becomes `th-TH`.
@@ -137,6 +118,6 @@ impl LangTagBuf {
     /// ```
     #[inline]
     pub fn remove_keyword(&mut self, key: &str) -> Result<(), SetKeywordError> {
-        remove_keyword(self, key)
+        unicode::remove_keyword(self, key).map_err(|error| SetKeywordError::of(error, key, ""))
     }
 }

@@ -55,7 +55,6 @@
     feature = "data",
     doc = "- [`unicode`]: the extensions `u` and `t`, such as a calendar; Unicode locale identifiers (UTS #35)"
 )]
-//! - [`scan`]: the recogniser over bytes from any source
 //!
 //! # Keys and order
 //!
@@ -142,6 +141,8 @@ pub mod names;
 pub mod oxilangtag;
 #[cfg(feature = "data")]
 pub mod registry;
+// What langtag 0.4.0 has in private modules, and the recogniser over bytes from any source.
+#[doc(hidden)]
 pub mod scan;
 #[cfg(feature = "data")]
 pub mod unicode;

@@ -5,11 +5,11 @@
 //!
 //! ```
 //! # #[cfg(feature = "alloc")] {
-//! use langtag::likely::{from_posix, maximized, minimized};
+//! use langtag::likely::from_posix;
 //! use langtag::LangTag;
 //!
-//! assert_eq!(maximized(LangTag::new("zh-TW")?), "zh-Hant-TW");
-//! assert_eq!(minimized(LangTag::new("zh-Hant-TW")?), "zh-TW");
+//! assert_eq!(LangTag::new("zh-TW")?.maximized(), "zh-Hant-TW");
+//! assert_eq!(LangTag::new("zh-Hant-TW")?.minimized(), "zh-TW");
 //! assert_eq!(from_posix("pt_BR.UTF-8")?, "pt-BR");
 //! assert_eq!(from_posix("b+sr+Latn")?, "sr-Latn"); // Android's folder `values-b+sr+Latn`
 //! # }
@@ -20,7 +20,7 @@ use crate::erased::tag::tag_of;
 use crate::erased::{likely, parent as erased_parent, posix};
 use crate::too_short::{written, written_if_any};
 #[cfg(feature = "alloc")]
-use crate::{memory::or_abort, AllocError, LangTagBuf};
+use crate::{memory::or_abort, LangTagBuf};
 use crate::{LangTag, TooShort};
 #[cfg(feature = "alloc")]
 use alloc::{string::String, vec};
@@ -35,21 +35,14 @@ pub use crate::erased::posix::from_posix;
 #[cfg(feature = "alloc")]
 pub use crate::erased::posix::PosixError;
 
-form! {
-    /// Returns a tag with its likely script and region: `el-Grek-GR` for `und-Grek`.
-    ///
-    /// If there are none, or the tag has both, it returns the tag.
-    #[doc(alias = "maximize")]
-    likely: maximized, try_maximized, write_maximized;
-    "a tag with its likely script and region", "zh-TW" is "zh-Hant-TW"
+writer! {
+    likely in likely: write_maximized of "LangTag::maximized" -> &'b str, written;
+    "a tag with its likely script and region"; "zh-TW" is "zh-Hant-TW"
 }
 
-form! {
-    /// Returns a tag without the script and the region that [`maximized`] would add again: `de-1996`
-    /// for `de-Latn-DE-1996`.
-    #[doc(alias = "minimize")]
-    likely: minimized, try_minimized, write_minimized;
-    "a tag without the script and the region that are likely anyway", "zh-Hant-TW" is "zh-TW"
+writer! {
+    likely in likely: write_minimized of "LangTag::minimized" -> &'b str, written;
+    "a tag without the script and the region that are likely anyway"; "zh-Hant-TW" is "zh-TW"
 }
 
 /// Writes the tag for a POSIX locale name to a buffer, as `from_posix` returns it, and returns what
@@ -91,23 +84,36 @@ pub fn unknown_modifier(name: &(impl AsRef<[u8]> + ?Sized)) -> Option<&[u8]> {
     posix::unknown_modifier(name.as_ref())
 }
 
-form! {
-    /// Returns the POSIX locale name for a tag: `pt_BR` for `pt-BR`, `sr_RS@latin` for `sr-Latn-RS`,
-    /// `ca_ES@valencia` for `ca-ES-valencia`, `zh_TW` for `zh-Hant-TW`. Returns `None` if no name
-    /// expresses the whole tag.
-    ///
-    /// The modifiers are `latin`, `cyrillic`, `devanagari`, `valencia`, `tarask`, `polyton`, `ijekavian`
-    /// and `ijekavianlatin`. A likely script is left out. Another script or variant has no name, nor have
-    /// extensions other than `u-va-posix`, private use, extended languages, languages of more than three
-    /// letters, and `und`. To leave extensions out, ask for the name of [`LangTag::base`]. The codeset
-    /// is the caller's, as in `pt_BR.UTF-8`.
-    ///
-    /// [`from_posix`] reads the name as the same tag, in its recommended case, without a script that was
-    /// left out.
-    posix in likely: to_posix, try_to_posix, write_to_posix
-        -> Option<String>, Option<&'b str>, written_if_any;
+/// Returns the POSIX locale name for a tag: `pt_BR` for `pt-BR`, `sr_RS@latin` for `sr-Latn-RS`,
+/// `ca_ES@valencia` for `ca-ES-valencia`, `zh_TW` for `zh-Hant-TW`. Returns `None` if no name
+/// expresses the whole tag.
+///
+/// The modifiers are `latin`, `cyrillic`, `devanagari`, `valencia`, `tarask`, `polyton`, `ijekavian`
+/// and `ijekavianlatin`. A likely script is left out. Another script or variant has no name, nor have
+/// extensions other than `u-va-posix`, private use, extended languages, languages of more than three
+/// letters, and `und`. To leave extensions out, ask for the name of [`LangTag::base`]. The codeset
+/// is the caller's, as in `pt_BR.UTF-8`.
+///
+/// [`from_posix`] reads the name as the same tag, in its recommended case, without a script that was
+/// left out.
+///
+/// ```
+/// use langtag::likely::to_posix;
+/// use langtag::LangTag;
+///
+/// assert_eq!(to_posix(LangTag::new("sr-Latn-RS")?).unwrap(), "sr_RS@latin");
+/// # Ok::<(), Box<dyn std::error::Error>>(())
+/// ```
+#[cfg(feature = "alloc")]
+#[must_use]
+pub fn to_posix<'a>(tag: impl Into<LangTag<'a>>) -> Option<String> {
+    or_abort(posix::to_posix(tag.into()))
+}
+
+writer! {
+    posix in likely: write_to_posix of "to_posix" -> Option<&'b str>, written_if_any;
     "the POSIX locale name for a tag",
-    ", or `None` if the tag has no name. A name has at most 28 bytes",
+    ", or `None` if the tag has no name. A name has at most 28 bytes";
     "sr-Latn-RS" is "sr_RS@latin", ".unwrap()"
 }
 
@@ -125,25 +131,6 @@ form! {
 #[must_use]
 pub fn is_right_to_left<'a>(tag: impl Into<LangTag<'a>>) -> bool {
     likely::is_right_to_left(tag.into())
-}
-
-/// Returns the parent of a tag in Unicode's CLDR, in which a catalogue of strings looks next: `pt-PT`
-/// for `pt-AO`, `es-419` for `es-MX`, `en-001` for `en-GB`. Returns `None` if the tag has no parent,
-/// such as `pt`. It is the second tag of [`Parents`].
-///
-/// ```
-/// use langtag::likely::parent;
-/// use langtag::LangTag;
-///
-/// assert_eq!(parent(LangTag::new("pt-AO")?).unwrap(), "pt-PT");
-/// assert_eq!(parent(LangTag::new("zh-TW")?).unwrap(), "zh-Hant");
-/// assert_eq!(parent(LangTag::new("zh-Hant")?), None);
-/// # Ok::<(), Box<dyn std::error::Error>>(())
-/// ```
-#[cfg(feature = "alloc")]
-#[must_use]
-pub fn parent<'a>(tag: impl Into<LangTag<'a>>) -> Option<LangTagBuf> {
-    erased_parent::parent(tag.into()).map(to_tag)
 }
 
 /// Writes a tag or one of its parents to a buffer, and returns what was written. At index 0 is the tag
@@ -182,16 +169,15 @@ pub fn write_parent<'a, 'b>(
 /// language alone. Extensions and private use go next, then each variant, the last one first, and
 /// then the region. The variants come back with each parent. Case is ignored.
 ///
-/// If a catalogue's folders name scripts, such as `zh-Hans`, ask for the parents of [`maximized`],
-/// which names the script of `zh-CN`. CLDR does not list replaced codes such as `iw` and `cmn`, nor
+/// If a catalogue's folders name scripts, such as `zh-Hans`, ask for the parents of
+/// [`LangTag::maximized`], which names the script of `zh-CN`. CLDR does not list replaced codes such as `iw` and `cmn`, nor
 /// extended languages, so ask for the parents of their `locale_form`. Private-use tags, irregular
 /// tags and `und` have no parent.
 ///
 /// ```
-/// use langtag::likely::Parents;
 /// use langtag::LangTag;
 ///
-/// let chain = |text| LangTag::new(text).map(|tag| Parents::new(tag).collect::<Vec<_>>());
+/// let chain = |text| LangTag::new(text).map(|tag| tag.parents().collect::<Vec<_>>());
 /// assert_eq!(chain("zh-Hans-CN")?, ["zh-Hans-CN", "zh-CN", "zh-Hans", "zh"]);
 /// assert_eq!(chain("ca-ES-valencia")?, ["ca-ES-valencia", "ca-ES", "ca-valencia", "ca"]);
 /// # Ok::<(), Box<dyn std::error::Error>>(())
@@ -202,10 +188,9 @@ pub struct Parents<'a>(erased_parent::Parents<'a>);
 
 #[cfg(feature = "alloc")]
 impl<'a> Parents<'a> {
-    /// Returns an iterator that starts at the tag itself.
-    #[must_use]
-    pub fn new(tag: impl Into<LangTag<'a>>) -> Self {
-        Parents(erased_parent::Parents::new(tag.into()))
+    #[inline]
+    pub(crate) fn of(tag: LangTag<'a>) -> Self {
+        Parents(erased_parent::Parents::new(tag))
     }
 }
 
@@ -222,7 +207,7 @@ impl Iterator for Parents<'_> {
 impl core::iter::FusedIterator for Parents<'_> {}
 
 #[cfg(feature = "alloc")]
-fn to_tag(parent: erased_parent::ParentTag<'_>) -> LangTagBuf {
+pub(crate) fn to_tag(parent: erased_parent::ParentTag<'_>) -> LangTagBuf {
     let mut bytes = vec![0; parent.write(&mut [])];
     parent.write(&mut bytes);
     tag_of(bytes)

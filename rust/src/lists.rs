@@ -66,7 +66,8 @@ impl<E: TagEntry> TagEntry for &E {
 #[cfg(feature = "data")]
 mod of_tags {
     use super::TagEntry;
-    use crate::choice::{PreparedForm, TagList};
+    use crate::choice::TagList;
+    use crate::erased::choice::PreparedForm;
     use crate::LangTag;
 
     /// Implements `TagList` for a type whose indices lead to entries.
@@ -123,7 +124,8 @@ mod of_tags {
 
 /// Language ranges in order of preference, as any type with a string. Strings that are not language
 /// ranges are skipped.
-pub(crate) struct Ranges<'a, R>(pub(crate) &'a [R]);
+#[derive(Debug)]
+pub struct Ranges<'a, R>(pub(crate) &'a [R]);
 
 impl<R> Clone for Ranges<'_, R> {
     #[inline]
@@ -150,27 +152,76 @@ impl<'a, R: AsRef<str>> Iterator for Ranges<'a, R> {
 }
 
 #[cfg(feature = "data")]
-impl<'a, R: AsRef<str>> crate::choice::RangeList<'a> for Ranges<'a, R> {
-    #[inline]
-    fn split_range(self) -> Option<(crate::matching::WantedRange<'a>, Self)> {
-        let mut rest = self.0;
-        while let Some((first, others)) = rest.split_first() {
-            rest = others;
-            if let Some(wanted) = crate::erased::range::listed_range(first.as_ref().as_bytes()) {
-                return Some((wanted, Ranges(rest)));
+mod of_ranges {
+    use super::Ranges;
+    use crate::erased::choice::RangeList as Split;
+    use crate::erased::range::listed_range;
+    use crate::matching::{WantedRange, WeightedRange};
+
+    /// A list of language ranges for which a tag is chosen: a slice, an array or a `Vec` of strings,
+    /// ranges or tags, in order of preference; a `&str` that is an `Accept-Language` header; or an
+    /// `AcceptLanguage`.
+    ///
+    /// ```
+    /// use langtag::choice::best_for_ranges;
+    /// # #[cfg(feature = "alloc")]
+    /// use langtag::matching::AcceptLanguage;
+    ///
+    /// let site = ["en", "nb"];
+    /// assert_eq!(best_for_ranges(&["nn", "de"], &site), Some(1));
+    /// assert_eq!(best_for_ranges("de;q=0.5, nn", &site), Some(1));
+    /// # #[cfg(feature = "alloc")]
+    /// assert_eq!(best_for_ranges(&AcceptLanguage::lenient("nn, de;q=0.5"), &site), Some(1));
+    /// ```
+    pub trait RangeList<'a> {
+        /// What the proved functions walk through.
+        #[doc(hidden)]
+        type Split: Split<'a>;
+
+        #[doc(hidden)]
+        fn split(self) -> Self::Split;
+    }
+
+    impl<'a, R: AsRef<str>> Split<'a> for Ranges<'a, R> {
+        #[inline]
+        fn split_range(self) -> Option<(WantedRange<'a>, Self)> {
+            let mut rest = self.0;
+            while let Some((first, others)) = rest.split_first() {
+                rest = others;
+                if let Some(wanted) = listed_range(first.as_ref().as_bytes()) {
+                    return Some((wanted, Ranges(rest)));
+                }
             }
+            None
         }
-        None
+    }
+
+    /// Implements `RangeList` for a type.
+    macro_rules! range_lists {
+        ($($(#[$feature:meta])? [$($generics:tt)*] $list:ty: $this:ident => $split:expr, $of:ty;)+) => {$(
+            $(#[$feature])?
+            impl<'a, $($generics)*> RangeList<'a> for &'a $list {
+                type Split = $of;
+
+                #[inline]
+                fn split(self) -> $of {
+                    let $this = self;
+                    $split
+                }
+            }
+        )+};
+    }
+
+    range_lists! {
+        [] str: header => header.as_bytes(), &'a [u8];
+        [R: AsRef<str>] [R]: list => Ranges(list), Ranges<'a, R>;
+        [R: AsRef<str>, const N: usize] [R; N]: list => Ranges(list), Ranges<'a, R>;
+        [] [WeightedRange<'a>]: list => list, Self;
+        #[cfg(feature = "alloc")] [] alloc::string::String: header => header.as_bytes(), &'a [u8];
+        #[cfg(feature = "alloc")] [R: AsRef<str>] alloc::vec::Vec<R>: list => Ranges(list), Ranges<'a, R>;
+        #[cfg(feature = "alloc")] [] crate::matching::AcceptLanguage<'a>: accepted => accepted.ranges(), &'a [WeightedRange<'a>];
     }
 }
 
-/// An `Accept-Language` header.
 #[cfg(feature = "data")]
-impl<'a> crate::choice::RangeList<'a> for &'a str {
-    #[inline]
-    fn split_range(self) -> Option<(crate::matching::WantedRange<'a>, Self)> {
-        let (wanted, rest) = self.as_bytes().split_range()?;
-        // The rest is empty, or begins after a comma.
-        Some((wanted, &self[self.len() - rest.len()..]))
-    }
-}
+pub use of_ranges::RangeList;

@@ -26,12 +26,12 @@ use crate::lists::Ranges;
 pub use crate::lists::TagEntry;
 use crate::LangTag;
 
-pub use crate::erased::matching::{
-    filter_basic, filter_extended, wanted_ranges, ElementPart, Fallbacks, Filtered,
-    InvalidLanguageRange, LanguageRange, WantedRange, WantedRanges, WeightedRange,
-};
 #[cfg(feature = "alloc")]
 pub use crate::erased::matching::{AcceptLanguage, AcceptLanguageError, LanguageRangeBuf};
+pub use crate::erased::matching::{
+    ElementPart, Fallbacks, InvalidLanguageRange, LanguageRange, WantedRange, WantedRanges,
+    WeightedRange,
+};
 
 impl LanguageRange<'_> {
     /// Returns whether the range matches a tag by basic filtering ([RFC 4647 section 3.3.1]):
@@ -93,6 +93,74 @@ impl LanguageRange<'_> {
     pub fn matches<'t>(self, tag: impl Into<LangTag<'t>>) -> bool {
         self.matches_extended(tag)
     }
+}
+
+/// Returns the ranges of an `Accept-Language` header with their weights, in order. A malformed
+/// element is read as far as possible, as the choice of a tag reads it.
+///
+/// ```
+/// use langtag::matching::wanted_ranges;
+///
+/// let ranges: Vec<_> = wanted_ranges("de_CH, en;q=0.5").map(|it| (it.bytes, it.weight)).collect();
+/// assert_eq!(ranges, [(&b"de_CH"[..], 1000), (b"en", 500)]);
+/// ```
+#[must_use]
+pub fn wanted_ranges(header: &(impl AsRef<[u8]> + ?Sized)) -> WantedRanges<'_> {
+    crate::erased::matching::wanted_ranges(header.as_ref())
+}
+
+/// Returns an iterator over the tags that match one of some language ranges by basic filtering
+/// ([RFC 4647 section 3.3.1]): first those that match the first range. No entry comes twice.
+///
+/// A string that is not a language range matches nothing, and one that is not a tag never matches.
+///
+/// ```
+/// use langtag::matching::filter_basic;
+///
+/// let tags = ["de-Latn-DE", "fr", "de-DE-1996"];
+/// assert!(filter_basic(&["de-DE", "fr"], &tags).eq(&["de-DE-1996", "fr"]));
+/// ```
+///
+/// [RFC 4647 section 3.3.1]: https://www.rfc-editor.org/rfc/rfc4647#section-3.3.1
+pub fn filter_basic<'t, T: TagEntry>(
+    ranges: &[impl AsRef<str>],
+    tags: &'t [T],
+) -> impl Iterator<Item = &'t T> {
+    filtered(ranges, tags, |range, tag| range.matches_basic(tag))
+}
+
+/// Returns an iterator over the tags that match one of some language ranges by extended filtering
+/// ([RFC 4647 section 3.3.2]), as [`filter_basic`] does by basic filtering.
+///
+/// ```
+/// use langtag::matching::filter_extended;
+///
+/// let tags = ["de-Latn-DE", "fr", "de-DE-1996"];
+/// assert!(filter_extended(&["de-DE"], &tags).eq(&["de-Latn-DE", "de-DE-1996"]));
+/// ```
+///
+/// [RFC 4647 section 3.3.2]: https://www.rfc-editor.org/rfc/rfc4647#section-3.3.2
+pub fn filter_extended<'t, T: TagEntry>(
+    ranges: &[impl AsRef<str>],
+    tags: &'t [T],
+) -> impl Iterator<Item = &'t T> {
+    filtered(ranges, tags, |range, tag| range.matches_extended(tag))
+}
+
+fn filtered<'t, T: TagEntry>(
+    ranges: &[impl AsRef<str>],
+    tags: &'t [T],
+    matches: fn(LanguageRange<'_>, LangTag<'_>) -> bool,
+) -> impl Iterator<Item = &'t T> {
+    let ranges = Ranges(ranges);
+    ranges.enumerate().flat_map(move |(index, range)| {
+        tags.iter().filter(move |entry| {
+            entry.tag().is_some_and(|tag| {
+                let is_found = || ranges.take(index).any(|earlier| matches(earlier, tag));
+                matches(range, tag) && !is_found()
+            })
+        })
+    })
 }
 
 /// Returns the tag that lookup finds for a list of language ranges in order of preference, or the

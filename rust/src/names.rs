@@ -12,23 +12,21 @@
 //!
 //! Unlike most of the crate, this module is written by hand, and not proved. Tests compare it with the
 //! other languages.
+#[rustfmt::skip]
 mod data;
 
-use alloc::format;
 use alloc::string::String;
 use alloc::vec::Vec;
-use core::cmp::Ordering;
 
-use crate::likely::maximized;
-use crate::registry::canonical;
-use crate::unicode::locale_form;
+use self::data::{INDEX, PAIRS, ROWS};
 use crate::{LangTag, LangTagBuf, NormalLangTag, Script};
 
 /// Returns an English name of a tag, made of CLDR's names for the subtags of its
-/// [`locale_form`], or of its canonical form if it has none.
+/// [`LangTag::locale_form`], or of its canonical form if it has none.
 ///
 /// If CLDR does not name the language, the name is the tag's own language as IANA's registry describes
-/// it. A subtag without a name is shown as it is, and so are extensions and private use.
+/// it. A subtag without a name is shown as it is. Extensions and private use are left out, but a tag
+/// that is only private use is shown as it is.
 ///
 /// ```
 /// use langtag::names::describe;
@@ -36,7 +34,7 @@ use crate::{LangTag, LangTagBuf, NormalLangTag, Script};
 ///
 /// assert_eq!(describe(LangTag::new("zh-yue-HK")?), "Cantonese (Hong Kong SAR China)");
 /// assert_eq!(describe(LangTag::new("nah-MX")?), "Nahuatl languages (Mexico)");
-/// assert_eq!(describe(LangTag::new("de-CH-u-co-phonebk")?), "German (Switzerland, u-co-phonebk)");
+/// assert_eq!(describe(LangTag::new("de-CH-u-co-phonebk")?), "German (Switzerland)");
 /// assert_eq!(describe(LangTag::new("x-a")?), "x-a");
 /// # Ok::<(), Box<dyn std::error::Error>>(())
 /// ```
@@ -47,84 +45,113 @@ pub fn describe<'a>(tag: impl Into<LangTag<'a>>) -> String {
     let Some(named) = form.as_lang_tag().as_normal() else {
         return form.as_str().into();
     };
-    // A language has a key in uppercase if it is replaced with one that CLDR does not name.
-    let own = tag.language().map(|own| own.as_str().to_ascii_uppercase());
+    // A language that is replaced with one that CLDR does not name has a name of its own.
+    let own = tag.language().filter(|own| *own != named.language());
     let language = named.language().as_str();
     let found = own
-        .and_then(|own| english_name(&own))
-        .or_else(|| english_name(language));
-    let mut name = String::from(found.unwrap_or(language));
-    let inside = details(named).join(", ");
-    if !inside.is_empty() {
-        name.push_str(" (");
-        name.extend(inside.chars().map(bracketed));
-        name.push(')');
+        .and_then(|own| row(REPLACED, own.as_str()))
+        .or_else(|| language_row(language));
+    let mut name = Vec::with_capacity(64);
+    push_name(&mut name, found, language);
+    let details_start = name.len() + 1;
+    for subtag in details(named) {
+        name.extend_from_slice(if name.len() < details_start {
+            b" ("
+        } else {
+            b", "
+        });
+        push_name(&mut name, row(SUBTAG, subtag), subtag);
     }
-    name
+    if let Some(details) = name.get_mut(details_start + 1..) {
+        details.iter_mut().for_each(|byte| *byte = bracketed(*byte));
+        name.push(b')');
+    }
+    String::from_utf8(name).unwrap_or_default()
 }
 
-/// Returns the form of a tag whose subtags have the names: `de` for `ger`, as in [`locale_form`].
+/// Returns the form of a tag whose subtags have the names: `de` for `ger`, as in [`LangTag::locale_form`].
 fn form_of(tag: LangTag<'_>) -> LangTagBuf {
-    let mut form = locale_form(tag).unwrap_or_else(|| canonical(tag));
+    let mut form = tag.locale_form().unwrap_or_else(|| tag.canonical());
     form.make_recommended_case();
     form
 }
 
-/// Returns the names of the subtags after the language. Extensions and private use stay strings.
-fn details(tag: NormalLangTag<'_>) -> Vec<&str> {
-    let mut found = Vec::new();
-    found.extend(tag.script().map(|script| name_after(script.as_str())));
-    found.extend(tag.region().map(|region| name_after(region.as_str())));
-    let variants = tag.variants();
-    found.extend(variants.iter().map(|variant| name_after(variant.as_str())));
-    let mut singletons = Vec::new();
-    for extension in tag.extensions().iter() {
-        // A repeated singleton makes the tag invalid, and only the first counts.
-        if !singletons.contains(&extension.singleton()) {
-            singletons.push(extension.singleton());
-            found.push(extension.as_str());
-        }
-    }
-    found.extend(tag.private_use().map(|private| private.as_str()));
-    found
+/// Returns the subtags that a name has in parentheses.
+fn details(tag: NormalLangTag<'_>) -> impl Iterator<Item = &str> {
+    let script = tag.script().map(|script| script.as_str());
+    let region = tag.region().map(|region| region.as_str());
+    let variants = tag.variants().as_str().split('-');
+    let named = script.into_iter().chain(region).chain(variants);
+    named.filter(|subtag| !subtag.is_empty())
 }
 
-/// Returns the English name of a subtag after the language, or the subtag if it has none.
-fn name_after(subtag: &str) -> &str {
-    english_name(&format!("-{subtag}")).unwrap_or(subtag)
-}
+// The bytes that begin rows, as data/names/generate.py describes them. A smaller byte is the third
+// letter of a language, and a greater one is text.
+const TWO_LETTERS: u8 = 27;
+const SUBTAG: u8 = 28;
+const OWN: u8 = 29;
+const REPLACED: u8 = 30;
+const TEXT: u8 = 32;
 
-fn english_name(key: &str) -> Option<&'static str> {
-    name_in(data::ENGLISH_NAMES, key)
-}
-
-/// Returns a character as it is written inside parentheses.
-fn bracketed(character: char) -> char {
-    match character {
-        '(' => '[',
-        ')' => ']',
-        other => other,
-    }
-}
-
-/// Returns the name of a key. The rows are lines in the order of their keys.
-fn name_in(mut rows: &'static str, key: &str) -> Option<&'static str> {
-    while !rows.is_empty() {
-        let half = &rows.as_bytes()[..rows.len() / 2];
-        let start = half
-            .iter()
-            .rposition(|&byte| byte == b'\n')
-            .map_or(0, |at| at + 1);
-        let (before, rest) = rows.split_at(start);
-        let (row, after) = rest.split_once('\n')?;
-        let (found, name) = row.split_once(' ')?;
-        match found.cmp(key) {
-            Ordering::Equal => return Some(name),
-            Ordering::Less => rows = after,
-            Ordering::Greater => rows = before,
+/// Returns the name in the row of a key, which is packed unless its kind is [`OWN`].
+fn row(kind: u8, key: &str) -> Option<&'static [u8]> {
+    let (start, rest) = key.as_bytes().split_first_chunk::<2>()?;
+    let [first, second] = start.map(|byte| char::from(byte).to_digit(36));
+    let group = (36 * first? + second?) as usize;
+    let mut rows = &ROWS[INDEX[group] as usize..INDEX[group + 1] as usize];
+    while let Some(at) = rows.iter().position(|&byte| byte == kind) {
+        rows = &rows[at + 1..];
+        let name = if kind <= TWO_LETTERS {
+            Some(rows)
+        } else {
+            behind(rows, rest)
+        };
+        if let Some(name) = name {
+            let end = name.iter().position(|&byte| byte < TEXT);
+            return name.get(..end.unwrap_or(name.len()));
         }
     }
     None
+}
+
+/// Returns what follows the rest of a key and a space.
+fn behind<'a>(row: &'a [u8], rest: &[u8]) -> Option<&'a [u8]> {
+    let (found, name) = row.split_at_checked(rest.len())?;
+    name.strip_prefix(b" ")
+        .filter(|_| found.eq_ignore_ascii_case(rest))
+}
+
+fn language_row(code: &str) -> Option<&'static [u8]> {
+    match *code.as_bytes() {
+        [_, _] => row(TWO_LETTERS, code),
+        [_, _, third] => row(third & 31, code),
+        _ => None,
+    }
+}
+
+/// Adds a packed name, or the subtag if it has no name.
+fn push_name(name: &mut Vec<u8>, packed: Option<&[u8]>, subtag: &str) {
+    match packed {
+        Some(packed) => packed.iter().for_each(|&byte| expand(byte, name)),
+        None => name.extend_from_slice(subtag.as_bytes()),
+    }
+}
+
+/// Adds the bytes for which a byte of a packed name stands.
+fn expand(packed: u8, name: &mut Vec<u8>) {
+    match PAIRS[usize::from(packed)] {
+        [0, _] => name.push(packed),
+        pair => pair.into_iter().for_each(|byte| expand(byte, name)),
+    }
+}
+
+/// Returns a byte as it is written inside parentheses.
+fn bracketed(byte: u8) -> u8 {
+    match byte {
+        b'(' => b'[',
+        b')' => b']',
+        other => other,
+    }
 }
 
 /// Returns the name of a tag's language in the language itself, from CLDR, or `None` if CLDR has none.
@@ -159,14 +186,12 @@ pub fn autonym<'a>(tag: impl Into<LangTag<'a>>) -> Option<&'static str> {
         &mut key,
         Some(tag.variants().as_str()).filter(|variants| !variants.is_empty()),
     );
-    let lengths = [key.len(), in_region, written];
-    let names = lengths
-        .iter()
-        .map(|&len| &key[..len])
-        .chain(is_usual.then_some(language));
-    names
-        .into_iter()
-        .find_map(|key| name_in(data::OWN_NAMES, key))
+    let lengths = [key.len(), in_region, written, language.len()];
+    let asked = &lengths[..if is_usual { 4 } else { 3 }];
+    let mut keys = asked
+        .chunk_by(|len, next| len == next)
+        .map(|len| &key[..len[0]]);
+    core::str::from_utf8(keys.find_map(|key| row(OWN, key))?).ok()
 }
 
 fn push(key: &mut String, subtag: Option<&str>) {
@@ -178,7 +203,7 @@ fn push(key: &mut String, subtag: Option<&str>) {
 
 /// Returns the script of a tag with its likely subtags.
 fn likely_script(tag: &str) -> Option<String> {
-    let tag = maximized(LangTag::new(tag).ok()?);
+    let tag = LangTag::new(tag).ok()?.maximized();
     tag.script()
         .map(|script: Script<'_>| script.as_str().into())
 }

@@ -1,9 +1,6 @@
 //! The tags of a site, prepared once for many choices.
-use crate::choice::{
-    match_among, suitable_among, BestMatch, PreparedForm, RangeList, TagEntry, TagList,
-};
-use crate::lists::Ranges;
-use crate::matching::AcceptLanguage;
+use crate::choice::{self, BestMatch, RangeList, TagEntry, TagList};
+use crate::erased::choice::PreparedForm;
 use crate::memory::or_abort;
 use crate::{AllocError, LangTag};
 use alloc::vec::Vec;
@@ -120,14 +117,7 @@ impl<E: TagEntry> Site<E> {
     /// [RFC 9110 section 12.5.4]: https://www.rfc-editor.org/rfc/rfc9110#section-12.5.4
     #[must_use]
     pub fn best_for_header(&self, header: &(impl AsRef<[u8]> + ?Sized)) -> Option<&E> {
-        self.best_among(header.as_ref())
-    }
-
-    /// Returns the best tag for a parsed header, as
-    /// [`best_for_accept_language`](crate::choice::best_for_accept_language) chooses it.
-    #[must_use]
-    pub fn best_for_accept_language(&self, accepted: &AcceptLanguage<'_>) -> Option<&E> {
-        self.best_among(accepted.ranges())
+        choice::best_for_header(header, self).map(|index| &self.tags[index])
     }
 
     /// Returns the best tag for a list of language ranges in order of preference.
@@ -139,8 +129,8 @@ impl<E: TagEntry> Site<E> {
     /// assert_eq!(site.best_for_ranges(&["nn", "de"]), Some(&"nb"));
     /// ```
     #[must_use]
-    pub fn best_for_ranges(&self, ranges: &[impl AsRef<str>]) -> Option<&E> {
-        self.best_among(Ranges(ranges))
+    pub fn best_for_ranges<'a>(&self, ranges: impl RangeList<'a>) -> Option<&E> {
+        choice::best_for_ranges(ranges, self).map(|index| &self.tags[index])
     }
 
     /// Returns the best tag for an `Accept-Language` header with the range that it serves, as
@@ -158,20 +148,13 @@ impl<E: TagEntry> Site<E> {
         &self,
         header: &'a (impl AsRef<[u8]> + ?Sized),
     ) -> Option<BestMatch<'a>> {
-        match_among(header.as_ref(), self)
+        choice::match_for_header(header, self)
     }
 
     /// Returns the best tag for a list of language ranges with the range that it serves.
     #[must_use]
-    pub fn match_for_ranges<'a>(&self, ranges: &'a [impl AsRef<str>]) -> Option<BestMatch<'a>> {
-        match_among(Ranges(ranges), self)
-    }
-
-    /// Returns the best tag for any list of ranges.
-    #[must_use]
-    pub fn best_among<'a>(&self, ranges: impl RangeList<'a>) -> Option<&E> {
-        let index = crate::choice::best_among(ranges, self)?;
-        Some(&self.tags[index])
+    pub fn match_for_ranges<'a>(&self, ranges: impl RangeList<'a>) -> Option<BestMatch<'a>> {
+        choice::match_for_ranges(ranges, self)
     }
 
     /// Returns all suitable tags for an `Accept-Language` header, best first, as
@@ -185,19 +168,17 @@ impl<E: TagEntry> Site<E> {
     /// ```
     #[must_use]
     pub fn suitable_for_header(&self, header: &(impl AsRef<[u8]> + ?Sized)) -> Vec<&E> {
-        self.suitable_among(header.as_ref())
+        self.at(choice::suitable_for_header(header, self))
     }
 
     /// Returns all suitable tags for a list of language ranges in order of preference, best first.
     #[must_use]
-    pub fn suitable_for_ranges(&self, ranges: &[impl AsRef<str>]) -> Vec<&E> {
-        self.suitable_among(Ranges(ranges))
+    pub fn suitable_for_ranges<'a>(&self, ranges: impl RangeList<'a>) -> Vec<&E> {
+        self.at(choice::suitable_for_ranges(ranges, self))
     }
 
-    /// Returns all suitable tags for any list of ranges, best first.
-    #[must_use]
-    pub fn suitable_among<'a>(&self, ranges: impl RangeList<'a>) -> Vec<&E> {
-        let found = suitable_among(ranges, self);
+    /// Returns the tags at indices.
+    fn at(&self, found: Vec<usize>) -> Vec<&E> {
         found.into_iter().map(|index| &self.tags[index]).collect()
     }
 }
@@ -211,6 +192,15 @@ impl<E> Default for Site<E> {
         }
     }
 }
+
+/// Two sites are equal if their tags are.
+impl<E: PartialEq> PartialEq for Site<E> {
+    fn eq(&self, other: &Self) -> bool {
+        self.tags == other.tags
+    }
+}
+
+impl<E: Eq> Eq for Site<E> {}
 
 impl<E: TagEntry> FromIterator<E> for Site<E> {
     fn from_iter<I: IntoIterator<Item = E>>(tags: I) -> Site<E> {

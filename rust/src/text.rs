@@ -137,15 +137,6 @@ mod owned {
                 }
             }
 
-            impl $owned {
-                /// Returns the bytes of the string, without a copy.
-                #[must_use]
-                #[inline]
-                pub fn into_bytes(self) -> Vec<u8> {
-                    self.into_string().into_bytes()
-                }
-            }
-
             impl Clone for $owned {
                 #[inline]
                 fn clone(&self) -> Self {

@@ -12,7 +12,7 @@ use core::fmt;
 ///
 /// let error = write_canonical(LangTag::new("iw-IL")?, &mut [0; 3]).unwrap_err();
 /// assert_eq!(error.needed(), 5);
-/// assert_eq!(error.to_string(), "buffer is too short: 5 bytes are needed");
+/// assert_eq!(error.to_string(), "buffer is too short: a length of 5 is needed");
 /// # Ok::<(), Box<dyn std::error::Error>>(())
 /// ```
 #[derive(Clone, Copy, Debug, PartialEq, Eq, Hash)]
@@ -21,6 +21,11 @@ pub struct TooShort {
 }
 
 impl TooShort {
+    #[cfg(feature = "data")]
+    pub(crate) fn of(needed: usize) -> TooShort {
+        TooShort { needed }
+    }
+
     /// Returns the number of bytes that the result needs.
     #[must_use]
     #[inline]
@@ -32,7 +37,11 @@ impl TooShort {
 impl fmt::Display for TooShort {
     #[inline]
     fn fmt(&self, f: &mut fmt::Formatter<'_>) -> fmt::Result {
-        write!(f, "buffer is too short: {} bytes are needed", self.needed)
+        write!(
+            f,
+            "buffer is too short: a length of {} is needed",
+            self.needed
+        )
     }
 }
 

@@ -3,105 +3,28 @@
 //! canonical form (UTS #35, part 1).
 //!
 //! ```
-//! use langtag::unicode::{keyword, transform};
 //! use langtag::LangTag;
 //!
 //! let tag = LangTag::new("ar-u-ca-islamic-civil-nu-latn")?;
-//! assert_eq!(keyword(tag, "ca"), Some("islamic-civil"));
+//! assert_eq!(tag.keyword("ca"), Some("islamic-civil"));
 //! let tag = LangTag::new("und-t-ja-latn-m0-hepburn")?;
-//! assert_eq!(transform(tag).unwrap().language(), Some("ja-latn"));
+//! assert_eq!(tag.transform().unwrap().language(), Some("ja-latn"));
 //! # Ok::<(), Box<dyn std::error::Error>>(())
 //! ```
 use core::fmt;
 
 use crate::erased::{locale, unicode};
 use crate::too_short::{written, written_if_any};
-#[cfg(feature = "alloc")]
-use crate::{memory::or_abort, AllocError, LangTagBuf};
 use crate::{LangTag, TooShort};
 
 pub use crate::erased::keyword::KeywordError;
 pub use crate::erased::unicode::{AttributesIter, KeyValue, KeywordsIter, Transformation};
 #[cfg(feature = "alloc")]
-pub use crate::keywords::{remove_keyword, set_keyword, SetKeywordError};
+pub use crate::keywords::SetKeywordError;
 
-/// Returns the value of a key of the extension `u`: `Some("")` for a key without a value, and
-/// `None` if the tag does not have the key ([RFC 6067 section 2.1]).
-///
-/// The key is compared ignoring case, and the first of repeated keys counts. If a tag has several
-/// extensions `u`, which no valid tag has, only the first is read.
-///
-/// ```
-/// use langtag::unicode::keyword;
-/// use langtag::LangTag;
-///
-/// let tag = LangTag::new("ar-EG-u-ca-islamic-civil-kn")?;
-/// assert_eq!(keyword(tag, "ca"), Some("islamic-civil"));
-/// assert_eq!(keyword(tag, "kn"), Some(""));
-/// assert_eq!(keyword(tag, "nu"), None);
-/// # Ok::<(), Box<dyn std::error::Error>>(())
-/// ```
-///
-/// [RFC 6067 section 2.1]: https://www.rfc-editor.org/rfc/rfc6067#section-2.1
-#[must_use]
-pub fn keyword<'a>(tag: impl Into<LangTag<'a>>, key: &str) -> Option<&'a str> {
-    unicode::keyword(tag.into(), key)
-}
-
-/// Returns an iterator over the keywords of the extension `u`, in order.
-///
-/// Repeated keys are left out.
-///
-/// ```
-/// use langtag::unicode::keywords;
-/// use langtag::LangTag;
-///
-/// let tag = LangTag::new("ar-EG-u-ca-islamic-civil-kn")?;
-/// assert!(keywords(tag).map(|keyword| keyword.key).eq(["ca", "kn"]));
-/// # Ok::<(), Box<dyn std::error::Error>>(())
-/// ```
-#[must_use]
-pub fn keywords<'a>(tag: impl Into<LangTag<'a>>) -> KeywordsIter<'a> {
-    unicode::keywords(tag.into())
-}
-
-/// Returns an iterator over the attributes of the extension `u`, in order.
-///
-/// Repeated attributes are left out.
-///
-/// ```
-/// use langtag::unicode::attributes;
-/// use langtag::LangTag;
-///
-/// assert!(attributes(LangTag::new("en-u-foo-bar-ca-roc")?).eq(["foo", "bar"]));
-/// # Ok::<(), Box<dyn std::error::Error>>(())
-/// ```
-#[must_use]
-pub fn attributes<'a>(tag: impl Into<LangTag<'a>>) -> AttributesIter<'a> {
-    unicode::attributes(tag.into())
-}
-
-/// Returns the language and the fields of the extension `t`, or `None` if the tag has no `t`.
-///
-/// ```
-/// use langtag::unicode::transform;
-/// use langtag::LangTag;
-///
-/// let transform = transform(LangTag::new("und-Latn-t-und-cyrl-m0-ungegn")?).unwrap();
-/// assert_eq!(transform.language(), Some("und-cyrl"));
-/// assert_eq!(transform.field("m0"), Some("ungegn"));
-/// # Ok::<(), Box<dyn std::error::Error>>(())
-/// ```
-#[must_use]
-pub fn transform<'a>(tag: impl Into<LangTag<'a>>) -> Option<Transformation<'a>> {
-    unicode::transform(tag.into())
-}
-
-form! {
-    /// Returns a tag with the canonical form of its extensions `u` and `t`: keywords, attributes and
-    /// fields are sorted, `true` is left out, and outdated values are replaced by CLDR's aliases.
-    unicode: extensions_form, try_extensions_form, write_extensions_form;
-    "a tag with the canonical form of its extensions",
+writer! {
+    unicode in unicode: write_extensions_form of "LangTag::extensions_form" -> &'b str, written;
+    "a tag with the canonical form of its extensions";
     "en-u-nu-thai-ca-gregory-kn-true" is "en-u-ca-gregory-kn-nu-thai"
 }
 
@@ -120,13 +43,10 @@ pub fn is_locale<'a>(tag: impl Into<LangTag<'a>>) -> bool {
     locale::is_locale(tag.into())
 }
 
-form! {
-    /// Returns the canonical form of a tag as a Unicode locale identifier, or `None` if it has none,
-    /// like `x-mine`.
-    locale in unicode: locale_form, try_locale_form, write_locale_form
-        -> Option<LangTagBuf>, Option<&'b str>, written_if_any;
+writer! {
+    locale in unicode: write_locale_form of "LangTag::locale_form" -> Option<&'b str>, written_if_any;
     "the canonical form of a tag as a Unicode locale identifier",
-    ", or `None` if the tag has no such form", "ger-UK" is "de-GB", ".unwrap()"
+    ", or `None` if the tag has no such form"; "ger-UK" is "de-GB", ".unwrap()"
 }
 
 /// Writes a tag with a value of a key of the extension `u` to a buffer, as
@@ -198,7 +118,7 @@ pub fn write_without_keyword<'a, 'b>(
 /// let error = write_with_keyword(tag, "calendar", "roc", &mut [0; 32]).unwrap_err();
 /// assert_eq!(error, WriteKeywordError::Keyword(KeywordError::Key));
 /// let error = write_with_keyword(tag, "ca", "roc", &mut []).unwrap_err();
-/// assert_eq!(error.to_string(), "buffer is too short: 11 bytes are needed");
+/// assert_eq!(error.to_string(), "buffer is too short: a length of 11 is needed");
 /// # Ok::<(), Box<dyn std::error::Error>>(())
 /// ```
 #[derive(Clone, Copy, Debug, PartialEq, Eq, Hash)]

@@ -3,7 +3,7 @@
 use core::iter::FusedIterator;
 
 use crate::erased::tag::*;
-use crate::matching::{Fallbacks, Filtered, WantedRanges};
+use crate::matching::{Fallbacks, WantedRanges};
 
 /// Lets `for` walk through a type that has `iter`.
 macro_rules! walked {
@@ -43,7 +43,6 @@ listed! {
 
 impl FusedIterator for Subtags<'_> {}
 impl FusedIterator for Fallbacks<'_> {}
-impl FusedIterator for Filtered<'_, '_> {}
 impl FusedIterator for WantedRanges<'_> {}
 #[cfg(feature = "data")]
 impl FusedIterator for crate::unicode::AttributesIter<'_> {}

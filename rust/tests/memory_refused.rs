@@ -8,10 +8,10 @@ use std::sync::Once;
 
 use langtag::choice::Site;
 use langtag::erased::choice::suitable_for_header;
-use langtag::likely::{from_posix, try_maximized, try_minimized, try_to_posix, PosixError};
+use langtag::erased::{likely, locale, posix, registry, unicode};
+use langtag::likely::{from_posix, PosixError};
 use langtag::matching::{tag_for_header, AcceptLanguage, AcceptLanguageError, LanguageRange};
-use langtag::registry::{try_canonical, try_extlang_form};
-use langtag::unicode::{try_extensions_form, try_locale_form, SetKeywordError};
+use langtag::unicode::SetKeywordError;
 use langtag::*;
 
 thread_local! {
@@ -123,14 +123,14 @@ fn tags_in_another_form() {
     for text in TEXTS.split(' ') {
         let tag = LangTag::new(text).unwrap();
         macro_rules! refused {
-            ($($form:ident)+) => {$(
+            ($($form:path)+) => {$(
                 refuse_each(stringify!($form), || is_memory($form(tag)));
             )+};
         }
-        refused! { try_canonical try_extlang_form try_maximized try_minimized try_extensions_form }
+        refused! { registry::canonical registry::extlang_form likely::maximized likely::minimized unicode::extensions_form }
         // A tag without a form, such as x-a, requests no memory.
-        if try_locale_form(tag).unwrap().is_some() {
-            refuse_each("form as a locale", || is_memory(try_locale_form(tag)));
+        if locale::locale_form(tag).unwrap().is_some() {
+            refuse_each("form as a locale", || is_memory(locale::locale_form(tag)));
         }
         let call = || is_memory(tag.try_to_recommended_case());
         refuse_each("recommended case", call);
@@ -152,7 +152,7 @@ fn tags_from_parts_and_names() {
         matches!(from_posix("de_CH.UTF-8@euro"), Err(PosixError::Memory(_)))
     });
     let serbian = LangTag::new("sr-Latn-RS").unwrap();
-    refuse_each("to_posix", || try_to_posix(serbian).is_err());
+    refuse_each("to_posix", || posix::to_posix(serbian).is_err());
 }
 
 #[test]

@@ -20,7 +20,8 @@ DERIVED = {name: derived for derived, names in {
 # Those of the errors that contain only the refused text.
 REFUSING = "Clone, Copy, PartialEq, Eq, Hash"
 
-# Functions that rustc can also call when it compiles, by file: `from_static` of tags and parts rests on them.
+# Functions that rustc can also call when it compiles, by file: `from_static` of tags and parts rests on them. Of two functions of one name,
+# it is the first: that of the borrowed type, not of the owned type, since `String::as_str` is `const` only since Rust 1.87.
 CONST = {
     "class": {"is_letter", "is_digit", "are_letters", "are_digits", "is_primary", "is_script", "is_region"},
     "ends": {"new", "set", "ends", "later"},
@@ -72,11 +73,12 @@ def add_attributes(code, source):
         if should_be_used(code, place):
             place = code.replace(place, place, "#[must_use]\n")
         place += 1
-    place = 0
+    place, names = 0, set(CONST.get(source.stem, ()))
     while place < len(code):
         if code[place] == "pub" and code[keyword := after_visibility(code, place)] in ("struct", "enum"):
             place = add_to_type(code, place, code[keyword + 1], code[keyword])
-        elif code[place] == "fn" and code[place + 1] in CONST.get(source.stem, ()):
+        elif code[place] == "fn" and code[place + 1] in names:
+            names.remove(code[place + 1])
             place = code.replace(place, place + 1, "const fn")
         place += 1
 

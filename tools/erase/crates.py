@@ -34,19 +34,20 @@ EXPORTED_BY = {
     "langtag_canonical": "langtag_registry", "langtag_cldr": "langtag_likely",
 }
 
-# The functions that users call in another form: for example, `langtag::registry::canonical` takes more types than the proved
-# function, and returns a tag instead of a Result. And the items that users do not have. An example that uses one of them names it in
-# the module `erased`.
+# The functions that users call in another form: for example, `langtag::registry::write_canonical` takes more types than the proved
+# function, and returns a Result. And the items that users do not have, such as `canonical`, which is a method for them. An example that
+# uses one of them names it in the module `erased`.
 REPLACED = set("""
-    look_up tag_for_header canonical extlang_form write_canonical maximized minimized write_maximized write_minimized
-    write_from_posix to_posix write_to_posix extensions_form write_extensions_form locale_form write_locale_form write_with_keyword
-    write_without_keyword Site suitable_for_header
-    suitable_for_ranges suitable_among write_suitable set_keyword remove_keyword SetKeywordError iter_extension parent nth_parent Parents
-    InvalidSubtag validate
+    look_up tag_for_header write_canonical write_maximized write_minimized write_from_posix to_posix write_to_posix
+    write_extensions_form write_locale_form write_with_keyword write_without_keyword Site suitable_for_header suitable_for_ranges
+    write_suitable SetKeywordError iter_extension Parents InvalidSubtag validate filter_basic filter_extended
 """.split())
 HIDDEN = set("""
     put_part is_among_first Part Replacement Keys element_at is_empty_element listed_range locale_place split_wanted weight_of
-    fault_at suggested_language suggested_region PreparedTag OwnedSite ParentTag
+    fault_at suggested_language suggested_region PreparedTag OwnedSite ParentTag Filtered PreparedForm RangeList
+    best_among match_among suitable_among best_for_accept_language distance parent nth_parent
+    canonical extlang_form maximized minimized extensions_form locale_form
+    keyword keywords attributes transform set_keyword remove_keyword
 """.split())
 
 

@@ -41,11 +41,26 @@ def with_names(text, module):
     """Changes paths to the paths that users of the crate write, and removes the allocator from calls."""
     pieces = re.split(r"(?m)^(\s*//[/!] ?```.*\n)", text)
     for at in range(0, len(pieces), 2):
-        is_replaced = at % 4 == 2 and (REPLACED | HIDDEN) & set(re.findall(r"(?<![.\w])\w+", pieces[at]))
+        pieces[at] = with_methods(pieces[at]) if at % 4 == 2 else pieces[at]
+        is_replaced = at % 4 == 2 and (REPLACED | HIDDEN) & set(re.findall(r"\w+", " ".join(re.findall(r"use [^;]*;", pieces[at]))))
         path = hidden_path_of if is_replaced else public_path_of
         pieces[at] = PATH.sub(lambda it: it[1] + name_of(it[2], module, it[1], hidden_path_of if it[3] in HIDDEN else path) + "::" + it[3], pieces[at])
     text = re.sub(r"(?<=[(\s])alloc, |, alloc\b(?=\))|(?<=\()alloc(?=\))", "", "".join(pieces))
     return re.sub(rf"\b({'|'.join(RENAMED)})\b(?=\(|`)", lambda it: RENAMED[it[0]], text)
+
+
+# The functions that are methods for users, if an example calls them with a tag, and what they take besides the tag.
+TAG = r'(LangTag::new\("[^"]*"\)\?|\w+)'
+CALL = re.compile(rf"(?<![.\w])(keywords|attributes|transform|distance)\({TAG}(?:, {TAG})?\)")
+
+
+def with_methods(code):
+    """Changes calls in an example to the methods that users have, and the list of ranges to one that they can write."""
+    code, written = re.subn(r'best_among\(&b("[^"]*")\[\.\.\], ', r"best_for_ranges(&[\1], ", code)
+    code = code.replace("{TagList, best_among}", "{best_for_ranges, TagList}") if written else code
+    for name in {found[1] for found in CALL.finditer(code)} if "::{" not in code or "FORMLESS" in code else ():
+        code = re.sub(rf"(?m)^.*use [\w:]+::{name};\n|, {name}(?=\}})", "", code).replace("{FORMLESS_DISTANCE}", "FORMLESS_DISTANCE")
+    return CALL.sub(lambda it: f"{it[2]}.{it[1]}({it[3] or ''})", code) if not re.search(r"use .*\b(keywords|attributes|transform|distance)\b", code) else code
 
 
 def with_usual_calls(text):

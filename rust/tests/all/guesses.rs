@@ -9,7 +9,6 @@
 //! - `set_script(Some("Latn"))`: a string may be no script, and with a generic argument `set_script(None)` would not compile.
 //! - `text.parse::<LangTag>()`: `FromStr` cannot return a value that borrows. Write `LangTag::new(text)`.
 //! - `from_parts(..)?`: its arguments are parts that are already checked, so it returns the tag.
-//! - `filter_basic` of owned ranges or tags: its iterator is the proved one, over slices of borrowed values.
 //! - `tag.parents()` without `alloc`: the parent of `zh-TW` is `zh-Hant`, which is no slice of it. `likely::write_parent` does not allocate.
 //! - `Cow<LangTag>`, `Arc<LangTag>`, `impl AsRef<LangTag>`: a `LangTag` is a value, and an owned tag contains none to borrow.
 //! - `tag.subtags().map(|it| it.as_str())`: a subtag is a `&str`, because subtags of all types follow each other.
@@ -76,7 +75,7 @@ fn sites() {
     let found = site.match_for_ranges(&["tlh", "gsw"]).unwrap();
     let shown = r#"BestMatch { index: 1, range: b"gsw", place: 1, distance: 8 }"#;
     assert_eq!(format!("{found:?}"), shown);
-    let wanted = matching::wanted_ranges(b"gsw;q=0.5").next().unwrap();
+    let wanted = matching::wanted_ranges("gsw;q=0.5").next().unwrap();
     let shown = r#"WantedRange { bytes: b"gsw", weight: 500 }"#;
     assert_eq!(format!("{wanted:?}"), shown);
 }

@@ -1,8 +1,6 @@
 //! Long texts and long lists, of which owned forms are made.
 #![cfg(all(feature = "alloc", feature = "data"))]
 use langtag::matching::AcceptLanguage;
-use langtag::registry::canonical;
-use langtag::unicode::{extensions_form, locale_form};
 use langtag::{LangTag, LangTagBuf};
 
 #[test]
@@ -24,9 +22,9 @@ fn forms_of_long_tags() {
     let tail = "abcdefgh-".repeat(1000) + "a";
     let text = format!("iw-u-kn-true-x-{tail}");
     let tag = LangTag::new(&text).unwrap();
-    assert_eq!(canonical(tag), format!("he-u-kn-true-x-{tail}"));
-    assert_eq!(extensions_form(tag), format!("iw-u-kn-x-{tail}"));
-    assert_eq!(locale_form(tag).unwrap(), format!("he-u-kn-x-{tail}"));
+    assert_eq!(tag.canonical(), format!("he-u-kn-true-x-{tail}"));
+    assert_eq!(tag.extensions_form(), format!("iw-u-kn-x-{tail}"));
+    assert_eq!(tag.locale_form().unwrap(), format!("he-u-kn-x-{tail}"));
     let mut owned: LangTagBuf = text.parse().unwrap();
     owned.set_keyword("ca", "buddhist").unwrap();
     assert_eq!(owned, format!("iw-u-ca-buddhist-kn-true-x-{tail}"));
@@ -52,6 +50,6 @@ fn first_values_of_all_keys() {
     let all = &format!("{digits}{letters}");
     for (start, firsts, seconds) in [("de-t", letters, digits), ("de-u", all, all)] {
         let (text, form) = repeated_keys(start, firsts, seconds);
-        assert_eq!(extensions_form(LangTag::new(&text).unwrap()), form);
+        assert_eq!(LangTag::new(&text).unwrap().extensions_form(), form);
     }
 }

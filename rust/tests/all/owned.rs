@@ -46,7 +46,7 @@ fn are_compared_with_lent_ones() {
     assert_eq!(large, small);
     assert!(small < LangTag::new("DE-CH").unwrap());
     assert!(LangTag::new("de-at").unwrap() < owned("DE-CH"));
-    assert_eq!(owned("DE-at").into_bytes(), b"DE-at");
+    assert_eq!(owned("DE-at").into_string(), "DE-at");
     assert_ne!(InvalidLangTag("a b"), InvalidLangTag("a c"));
     let (owned, lent) = (owned("de-CH"), LangTag::new("de-AT").unwrap());
     assert!(lent < owned && LangTag::from(&owned) == owned);

@@ -93,11 +93,13 @@ fn the_proved_program() {
 
 #[test]
 fn help_fits_a_screen() {
-    let output = langtag(&["--help"], b"");
-    let help = String::from_utf8(output.stdout).unwrap();
-    let widest = help.lines().map(|line| line.chars().count()).max();
-    assert!(output.status.success());
-    assert!(help.lines().count() <= 25 && widest <= Some(84), "{help}");
+    for (arguments, lines) in [(&["--help"][..], 25), (&["read", "--help"], 14)] {
+        let output = langtag(arguments, b"");
+        let help = String::from_utf8(output.stdout).unwrap();
+        let widest = help.lines().map(|line| line.chars().count()).max();
+        assert!(output.status.success());
+        assert!(help.lines().count() <= lines && widest <= Some(84), "{help}");
+    }
     let version = String::from_utf8(langtag(&["-V"], b"").stdout).unwrap();
     assert!(version.starts_with("langtag ") && version.contains(langtag::registry::FILE_DATE));
 }

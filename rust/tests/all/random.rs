@@ -1,9 +1,7 @@
 //! All calls, over texts of random subtags: none panics, with overflow checks, and forms are their own forms.
 #![cfg(all(feature = "alloc", feature = "data"))]
 use crate::numbers::Numbers;
-use langtag::choice::{
-    best_for_accept_language, best_for_header, best_for_ranges, match_for_header,
-};
+use langtag::choice::{best_for_header, best_for_ranges, match_for_header};
 use langtag::likely::{from_posix, unknown_modifier};
 use langtag::matching::{wanted_ranges, AcceptLanguage, LanguageRange};
 use langtag::registry::{is_canonical, write_canonical};
@@ -61,7 +59,7 @@ fn ask_of_text(text: &str, pool: &[LangTag<'_>]) {
     }
     let accepted = AcceptLanguage::lenient(text);
     let ranges: Vec<_> = accepted.ranges().iter().map(|it| it.range).collect();
-    let best = best_for_accept_language(&accepted, pool);
+    let best = best_for_ranges(&accepted, pool);
     assert_eq!(best, best_for_ranges(&ranges, pool));
     wanted_ranges(text.as_bytes()).count();
     if let Err(error) = from_posix(text) {

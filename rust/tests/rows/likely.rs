@@ -10,13 +10,13 @@ use crate::matching::{ranges_of, tags_of};
 use crate::reader::{check_buffer, length, list, word};
 
 pub fn maximal(tag: LangTag<'_>) -> String {
-    check_buffer(maximized(tag), |buffer| {
+    check_buffer(tag.maximized(), |buffer| {
         length(write_maximized(tag, buffer))
     })
 }
 
 pub fn minimal(tag: LangTag<'_>) -> String {
-    check_buffer(minimized(tag), |buffer| {
+    check_buffer(tag.minimized(), |buffer| {
         length(write_minimized(tag, buffer))
     })
 }
@@ -43,7 +43,7 @@ pub fn posix_name(tag: LangTag<'_>) -> String {
         return "-".into();
     };
     let back = from_posix(&name).unwrap();
-    assert!(back == tag || maximized(&back) == maximized(tag), "{name}");
+    assert!(back == tag || back.maximized() == tag.maximized(), "{name}");
     check_buffer(name, |buffer| {
         length(write_to_posix(tag, buffer).map(Option::unwrap))
     })
@@ -53,7 +53,6 @@ pub fn posix_name(tag: LangTag<'_>) -> String {
 pub fn chain(tag: LangTag<'_>) -> String {
     let chain: Vec<LangTagBuf> = tag.parents().collect();
     assert_eq!(tag.parent().as_ref(), chain.get(1));
-    assert_eq!(parent(tag).as_ref(), chain.get(1));
     for (index, parent) in chain.iter().enumerate() {
         check_buffer(parent, |buffer| {
             length(write_parent(tag, index, buffer).map(Option::unwrap))
@@ -110,13 +109,17 @@ pub fn best_match(header: &[u8], tags: &str) -> String {
 pub fn best_accepted(header: &str, tags: &str) -> String {
     let tags = tags_of(tags);
     let accepted = AcceptLanguage::lenient(header);
-    let best = best_for_accept_language(&accepted, &tags);
+    let best = best_for_ranges(&accepted, &tags);
+    assert_eq!(
+        erased::choice::best_for_accept_language(&accepted, &tags),
+        best
+    );
     let ranges: Vec<_> = accepted.ranges().iter().map(|it| it.range).collect();
     assert_eq!(best, best_for_ranges(&ranges, &tags));
     let site = Site::new(&tags[..]);
-    let found = site.best_for_accept_language(&accepted);
+    let found = site.best_for_ranges(&accepted);
     assert_eq!(found, best.map(|index| &tags[index]));
-    let suitable = suitable_among(accepted.ranges(), &tags);
+    let suitable = suitable_for_ranges(accepted.ranges(), &tags);
     assert_eq!(suitable.first().copied(), best);
     shown(best, &tags)
 }
@@ -151,8 +154,13 @@ pub fn suitable(header: &[u8], tags: &str) -> String {
     let found = suitable_for_header(header, &tags);
     for room in 0..=tags.len() {
         let mut some = vec![usize::MAX; room];
-        let count = write_suitable(header, &tags, &mut some).len();
+        let count = erased::choice::write_suitable(header, &&tags[..], &mut some);
         assert_eq!(some[..count], found[..room.min(found.len())]);
+        if let Ok(header) = std::str::from_utf8(header) {
+            let (mut again, all) = (vec![usize::MAX; room], found.len() <= room);
+            assert_eq!(write_suitable(header, &tags, &mut again).is_ok(), all);
+            assert_eq!(again, some);
+        }
         assert!(some[count..].iter().all(|index| *index == usize::MAX));
     }
     let site = Site::new(&tags[..]);

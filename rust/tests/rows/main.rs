@@ -16,7 +16,7 @@ mod walks;
 use langtag::likely::{unknown_modifier, CLDR_VERSION};
 #[cfg(feature = "names")]
 use langtag::names::{autonym, describe};
-use langtag::registry::{extlang_form, misplaced_extlang};
+use langtag::registry::misplaced_extlang;
 use langtag::unicode::is_locale;
 use literals::Object;
 #[cfg(feature = "names")]
@@ -45,7 +45,7 @@ fn answer(row: &Row) -> String {
         "validity" => row.tag(0).map_or("none".into(), registry::validity),
         "suggestion" => row.of_tag(registry::suggestion),
         "canonical" => row.of_tag(registry::canonical_form),
-        "extlang-form" => row.of_tag(|tag| extlang_form(tag).into_string()),
+        "extlang-form" => row.of_tag(|tag| tag.extlang_form().into_string()),
         "fault" => row.of_tag(registry::fault),
         "misplaced" => registry::misplaced(row.str(0)),
         "misplaced-extlang" => row.of_tag(|tag| word(tag.as_normal().and_then(misplaced_extlang))),

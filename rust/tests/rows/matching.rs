@@ -138,8 +138,17 @@ pub fn fallbacks(range: &str) -> String {
 
 pub fn filter(rule: &str, ranges: &str, tags: &str) -> String {
     let (ranges, tags) = (ranges_of(ranges), tags_of(tags));
-    match rule {
-        "basic" => list(filter_basic(&ranges, &tags)),
-        _ => list(filter_extended(&ranges, &tags)),
-    }
+    let proved = match rule {
+        "basic" => erased::matching::filter_basic(&ranges, &tags),
+        _ => erased::matching::filter_extended(&ranges, &tags),
+    };
+    let found: Vec<_> = match rule {
+        "basic" => filter_basic(&ranges, &tags).collect(),
+        _ => filter_extended(&ranges, &tags).collect(),
+    };
+    assert!(found
+        .iter()
+        .copied()
+        .eq(&proved.clone().collect::<Vec<_>>()));
+    list(proved)
 }

@@ -40,7 +40,7 @@ pub fn suggestion(tag: LangTag<'_>) -> String {
 
 /// Returns the canonical form. It must be its own canonical form, and must also be written to a buffer.
 pub fn canonical_form(tag: LangTag<'_>) -> String {
-    let form = canonical(tag);
+    let form = tag.canonical();
     assert_eq!(is_canonical(tag), tag == form);
     assert!(is_canonical(&form));
     check_buffer(form, |buffer| length(write_canonical(tag, buffer)))

@@ -130,7 +130,7 @@ pub fn check_parts(owned: &LangTagBuf, tag: LangTag<'_>) {
         language script region variants extensions private_use
     }
     assert!(owned.subtags().eq(tag.subtags()));
-    assert!(owned.private_use_subtags().eq(tag.private_use_subtags()));
+    assert!(owned.private_use() == tag.private_use());
     if let Some(normal) = tag.as_normal() {
         let owned = owned.clone().into_normal().unwrap();
         same! {
@@ -227,7 +227,7 @@ pub fn recommended(bytes: &[u8]) -> String {
         let mut owned = tag.to_owned();
         owned.make_recommended_case();
         assert_eq!((owned.as_bytes(), &owned), (&form[..], &tag.to_owned()));
-        assert_eq!(tag.try_to_recommended_case().unwrap().into_bytes(), form);
+        assert_eq!(tag.try_to_recommended_case().unwrap().as_bytes(), form);
         assert_eq!(tag.in_recommended_case().to_string().into_bytes(), form);
         assert_eq!(tag.is_in_recommended_case(), form == bytes);
     }

@@ -62,7 +62,7 @@ macro_rules! seen {
                 assert!(upper == owned && *upper == owned && owned == upper);
                 assert!(owned == lent && lent == $name::from(&owned));
                 assert_eq!((&*lent, owned.as_ref()), (text, text.as_bytes()));
-                assert_eq!(owned.into_bytes(), text.as_bytes());
+                assert_eq!(owned.into_string(), text);
                 "accepted".to_owned()
             }
             (Err(lent), Err(owned)) => {

@@ -11,14 +11,14 @@ fn written(keywords: KeywordsIter<'_>) -> Vec<String> {
 }
 
 pub fn pairs(tag: LangTag<'_>) -> String {
-    for KeyValue { key, value, .. } in keywords(tag) {
-        assert_eq!(keyword(tag, key), Some(value), "{tag}");
+    for KeyValue { key, value, .. } in tag.keywords() {
+        assert_eq!(tag.keyword(key), Some(value), "{tag}");
     }
-    list(written(keywords(tag)))
+    list(written(tag.keywords()))
 }
 
 pub fn transformed(tag: LangTag<'_>) -> String {
-    let Some(transformation) = transform(tag) else {
+    let Some(transformation) = tag.transform() else {
         return "-".into();
     };
     for KeyValue { key, value, .. } in transformation.fields() {
@@ -32,13 +32,13 @@ pub fn transformed(tag: LangTag<'_>) -> String {
 
 /// Returns the form, which must be a Unicode locale identifier and its own form.
 pub fn whole_form(tag: LangTag<'_>) -> String {
-    let Some(form) = locale_form(tag) else {
+    let Some(form) = tag.locale_form() else {
         assert!(!is_locale(tag), "{tag}");
         assert_eq!(write_locale_form(tag, &mut []), Ok(None), "{tag}");
         return "-".into();
     };
     assert!(is_locale(&form), "{tag}");
-    assert_eq!(locale_form(&form).unwrap().as_str(), form.as_str());
+    assert_eq!(form.locale_form().unwrap().as_str(), form.as_str());
     check_written(&form, |buffer| {
         length(write_locale_form(tag, buffer).map(Option::unwrap))
     });
@@ -47,8 +47,8 @@ pub fn whole_form(tag: LangTag<'_>) -> String {
 
 /// Returns the form, which must be its own form.
 pub fn form(tag: LangTag<'_>) -> String {
-    let form = extensions_form(tag);
-    assert_eq!(extensions_form(&form).as_str(), form.as_str(), "{tag}");
+    let form = tag.extensions_form();
+    assert_eq!(form.extensions_form().as_str(), form.as_str(), "{tag}");
     check_written(&form, |buffer| length(write_extensions_form(tag, buffer)));
     form.into_string()
 }
@@ -107,10 +107,10 @@ pub fn edited(tag: LangTag<'_>, key: &str, value: &str) -> String {
 /// Checks that a tag has the keyword that was set, and other keywords as before.
 fn check_keywords(before: LangTag<'_>, key: &str, value: &str, made: &str) {
     let tag = LangTag::new(made).expect("it is a tag");
-    assert_eq!(keyword(tag, key), Some(value), "{tag}");
+    assert_eq!(tag.keyword(key), Some(value), "{tag}");
     for other in ["ca", "nu", "co", "kn"] {
         if !other.eq_ignore_ascii_case(key) {
-            assert_eq!(keyword(tag, other), keyword(before, other), "{tag}");
+            assert_eq!(tag.keyword(other), before.keyword(other), "{tag}");
         }
     }
 }

@@ -1,8 +1,6 @@
 //! The answers of each command.
-use langtag::choice::{best_for_header, distance};
-use langtag::likely::{try_maximized, try_minimized};
+use langtag::choice::best_for_header;
 use langtag::matching::LanguageRange;
-use langtag::registry::{try_canonical, validate};
 use langtag::{LangTag, LangTagBuf, NormalLangTag, TypedLangTag};
 
 use crate::input::Failure;
@@ -46,7 +44,7 @@ impl Answer {
 }
 
 /// Returns the text as a column, without tabs, which would end the column.
-fn without_tabs(text: &[u8]) -> Vec<u8> {
+pub fn without_tabs(text: &[u8]) -> Vec<u8> {
     let pieces: Vec<&[u8]> = text.split(|byte| *byte == b'\t').collect();
     pieces.join(&b"\\t"[..])
 }
@@ -71,22 +69,29 @@ impl<'a> Asked<'a> {
         })
     }
 
-    pub fn answer(&self, text: &[u8]) -> Result<Answer, Failure> {
+    pub fn answer(&self, text: &[u8]) -> Answer {
         let Ok(tag) = LangTag::from_bytes(text) else {
-            return Ok(self.refused(text));
+            return self.refused(text);
         };
         match self.command {
-            Command::Show => Ok(show(tag, self.options)),
+            Command::Show => show(tag, self.options),
             Command::Check => check(tag, self.options),
-            Command::Maximize => Ok(self.form(tag, &try_maximized(tag)?)),
-            Command::Minimize => Ok(self.form(tag, &try_minimized(tag)?)),
-            Command::Match => Ok(self.matched(tag)),
-            _ => Ok(self.form(tag, &try_canonical(tag)?)),
+            Command::Maximize => self.form(tag, &tag.maximized()),
+            Command::Minimize => self.form(tag, &tag.minimized()),
+            Command::Match => self.matched(tag),
+            Command::Parents => self.parents(tag),
+            _ => self.form(tag, &tag.canonical()),
         }
     }
 
     fn form(&self, tag: LangTag<'_>, form: &LangTagBuf) -> Answer {
         Answer::of(tag.as_bytes(), &[form], form, self.options)
+    }
+
+    fn parents(&self, tag: LangTag<'_>) -> Answer {
+        let chain: Vec<String> = tag.parents().map(LangTagBuf::into_string).collect();
+        let words = chain.join(" ");
+        Answer::of(tag.as_bytes(), &[&words], &words, self.options)
     }
 
     fn refused(&self, text: &[u8]) -> Answer {
@@ -172,16 +177,16 @@ fn parts_of<'a>(tag: &NormalLangTag<'a>) -> [(&'static str, &'a str); 7] {
 }
 
 /// Returns the line of `check`. The proved program prints the same line.
-fn check(tag: LangTag<'_>, options: &Options) -> Result<Answer, Failure> {
-    let (text, form) = (tag.as_bytes(), try_canonical(tag)?);
-    let Err(invalid) = validate(tag) else {
+fn check(tag: LangTag<'_>, options: &Options) -> Answer {
+    let (text, form) = (tag.as_bytes(), tag.canonical());
+    let Err(invalid) = tag.validate() else {
         let words = format!("valid canonical={form}");
-        return Ok(Answer::of(text, &["valid", "", "", &form], &words, options));
+        return Answer::of(text, &["valid", "", "", &form], &words, options);
     };
     let (what, subtag) = (invalid.fault().to_string(), invalid.subtag());
     let words = format!("invalid {what}={subtag} canonical={form}");
     let answer = Answer::of(text, &["invalid", &what, subtag, &form], &words, options);
-    Ok(answer.because(pointer::invalid(tag, &invalid)))
+    answer.because(pointer::invalid(tag, &invalid))
 }
 
 /// Returns the answer of `best`: the best tag for the header.
@@ -213,7 +218,7 @@ pub fn distance_in(line: &[u8], options: &Options) -> Answer {
 
 pub fn distance_of(desired: &[u8], supported: &[u8], options: &Options) -> Answer {
     match (LangTag::from_bytes(desired), LangTag::from_bytes(supported)) {
-        (Ok(from), Ok(to)) => between(desired, supported, &distance(from, to).to_string(), options),
+        (Ok(from), Ok(to)) => between(desired, supported, &from.distance(to).to_string(), options),
         (Err(error), _) | (_, Err(error)) => {
             between(desired, supported, "-", options).because(pointer::refused(error.0))
         }

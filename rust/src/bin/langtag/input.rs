@@ -1,8 +1,6 @@
 //! The texts: arguments, or the lines of standard input.
 use std::io::{self, BufRead, BufReader, ErrorKind, Write};
 
-use langtag::AllocError;
-
 /// What ends a run early.
 #[derive(Clone, Copy, Debug, PartialEq, Eq)]
 pub enum Failure {
@@ -33,12 +31,6 @@ impl Failure {
             Failure::Read => 4,
             Failure::Write | Failure::Closed => 5,
         }
-    }
-}
-
-impl From<AllocError> for Failure {
-    fn from(_: AllocError) -> Self {
-        Failure::Memory
     }
 }
 

@@ -4,6 +4,7 @@ mod answers;
 mod input;
 mod options;
 mod pointer;
+mod read;
 
 use std::env;
 use std::io::{self, BufWriter, ErrorKind, IsTerminal, Write};
@@ -55,6 +56,7 @@ fn run(options: &Options) -> Result<bool, Failure> {
     let outcome = match options.command {
         Command::Best => one(options, answers::best, &mut output),
         Command::Distance => pairs(options, &mut output),
+        Command::Read => read::column(options, &mut output),
         command => each(options, command, &mut output),
     };
     // Answers from before a failure are written in any case.
@@ -69,7 +71,7 @@ fn each(options: &Options, command: Command, output: &mut impl Write) -> Result<
     let asked = Asked::new(command, options)?;
     let (mut all, mut some) = (true, false);
     texts(&options.texts, output, |text, output| {
-        let answer = asked.answer(text)?;
+        let answer = asked.answer(text);
         all &= answer.good;
         some |= answer.good;
         put(&answer, options, output)

@@ -43,9 +43,9 @@ pub fn best_for_header(header: &[u8], tags: &[LangTag<'_>]) -> Option<usize> {
 ///
 /// ```
 /// # fn main() -> Result<(), Box<dyn std::error::Error>> {
-/// use langtag::LangTag;
-/// use langtag::choice::best_for_accept_language;
-/// use langtag::matching::AcceptLanguage;
+/// use langtag::erased::tag::LangTag;
+/// use langtag::erased::choice::best_for_accept_language;
+/// use langtag::erased::matching::AcceptLanguage;
 ///
 /// let accepted = AcceptLanguage::try_lenient("zh-TW,zh;q=0.9,en;q=0.8")?;
 /// let tags = [LangTag::new("en")?, LangTag::new("zh-Hant")?];
@@ -113,8 +113,8 @@ pub fn match_for_header<'a>(header: &'a [u8], tags: &[LangTag<'_>]) -> Option<Be
 /// of ranges and any list of tags.
 ///
 /// ```
-/// use langtag::LangTag;
-/// use langtag::choice::{TagList, match_among};
+/// use langtag::erased::tag::LangTag;
+/// use langtag::erased::choice::{TagList, match_among};
 ///
 /// struct Texts(&'static [&'static str]);
 ///
@@ -160,9 +160,9 @@ fn match_of<'a>(found: Candidate<'_, '_>, range: &'a [u8]) -> BestMatch<'a> {
 ///
 /// ```
 /// # fn main() -> Result<(), Box<dyn std::error::Error>> {
-/// use langtag::LangTag;
-/// use langtag::choice::{TagList, best_among};
-/// use langtag::matching::LanguageRange;
+/// use langtag::erased::tag::LangTag;
+/// use langtag::erased::choice::{TagList, best_among};
+/// use langtag::erased::matching::LanguageRange;
 ///
 /// struct One<'t>(LangTag<'t>);
 ///

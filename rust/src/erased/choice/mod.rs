@@ -6,8 +6,8 @@
 //!
 //! ```
 //! # fn main() -> Result<(), Box<dyn std::error::Error>> {
-//! use langtag::LangTag;
-//! use langtag::choice::{best_for_header, distance};
+//! use langtag::erased::tag::LangTag;
+//! use langtag::erased::choice::{best_for_header, distance};
 //!
 //! let tags = [LangTag::new("en")?, LangTag::new("zh-Hans")?, LangTag::new("zh-Hant")?];
 //! assert_eq!(best_for_header(b"zh-TW,zh;q=0.9,en;q=0.8", &tags), Some(2));

@@ -61,7 +61,7 @@ impl<'s, 't> Site<'s, 't> {
     }
 
     /// Returns the index of the best tag for a parsed header, as
-    /// [`best_for_accept_language`](crate::choice::best_for_accept_language) does.
+    /// [`best_for_accept_language`](crate::erased::choice::best_for_accept_language) does.
     #[cfg(feature = "alloc")]
     #[inline]
     #[must_use]

@@ -15,9 +15,9 @@ use crate::erased::tag::LangTag;
 /// ```
 /// # fn main() -> Result<(), Box<dyn std::error::Error>> {
 /// use langtag::LangTag;
-/// use langtag::choice::{FORMLESS_DISTANCE, distance};
+/// use langtag::choice::FORMLESS_DISTANCE;
 ///
-/// assert!(distance(LangTag::new("x-a")?, LangTag::new("de")?) == FORMLESS_DISTANCE);
+/// assert!(LangTag::new("x-a")?.distance(LangTag::new("de")?) == FORMLESS_DISTANCE);
 /// # Ok(())
 /// # }
 /// ```
@@ -47,10 +47,9 @@ pub const FORMLESS_DISTANCE: u8 = 255;
 /// ```
 /// # fn main() -> Result<(), Box<dyn std::error::Error>> {
 /// use langtag::LangTag;
-/// use langtag::choice::distance;
 ///
-/// assert_eq!(distance(LangTag::new("de-AT")?, LangTag::new("de")?), 4);
-/// assert_eq!(distance(LangTag::new("de")?, LangTag::new("en")?), 84);
+/// assert_eq!(LangTag::new("de-AT")?.distance(LangTag::new("de")?), 4);
+/// assert_eq!(LangTag::new("de")?.distance(LangTag::new("en")?), 84);
 /// # Ok(())
 /// # }
 /// ```

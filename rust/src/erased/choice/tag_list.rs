@@ -9,7 +9,7 @@ use crate::erased::tag::LangTag;
 ///
 /// ```
 /// use langtag::LangTag;
-/// use langtag::choice::{TagList, best_among};
+/// use langtag::choice::{best_for_ranges, TagList};
 ///
 /// struct Texts(&'static [&'static str]);
 ///
@@ -27,7 +27,7 @@ use crate::erased::tag::LangTag;
 ///     }
 /// }
 ///
-/// assert_eq!(best_among(&b"zh-TW"[..], &Texts(&["en", "zh-Hant"])), Some(1));
+/// assert_eq!(best_for_ranges(&["zh-TW"], &Texts(&["en", "zh-Hant"])), Some(1));
 /// ```
 pub trait TagList {
     /// Returns the number of entries.

@@ -23,10 +23,10 @@ use alloc::vec::Vec;
 /// Subtags of the tag stay, with their case. Only `und`, `Zzzz` and `ZZ`, which mean an unknown
 /// language, script or region, are replaced. Deprecated subtags stay, too, and get the likely
 /// subtags of their replacements: `iw` becomes `iw-Hebr-IL`. To replace them, call
-/// `langtag::unicode::locale_form` first. Variants, extensions and private use stay. A tag without
-/// known likely subtags, such as `x-a` or `qaa`, stays unchanged. So does a tag whose extended
-/// language is not registered for its language ([RFC 5646 section 2.2.2]), such as `es-rUS`, which
-/// is how Android writes `es-US`.
+/// `langtag::erased::locale::locale_form` first. Variants, extensions and private use stay. A tag
+/// without known likely subtags, such as `x-a` or `qaa`, stays unchanged. So does a tag whose
+/// extended language is not registered for its language ([RFC 5646 section 2.2.2]), such as
+/// `es-rUS`, which is how Android writes `es-US`.
 ///
 /// # Errors
 ///

@@ -19,8 +19,8 @@ use crate::erased::tag::LangTag;
 ///
 /// ```
 /// # fn main() -> Result<(), Box<dyn std::error::Error>> {
-/// use langtag::LangTag;
-/// use langtag::matching::{filter_basic, LanguageRange};
+/// use langtag::erased::tag::LangTag;
+/// use langtag::erased::matching::{filter_basic, LanguageRange};
 ///
 /// let ranges = [LanguageRange::new("de-CH")?, LanguageRange::new("de")?];
 /// let tags = [LangTag::new("en")?, LangTag::new("de-AT")?, LangTag::new("de-CH-1996")?];
@@ -45,8 +45,8 @@ pub fn filter_basic<'a, 't>(
 ///
 /// ```
 /// # fn main() -> Result<(), Box<dyn std::error::Error>> {
-/// use langtag::LangTag;
-/// use langtag::matching::{filter_extended, LanguageRange};
+/// use langtag::erased::tag::LangTag;
+/// use langtag::erased::matching::{filter_extended, LanguageRange};
 ///
 /// let ranges = [LanguageRange::new("*-CH")?];
 /// let tags = [LangTag::new("de-AT")?, LangTag::new("de-Latn-CH")?];
@@ -69,8 +69,8 @@ pub fn filter_extended<'a, 't>(
 ///
 /// ```
 /// # fn main() -> Result<(), Box<dyn std::error::Error>> {
-/// use langtag::LangTag;
-/// use langtag::matching::{LanguageRange, filter_basic};
+/// use langtag::erased::tag::LangTag;
+/// use langtag::erased::matching::{LanguageRange, filter_basic};
 ///
 /// let tags = [LangTag::new("en")?, LangTag::new("de-AT")?];
 /// assert_eq!(filter_basic(&[LanguageRange::new("de")?], &tags).count(), 1);

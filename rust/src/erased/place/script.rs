@@ -241,7 +241,7 @@ impl ScriptBuf {
     /// ```
     #[inline]
     #[must_use]
-    pub const fn as_str(&self) -> &str {
+    pub fn as_str(&self) -> &str {
         self.text.0.as_str()
     }
 

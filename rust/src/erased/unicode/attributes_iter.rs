@@ -11,9 +11,8 @@ use crate::erased::tag::Subtags;
 /// ```
 /// # fn main() -> Result<(), Box<dyn std::error::Error>> {
 /// use langtag::LangTag;
-/// use langtag::unicode::attributes;
 ///
-/// assert_eq!(attributes(LangTag::new("de-u-attr-foo-ATTR-ca-buddhist")?).count(), 2);
+/// assert_eq!(LangTag::new("de-u-attr-foo-ATTR-ca-buddhist")?.attributes().count(), 2);
 /// # Ok(())
 /// # }
 /// ```

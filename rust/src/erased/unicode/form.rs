@@ -26,8 +26,8 @@ const SPARE: usize = 32;
 ///
 /// All other bytes of the tag stay, and so does a tag without these extensions. Only the first `u`
 /// and the first `t` are changed. A `t` that UTS #35 does not allow, such as `t-m0` or `t-zh-yue`,
-/// stays as it is. The order of the extensions stays, too; `langtag::registry::canonical` sorts
-/// them.
+/// stays as it is. The order of the extensions stays, too; `langtag::erased::registry::canonical`
+/// sorts them.
 ///
 /// The time is quadratic in the number of attributes beyond 512, and of variants in the language of
 /// `t`. It needs up to 16 KiB of stack.

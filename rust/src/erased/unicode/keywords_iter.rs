@@ -13,9 +13,8 @@ use crate::erased::unicode::unicode_extension::KeyValue;
 /// ```
 /// # fn main() -> Result<(), Box<dyn std::error::Error>> {
 /// use langtag::LangTag;
-/// use langtag::unicode::keywords;
 ///
-/// assert_eq!(keywords(LangTag::new("de-u-kn-ca-buddhist-kn-false")?).count(), 2);
+/// assert_eq!(LangTag::new("de-u-kn-ca-buddhist-kn-false")?.keywords().count(), 2);
 /// # Ok(())
 /// # }
 /// ```

@@ -5,8 +5,8 @@
 //!
 //! ```
 //! # fn main() -> Result<(), Box<dyn std::error::Error>> {
-//! use langtag::LangTag;
-//! use langtag::unicode::{keyword, transform};
+//! use langtag::erased::tag::LangTag;
+//! use langtag::erased::unicode::{keyword, transform};
 //!
 //! assert_eq!(
 //!     keyword(LangTag::new("ar-u-ca-islamic-civil-nu-latn")?, "ca"),

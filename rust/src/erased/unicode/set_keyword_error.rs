@@ -6,9 +6,9 @@ use crate::erased::keyword::KeywordError;
 use crate::shim::AllocError;
 use core::fmt;
 
-/// The error of [`set_keyword`](crate::unicode::set_keyword) and
-/// [`remove_keyword`](crate::unicode::remove_keyword): why a keyword was neither set nor removed.
-/// The tag is unchanged.
+/// The error of [`set_keyword`](crate::erased::unicode::set_keyword) and
+/// [`remove_keyword`](crate::erased::unicode::remove_keyword): why a keyword was neither set nor
+/// removed. The tag is unchanged.
 ///
 /// ```
 /// # fn main() -> Result<(), Box<dyn std::error::Error>> {

@@ -12,9 +12,8 @@ use crate::erased::unicode::transformation::Transformation;
 /// ```
 /// # fn main() -> Result<(), Box<dyn std::error::Error>> {
 /// use langtag::LangTag;
-/// use langtag::unicode::transform;
 ///
-/// let found = transform(LangTag::new("und-t-ja-latn-m0-hepburn")?);
+/// let found = LangTag::new("und-t-ja-latn-m0-hepburn")?.transform();
 /// assert_eq!(found.and_then(|it| it.language()), Some("ja-latn"));
 /// # Ok(())
 /// # }

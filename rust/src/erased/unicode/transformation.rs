@@ -11,10 +11,9 @@ use crate::erased::unicode::keywords_iter::KeywordsIter;
 /// ```
 /// # fn main() -> Result<(), Box<dyn std::error::Error>> {
 /// use langtag::LangTag;
-/// use langtag::unicode::transform;
 ///
 /// let tag = LangTag::new("und-Cyrl-t-und-latn-m0-ungegn-2007")?;
-/// let transform = transform(tag).ok_or("no such extension")?;
+/// let transform = tag.transform().ok_or("no such extension")?;
 /// assert_eq!(transform.language(), Some("und-latn"));
 /// assert_eq!(transform.field("M0"), Some("ungegn-2007"));
 /// assert_eq!(transform.field("d0"), None);
@@ -41,11 +40,10 @@ impl<'a> Transformation<'a> {
     /// ```
     /// # fn main() -> Result<(), Box<dyn std::error::Error>> {
     /// use langtag::LangTag;
-    /// use langtag::unicode::transform;
     ///
-    /// let found = transform(LangTag::new("und-t-ja-latn-m0-hepburn")?);
+    /// let found = LangTag::new("und-t-ja-latn-m0-hepburn")?.transform();
     /// assert_eq!(found.and_then(|it| it.language()), Some("ja-latn"));
-    /// let found = transform(LangTag::new("und-t-m0-hepburn")?);
+    /// let found = LangTag::new("und-t-m0-hepburn")?.transform();
     /// assert_eq!(found.and_then(|it| it.language()), None);
     /// # Ok(())
     /// # }
@@ -63,9 +61,8 @@ impl<'a> Transformation<'a> {
     /// ```
     /// # fn main() -> Result<(), Box<dyn std::error::Error>> {
     /// use langtag::LangTag;
-    /// use langtag::unicode::transform;
     ///
-    /// let found = transform(LangTag::new("und-t-ja-m0-hepburn")?);
+    /// let found = LangTag::new("und-t-ja-m0-hepburn")?.transform();
     /// assert_eq!(found.and_then(|it| it.field("m0")), Some("hepburn"));
     /// # Ok(())
     /// # }
@@ -82,9 +79,8 @@ impl<'a> Transformation<'a> {
     /// ```
     /// # fn main() -> Result<(), Box<dyn std::error::Error>> {
     /// use langtag::LangTag;
-    /// use langtag::unicode::transform;
     ///
-    /// let found = transform(LangTag::new("und-t-ja-m0-hepburn")?);
+    /// let found = LangTag::new("und-t-ja-m0-hepburn")?.transform();
     /// let first = found.and_then(|it| it.fields().next());
     /// assert_eq!(first.map(|field| (field.key, field.value)), Some(("m0", "hepburn")));
     /// # Ok(())

@@ -14,9 +14,8 @@ use crate::erased::unicode::keywords_iter::KeywordsIter;
 /// ```
 /// # fn main() -> Result<(), Box<dyn std::error::Error>> {
 /// use langtag::LangTag;
-/// use langtag::unicode::keywords;
 ///
-/// let first = keywords(LangTag::new("ar-u-ca-islamic-civil")?).next();
+/// let first = LangTag::new("ar-u-ca-islamic-civil")?.keywords().next();
 /// assert_eq!(first.map(|it| (it.key, it.value)), Some(("ca", "islamic-civil")));
 /// # Ok(())
 /// # }
@@ -42,8 +41,8 @@ pub struct KeyValue<'a> {
 ///
 /// ```
 /// # fn main() -> Result<(), Box<dyn std::error::Error>> {
-/// use langtag::LangTag;
-/// use langtag::unicode::keyword;
+/// use langtag::erased::tag::LangTag;
+/// use langtag::erased::unicode::keyword;
 ///
 /// let tag = LangTag::new("ar-EG-u-ca-islamic-civil-kn")?;
 /// assert_eq!(keyword(tag, "CA"), Some("islamic-civil"));
@@ -66,9 +65,8 @@ pub fn keyword<'a>(tag: LangTag<'a>, key: &str) -> Option<&'a str> {
 /// ```
 /// # fn main() -> Result<(), Box<dyn std::error::Error>> {
 /// use langtag::LangTag;
-/// use langtag::unicode::keywords;
 ///
-/// let mut walk = keywords(LangTag::new("de-u-kn-ca-buddhist-kn-false")?);
+/// let mut walk = LangTag::new("de-u-kn-ca-buddhist-kn-false")?.keywords();
 /// assert_eq!(walk.next().map(|keyword| (keyword.key, keyword.value)), Some(("kn", "")));
 /// assert_eq!(walk.next().map(|keyword| (keyword.key, keyword.value)), Some(("ca", "buddhist")));
 /// assert!(walk.next().is_none());
@@ -92,9 +90,8 @@ pub fn keywords<'a>(tag: LangTag<'a>) -> KeywordsIter<'a> {
 /// ```
 /// # fn main() -> Result<(), Box<dyn std::error::Error>> {
 /// use langtag::LangTag;
-/// use langtag::unicode::attributes;
 ///
-/// let mut walk = attributes(LangTag::new("de-u-attr-foo-ATTR-ca-buddhist")?);
+/// let mut walk = LangTag::new("de-u-attr-foo-ATTR-ca-buddhist")?.attributes();
 /// assert_eq!(walk.next(), Some("attr"));
 /// assert_eq!(walk.next(), Some("foo"));
 /// assert_eq!(walk.next(), None);
