@@ -52,7 +52,7 @@ def regions_of_sets() -> Iterator[tuple[str, list[tuple]]]:
         groups = {group: countries & oracle.SETS[of] for group, countries in oracle.GROUPS.items()}
         countries = oracle.SETS[of] - oracle.GROUPS.keys()
         yield f"{name}_inside", [(region,) for region in countries | {group for group, found in groups.items() if found == oracle.GROUPS[group]}]
-        yield f"{name}_partly", [(group,) for group, found in groups.items() if found and found != oracle.GROUPS[group]]
+        yield f"{name}_partly", [(group,) for group, found in groups.items() if found and found != oracle.GROUPS[group] and group != "001"]
 
 
 def wanted() -> dict[str, list[tuple]]:

@@ -42,12 +42,13 @@ class Matching:
 
     @staticmethod
     def region_sets(rows, groups):
-        """Returns for each set the regions inside it, and the groups that are partly inside it."""
+        """Returns for each set the regions inside it, and the groups that are partly inside it. The world, 001, is outside each: en-001 is
+        written for readers outside of $enUS, and is the parent of en-AU."""
         sets = {}
         for name, *regions in rows:
             countries = {region for region in regions if region not in groups}
             inside = countries | {group for group, its in groups.items() if its <= countries}
-            partly = {group for group, its in groups.items() if its & countries and not its <= countries}
+            partly = {group for group, its in groups.items() if group != "001" and its & countries and not its <= countries}
             sets[name.strip("$")] = (sorted(inside, key=folded_number), sorted(partly, key=folded_number))
         return sets
 

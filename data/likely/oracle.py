@@ -174,7 +174,7 @@ def by_rule(rules, desired, supported, otherwise):
 def is_in(region, pattern):
     if not pattern.startswith("$"):
         return pattern in ("*", region)
-    countries = GROUPS.get(region, {region})
+    countries = GROUPS.get(region, {region}) if region != "001" else set("-")  # the world is outside each set
     if pattern.startswith("$!"):
         return not countries & SETS["$" + pattern[2:]]
     return countries <= SETS[pattern]
@@ -348,6 +348,13 @@ def modifier_says(modifier):
     return script, MODIFIER_VARIANTS.get(modifier.lower())
 
 
+# The names whose last field is no subtag: those of Java, and those of Windows for other sort orders (Windows Language Code Identifiers,
+# "alternate sorts"), with the type of CLDR that has this order.
+LAST_FIELDS = {"no-no-ny": "nn-NO", "ja-jp-jp": "ja-JP-u-ca-japanese", "th-th-th": "th-TH-u-nu-thai"}
+SORT_ORDERS = {"phoneb": "phonebk", "tradnl": "trad", "pronun": "zhuyin", "stroke": "stroke", "radstr": "unihan"}
+for sorted_name in "de-DE-phoneb es-ES-tradnl ja-JP-radstr zh-CN-stroke zh-SG-stroke zh-MO-stroke zh-HK-radstr zh-MO-radstr zh-TW-radstr zh-TW-pronun".split():
+    LAST_FIELDS[sorted_name.lower()] = f"{sorted_name[:5]}-u-co-{SORT_ORDERS[sorted_name[6:]]}"
+
 CHINESE_NAMES = {"zh-chs": "Hans", "zh-cht": "Hant"}
 
 
@@ -356,8 +363,8 @@ def read_place(place):
     if place[:2].lower() == "b+" and not place.partition("-")[2]:
         return place[2:].replace("+", "-")
     place = place.replace("_", "-")
-    if place.lower() == "no-no-ny":
-        return "nn-NO"
+    if place.lower() in LAST_FIELDS:
+        return LAST_FIELDS[place.lower()]
     if place.lower() in CHINESE_NAMES:
         return place[:3] + CHINESE_NAMES[place.lower()]
     if android := re.fullmatch("(?!sgn)([a-z]{2,3})-r([a-z]{2}|[0-9]{3})", place, re.I | re.A):
@@ -394,8 +401,8 @@ def keywords(modifier):
     return said
 
 
-# The places whose last field Java writes for the extension behind it.
-JAVA_PLACES = {("ja-jp-jp", "u-ca-japanese"), ("th-th-th", "u-nu-thai")}
+# The places that Java writes for the extension behind them.
+JAVA_PLACES = {("ja-jp-u-ca-japanese", "u-ca-japanese"), ("th-th-u-nu-thai", "u-nu-thai")}
 
 
 def named_parts(name):
@@ -412,6 +419,8 @@ def named_parts(name):
 
 def posix(name):
     modifier, behind = name.partition("@")[2], re.split("[.@]", name)[0].partition("#")[2]
+    if not re.fullmatch(r"[^.]*|[^.]*\.[A-Za-z0-9._-]+", name.partition("@")[0], re.S):
+        return "-"
     place, *extensions = named_parts(name)
     extended = "-".join(filter(None, (place, *extensions)))
     if len(place_of(name)) > 255 or len(extended) > 260 or not is_tag(place) or not is_tag(extended):
@@ -430,8 +439,10 @@ def posix(name):
     variants, rest = tag.variants, tag.rest
     if variants.lower() == "-posix" and rest[:3].lower() in ("", "-x-"):
         variants, rest = "", "-u-va-posix" + rest
-    variants = "-" + variant if variant else variants
-    return "-".join(filter(None, (tag.language, script, tag.region))) + variants + rest
+    place = "-".join(filter(None, (tag.language, script, tag.region)))
+    if not registry().has("grandfathered", place + variants + rest) and not all(registry().has("variant", it) for it in variants.split("-")[1:]):
+        return "-"
+    return place + ("-" + variant if variant else variants) + rest
 
 
 # The modifiers of names that are written, with the script and the variant that each says.

@@ -131,7 +131,8 @@ MODIFIERS = ["latin", "cyrillic", "devanagari", "valencia", "polyton", "euro", "
 PLATFORM_NAMES = ["zh-CHS", "zh-CHT", "sr-SP-Latn", "sr-SP-Cyrl", "sr-SP-Arab", "bs-SP-Latn", "sr-SP", "en-CHS", "sgn-rSL", "sgn-rsl", "b+zh+CHT", "b+zh+rTW",
                   "b+", "b", "b+x+a", "b+sr-Latn", "b+sr_Latn", "bb+sr", "sr+Latn", "x-rTW", "x-DE-Latn", "i-rTW", "values-zh-rTW", "zh-r", "zh-rT", "zh-rTWN",
                   "zh-r4", "es-r4199", "zh-rTW-x-a", "zh-yue-rHK", "de-DE-Abcd", "de-DE-Latn-x-a", "b+POSIX", "b+en+US+POSIX", "b+de+1996",
-                  "no-NO-NY", "no-NO-NY-x-a", "en-rGB-land", "de-rDE-ldrtl", "b+en+GB-ldrtl", "night", "de-night", "abcde-rTW"]
+                  "no-NO-NY", "no-NO-NY-x-a", "en-rGB-land", "de-rDE-ldrtl", "b+en+GB-ldrtl", "night", "de-night", "abcde-rTW", "ja-JP-JP", "th-TH-TH", "de-DE-phoneb", "es-ES-tradnl", "zh-TW-pronun", "zh-MO-radstr", "zh-TW-stroke",
+                  "art-lojban", "nl-NL-formal"]
 
 
 def platform_name(rng):
@@ -146,7 +147,7 @@ def platform_name(rng):
 def random_name(rng):
     text = near_tag(rng) if rng.random() < 0.6 else platform_name(rng) if rng.random() < 0.8 else rng.choice(ODD_PLACES)
     text = text.replace("-", "_") if rng.random() < 0.8 else text
-    text += rng.choice(["", "", "_#Hant", "__#Latn", ".UTF-8", ".utf8", ".ISO-8859-15", ".", ".a.b", ".a_b"])
+    text += rng.choice(["", "", "_#Hant", "__#Latn", ".UTF-8", ".utf8", ".ISO-8859-15", ".", ".a.b", ".a_b", ". 5", ".a:b", ".#"])
     if rng.random() < 0.5:
         text += "@" + rng.choice(MODIFIERS)
     return text if rng.random() < 0.95 else mutated(text, rng)

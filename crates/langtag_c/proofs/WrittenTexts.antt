@@ -67,7 +67,7 @@ pub some_extensions : (old new : List ℕ) → IsTag old → IsExtensionsForm ol
 some_extensions old new tag is = some_tag new (form_is_tag extensions_record form_well_formed old new tag is)
 
 pub some_named : (name new : List ℕ) → NamesTag name → IsTagOfName name new → 1 ≤ length new
-some_named name new names is = some_tag new (form_is_tag (with_said name) (said_well_formed name) (text_of_name name) new names.tag is)
+some_named name new names is = some_tag new (form_is_tag (with_said name) (said_well_formed name) (text_of_name name) new names.read.tag is)
 
 pub some_locale : (old new : List ℕ) → IsWholeForm old (Some new) → 1 ≤ length new
 some_locale old new is = let (r, fits, locale, same) = whole_of_record old new is in some_tag new (subst IsTag (sym same) (locale_tag r fits locale))

@@ -44,7 +44,7 @@ maghreb_inside =
 unfoldable pub maghreb_partly : List (List ℕ)
 maghreb_partly =
     flat_map words
-    (codes "UN 001 002 011 015 202"
+    (codes "UN 002 011 015 202"
     ∷ [])
 
 -- the regions of $enUS: countries, and groups of countries that are all in it
@@ -58,7 +58,7 @@ en_us_inside =
 unfoldable pub en_us_partly : List (List ℕ)
 en_us_partly =
     flat_map words
-    (codes "UN 001 003 009 019 021 029 035 057 061 142 419"
+    (codes "UN 003 009 019 021 029 035 057 061 142 419"
     ∷ [])
 
 -- the regions of $americas: countries, and groups of countries that are all in it
@@ -74,7 +74,7 @@ americas_inside =
 unfoldable pub americas_partly : List (List ℕ)
 americas_partly =
     flat_map words
-    (codes "UN 001"
+    (codes "UN"
     ∷ [])
 
 -- the regions of $cnsar: countries, and groups of countries that are all in it
@@ -88,5 +88,5 @@ cnsar_inside =
 unfoldable pub cnsar_partly : List (List ℕ)
 cnsar_partly =
     flat_map words
-    (codes "001 030 142"
+    (codes "030 142"
     ∷ [])

@@ -11,7 +11,7 @@ use Rattle.langtag_fields.proofs.Values.{value_good}
 use Rattle.langtag_range.specs.Definitions.{basic_text, hyphened, is_language_range, is_separator}
 use Rattle.langtag_range.proofs.AlikeTexts.{mark-fold}
 use Rattle.langtag_range.proofs.BasicForms.{hyphened_range}
-use Rattle.langtag_cldr.specs.Definitions.{KeepsLanguage, begins_british, begins_counted, begins_replaced, current_text, fields_of_subtags, follows_none, text_fields}
+use Rattle.langtag_cldr.specs.Definitions.{KeepsLanguage, begins_british, begins_counted, begins_replaced, current_text, fields_of_subtags, follows_none, is_plain_byte, text_fields}
 use Rattle.langtag_cldr.proofs.CommonTexts.{parts_read, read_byte, read_nothing, length_read, rest_of, unmarked}
 
 -- ---- a Preferred-Value has no "_"
@@ -88,6 +88,12 @@ plain_read x text is = grind (arith, nat_tests, common_steps, read_byte)
 -- a separator that no "*" follows
 mark_read : (m : ℕ) (text : List ℕ) → is_separator m ≡ true → begins_counted text ≡ true → basic_text (m ∷ text) ≡ 45 ∷ basic_text text
 mark_read m text is counted = grind (arith, nat_tests, common_steps, read_byte)
+
+-- a text with neither "_" nor "*" is read as it stands
+pub plain_read_whole : (text : List ℕ) → list_all is_plain_byte text ≡ true → basic_text text ≡ text
+plain_read_whole [] all = read_nothing
+plain_read_whole (b ∷ []) all = grind (arith, nat_tests, common_steps, and_parts, read_byte b [], read_nothing)
+plain_read_whole (b ∷ c ∷ text) all = grind (arith, nat_tests, common_steps, and_parts, read_byte b (c ∷ text), plain_read_whole (c ∷ text))
 
 free_fold : (x : ℕ) → is_separator x ≡ false → (fold_byte x == 45) ≡ false
 free_fold x is = grind (arith, nat_tests, mark-fold 45 (omega arith) x)

@@ -1,7 +1,7 @@
 -- The definitions of this crate, for its code and for the crates that use it. Declares nothing.
 unfoldable pub use Rattle.langtag_cldr.specs.Aliases.{language_aliases, region_aliases, region_replacements}
 pub use Rattle.langtag_cldr.specs.Direction.{is_right_to_left_script}
-pub use Rattle.langtag_cldr.specs.Follows.{KeepsLanguage, begins_british, begins_counted, begins_replaced, follows_none}
+pub use Rattle.langtag_cldr.specs.Follows.{KeepsLanguage, begins_british, begins_counted, begins_replaced, follows_none, is_plain_byte}
 pub use Rattle.langtag_cldr.specs.Likely.{language_alone, Likely, likely_for, or_else, are_alike_fields, known, or_other, without_region, filled, looked_up, known_fields, add_likely, without_script, field}
 pub use Rattle.langtag_cldr.specs.LikelyFields.{canonical_fields, least, remove_likely_subtags, suffices}
 unfoldable pub use Rattle.langtag_cldr.specs.LikelyFields.{add_likely_subtags}

@@ -10,6 +10,10 @@ begins_replaced first second =
     || (((first == 101) && (second == 110))
     || (((first == 110) && (second == 111)) || (((first == 115) && (second == 103)) || ((first == 122) && (second == 104)))))
 
+-- whether a byte is read as it is written: it is neither `_` nor `*`
+abbrev pub is_plain_byte : ℕ → Bool
+is_plain_byte b = not (b == 42) && not (b == 95)
+
 -- whether the first subtag of a text counts, which means that it is neither empty nor "*"
 abbrev pub begins_counted : List ℕ → Bool
 begins_counted [] = true

@@ -1,13 +1,13 @@
 //! Tags that the registry replaces as a whole (RFC 5646 section 3.1.7), such as `i-klingon` and `zh-hakka`. Most strings
 //! show by their first bytes that they are none of these. What each choice runs many times is inlined.
 ghost use Rattle.std.specs.Prelude.{◌≡◌, ◌≤◌, ◌⊎◌, ◌∷◌, [], ℕ, List, None, true, false, drop, find, length, option_map};
-ghost use Rattle.langtag_scan.specs.Grammar.{after_first, are_alike, before_first, fold_byte, is_letter};
+ghost use Rattle.langtag_scan.specs.Grammar.{after_first, are_alike, before_first, fold_byte, is_letter, list_all};
 ghost use Rattle.langtag_fields.specs.Fields.{preferred_tag};
 ghost use Rattle.langtag_range.specs.Definitions.{basic_text, is_separator};
-ghost use Rattle.langtag_cldr.specs.Definitions.{KeepsLanguage, begins_british, begins_counted, begins_replaced};
+ghost use Rattle.langtag_cldr.specs.Definitions.{KeepsLanguage, begins_british, begins_counted, begins_replaced, is_plain_byte};
 
 use crate::read_text::are_alike;
-use langtag_fields::preferred_tags;
+use langtag_fields::{preferred_tags, preferred_text};
 use langtag_range::is_separator;
 use langtag_scan::{case_insensitive_eq, into_smallcase};
 
@@ -26,14 +26,35 @@ pub(crate) fn replacement(text: &[u8], first: &[u8], rest: &[u8]) -> Option<&'st
     }
 }
 
-/// Returns the Preferred-Value of the whole tag that equals a range.
-#[tactic(auto, unfolding(langtag_fields::specs::Fields::preferred_tag))]
+/// Returns the Preferred-Value of the whole tag that equals a range. Tags are searched by halves: only a range can have `_`
+/// or `*`.
+#[tactic(auto, using(crate::proofs::WholeTags::plain_read_whole))]
 #[inline(never)]
 fn preferred(range: &[u8]) -> Option<&'static [u8]>
     ensures { option_map (λ tag. tag.now) result ≡ preferred_tag (basic_text range.now) }
 {
+    let value = if is_plain(range) {
+        preferred_text(range)
+    } else {
+        preferred_as_read(range)
+    };
+    Some(value?.as_bytes())
+}
+
+/// Returns whether a range has neither `_` nor `*`, so that it is read as it is written.
+fn is_plain(range: &[u8]) -> bool
+    ensures { result ≡ list_all is_plain_byte range.now }
+{
+    range.iter().all(|byte| *byte != b'*' && *byte != b'_')
+}
+
+/// Returns the Preferred-Value of the whole tag that equals a range, which may have `_` and `*`.
+#[tactic(auto, unfolding(langtag_fields::specs::Fields::preferred_tag))]
+fn preferred_as_read(range: &[u8]) -> Option<&'static str>
+    ensures { option_map (λ value. value.now) result ≡ preferred_tag (basic_text range.now) }
+{
     let (_, value) = first_alike(preferred_tags(), range)?;
-    Some(value.as_bytes())
+    Some(value)
 }
 
 /// Returns the first pair whose first string equals a range.

@@ -33,5 +33,5 @@ pub use subtags::{
 pub use tables::FILE_DATE;
 
 // For this repository.
-pub use preferred::{preferred_for, preferred_tags};
+pub use preferred::{preferred_for, preferred_tags, preferred_text};
 pub use prefixes::{is_prefix_of, prefix_of_language, variant_prefixes};

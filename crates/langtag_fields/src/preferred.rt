@@ -74,12 +74,19 @@ pub fn preferred_tag(tag: LangTag<'_>) -> Option<LangTag<'static>>
 }
 
 /// Returns the tag that replaces a whole tag with this string.
-#[tactic(auto, using(crate::proofs::FieldTables::tag_ends, crate::proofs::FieldTables::tag_entries, crate::proofs::WholeTags::preferred_is_tag), unfolding(crate::specs::Fields::preferred_tag))]
+#[tactic(auto, using(crate::proofs::WholeTags::preferred_is_tag), unfolding(crate::specs::Fields::preferred_tag))]
 pub fn preferred_for(text: &[u8]) -> Option<LangTag<'static>>
     ensures { option_map lang_tag_text result ≡ field.preferred_tag text.now }
 {
-    let text = value_beside(&PREFERRED_TAG_KEYS, &PREFERRED_TAGS, text)?;
-    Some(LangTag::from_checked(text))
+    Some(LangTag::from_checked(preferred_text(text)?))
+}
+
+/// Returns the string of the tag that replaces a whole tag with this string.
+#[tactic(auto, using(crate::proofs::FieldTables::tag_ends, crate::proofs::FieldTables::tag_entries), unfolding(crate::specs::Fields::preferred_tag))]
+pub fn preferred_text(text: &[u8]) -> Option<&'static str>
+    ensures { option_map (λ value. value.now) result ≡ field.preferred_tag text.now }
+{
+    value_beside(&PREFERRED_TAG_KEYS, &PREFERRED_TAGS, text)
 }
 
 /// Returns each whole tag that has a Preferred-Value, and this value.

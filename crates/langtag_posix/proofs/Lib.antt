@@ -1,5 +1,6 @@
 pub mod Definitions
 pub mod KeywordNameLaws
+pub mod LastFields
 pub mod PosixLaws
 pub mod PosixNameLaws
 pub mod PosixNameRead

@@ -1,10 +1,10 @@
 -- The tag of a POSIX locale's name: its parts, its length, and the keyword va-posix for an only variant POSIX.
-use Rattle.langtag_scan.proofs.Prelude.{◌≡◌, ℕ, ◌+◌, ◌-◌, ◌≤◌, true, false, List, [], ◌∷◌, ◌++◌, length, take, drop, take_at, drop_at, IsTrue, refl, sym, ap, inl, ◌∙◌, arith, codes, flat_map, append_assoc, append-nil, length-append, Bool, cond, Option, None, Some, IfSome, MatchOption, Bor, IsUtf8, subst, AllByRecursion, and_parts, false_from_ne_true, option_map, option_or, IsUtf8-from_ascii, common_steps}
+use Rattle.langtag_scan.proofs.Prelude.{◌≡◌, ℕ, ◌+◌, ◌-◌, ◌≤◌, true, false, List, [], ◌∷◌, ◌++◌, length, take, drop, take_at, drop_at, IsTrue, refl, sym, ap, inl, ◌∙◌, arith, codes, flat_map, append_assoc, append-nil, length-append, Bool, cond, Option, None, Some, IfSome, MatchOption, Bor, IsUtf8, subst, AllByRecursion, and_parts, false_from_ne_true, option_map, option_or, ◌↔◌, inr, IsUtf8-from_ascii, common_steps}
 use Rattle.langtag_scan.specs.Grammar.{are_alike, is_extension_subtag, is_mark, is_singleton, is_letter, is_digit, is_variant, is_script, ends_of, to_region, Extension, Record, IsWellFormed, extension_flat, private_part_flat, spell, EachRecord, Spells, join, IsNormal, IsTag}
-use Rattle.langtag_scan.proofs.Laws.{ends_in_order, length-spell, hyphenated, hyphenated-append, join-hyphenated, length-join, script_four, IsAscii-spelled, of_script, variant_four}
+use Rattle.langtag_scan.proofs.Laws.{ends_in_order, length-spell, hyphenated, hyphenated-append, join-hyphenated, length-join, script_four, IsAscii-spelled, of_script, variant_four, normal_or_not}
 use Rattle.langtag_text.proofs.Alike.{alike_length}
 use Rattle.langtag_cldr.specs.Definitions.{or_else}
-use Rattle.langtag_posix.proofs.Definitions.{IsAroundPosix, is_posix_alone, posix_extension, posix_replaced, modifier_of, said_script, with_said, with_said_script, with_said_variant, is_script_code, modifier_script, modifier_variant}
+use Rattle.langtag_posix.proofs.Definitions.{HasRegisteredVariants, IsAroundPosix, is_posix_alone, posix_extension, posix_replaced, modifier_of, said_script, with_said, with_said_script, with_said_variant, is_script_code, modifier_script, modifier_variant}
 use Rattle.langtag.specs.Definitions.{with_script, script_text, IsVariants, IsForm}
 use Rattle.langtag.proofs.EditLaws.{script-replaces}
 use Rattle.langtag_place.specs.declared.script.Script.{Script}
@@ -166,6 +166,23 @@ pub form_composed :
     (f g : Record → Record) → ((r : Record) → IsWellFormed r → IsWellFormed (f r)) → (old mid new : List ℕ) → IsForm f old mid → IsForm g mid new → IsForm (λ r. g (f r)) old new
 unfolding IsNormal
 form_composed f g well old mid new first second = grind (arith, common_steps)
+
+-- ---- registered variants
+
+module _ (f : Record → Record) (well : (r : Record) → IsWellFormed r → IsWellFormed (f r)) (old new : List ℕ) (form : IsForm f old new) (result : Bool) (tells : EachRecord new (λ r. IsTrue result ↔ HasRegisteredVariants r)) where
+  told : (r : Record) → Spells r old → IsTrue result ↔ HasRegisteredVariants (f r)
+  told r spells = tells (f r) (well r spells.0, sym (form.parts r spells))
+
+  -- what is told of a form holds of the record that it is a form of
+  pub each_registered : IsTrue result → EachRecord old (λ r. HasRegisteredVariants (f r))
+  each_registered is = λ r spells. (told r spells).0 is
+
+  pub told_registered : ((IsNormal new → ⊥) → IsTrue result) → EachRecord old (λ r. HasRegisteredVariants (f r)) → IsTrue result
+  unfolding IsNormal
+  told_registered others each = elim (normal_or_not old) [
+    | inl (r, spells) ↦ (told r spells).1 (each r spells)
+    | inr never ↦ others (λ normal. never (subst IsNormal (form.kept never) normal))
+  ]
 
 -- ---- a script is ASCII
 

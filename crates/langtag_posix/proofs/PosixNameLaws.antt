@@ -3,9 +3,12 @@ use Rattle.langtag_scan.proofs.Prelude.{◌≡◌, ℕ, ◌≤◌, not, true, fa
 use Rattle.langtag_scan.specs.Grammar.{Alike, fold_byte, are_alike, are_alphanumeric, is_alphanumeric, is_digit, is_letter, is_region, is_script, is_variant, Record, extension_flat, one_flat, private_part_flat, spell, join, is_hyphen, are_alike-decides}
 use Rattle.langtag_scan.proofs.Laws.{drop-join, hyphenated, hyphenated-append, join-hyphenated, alike_region, region_short, script_four, of_region, of_variant}
 use Rattle.langtag_range.specs.Wanted.{hyphened, hyphened_byte}
+use Rattle.langtag_range.specs.Definitions.{ends_locale}
 use Rattle.langtag_posix.specs.PlatformNames.{android_region, has_marked_region, is_short_language}
-use Rattle.langtag_posix.proofs.Definitions.{is_of_language, is_empty, is_script_code, after_variants, marked, is_plus, without_gap, marked_region, platform_behind, platform_read, read_place, region_now}
+use Rattle.langtag_posix.proofs.Definitions.{is_of_language, is_empty, is_script_code, after_variants, marked, is_plus, without_gap, marked_region, platform_behind, platform_read, read_place, region_now, last_fields}
 use Rattle.langtag_text.proofs.Alike.{alike_is, alike_length}
+use Rattle.langtag_text.specs.Alias.{alias_for}
+use Rattle.langtag_posix.proofs.LastFields.{other_field}
 
 -- ---- marks
 
@@ -84,6 +87,11 @@ module _ (p : ℕ → Bool) where
   after_rest [] rest free = refl
   after_rest (b ∷ text) rest free = grind (arith, nat_tests, or_parts, suc, after_rest text rest)
 
+-- what comes before a mark is a part of the text
+pub front_within : (text : List ℕ) → length (before_first ends_locale text) ≤ length text
+front_within [] = omega arith
+front_within (b ∷ text) = grind (arith, nat_tests, take_while-cons (λ byte. not (ends_locale byte)) b text, front_within text)
+
 -- ---- the lengths of what is read
 
 pub script_code_four : (script : List ℕ) → is_script_code script ≡ true → length script ≡ 4
@@ -118,8 +126,8 @@ marked_by text language behind region short found language_is behind_is region_i
 record IsOrdinary (behind : List ℕ) : Type 0 where
   simplified : are_alike (codes "CHS") behind ≡ false
   traditional : are_alike (codes "CHT") behind ≡ false
-  norwegian : are_alike (codes "NO-NY") behind ≡ false
   unmarked : marked_region behind ≡ None
+  field : (after_first is_hyphen behind ≡ []) ⊎ (after_first is_hyphen behind ≡ codes "POSIX")
   first_unmarked : marked_region (before_first is_hyphen behind) ≡ None
   in_order : is_script_code (after_first is_hyphen behind) ≡ false
   gapless : without_gap behind ≡ None
@@ -128,9 +136,9 @@ ordinary : (language behind : List ℕ) → IsOrdinary behind → platform_behin
 ordinary language behind is = rw (is.simplified, is.traditional, is.unmarked, is.in_order) (grind (arith, common_steps))
 
 -- .NET's names for Chinese are no regions, so neither is a region alike one of them
-no_regions : (is_region (codes "CHS") ≡ false) × (is_region (codes "CHT") ≡ false) × (is_region (codes "NO-NY") ≡ false)
+no_regions : (is_region (codes "CHS") ≡ false) × (is_region (codes "CHT") ≡ false)
 unfolding is_region is_digit
-no_regions = (refl, refl, refl)
+no_regions = (refl, refl)
 
 other_than : (text region : List ℕ) → is_region text ≡ false → is_region region ≡ true → are_alike text region ≡ false
 other_than text region other is = grind (arith, alike_is, are_alike-decides, alike_region)
@@ -165,7 +173,7 @@ module _ (region c : List ℕ) (is : is_region region ≡ true) (variant : (c �
   region_behind = record {
     simplified = unlike (codes "CHS") no_regions.0 (omega arith);
     traditional = unlike (codes "CHT") no_regions.1 (omega arith);
-    norwegian = unlike (codes "NO-NY") no_regions.2 (omega arith);
+    field = grind (arith, nat_tests, cut_both);
     unmarked = grind (arith, common_steps, append-nil region, length-append region);
     first_unmarked = rw cut_both.0 (grind (arith, nat_tests));
     in_order = grind (arith, nat_tests, cut_both);
@@ -200,7 +208,8 @@ module _ (a b c : List ℕ) (first : are_alphanumeric a ≡ true) (second : are_
 
   kept : platform_read text ≡ text
   kept =
-      rw (cut_text.0, cut_text.1, is_ordinary.gapless, ordinary a behind is_ordinary) (grind (arith, common_steps, is_ordinary))
+      let field : alias_for last_fields text ≡ None = other_field text (rw cut_text.1 is_ordinary.field) in
+      rw (field, cut_text.0, cut_text.1, is_ordinary.gapless, ordinary a behind is_ordinary) (grind (arith, common_steps, is_ordinary))
 
   -- the language has at most three letters, and the region has no mark
   place_of_language : length a ≤ 3 → is_of_language text ≡ true

@@ -1,6 +1,7 @@
 -- `from_posix` reads the name of a tag as the tag.
-use Rattle.langtag_scan.proofs.Prelude.{◌≡◌, ℕ, ◌+◌, ◌≤◌, not, true, false, Bool, cond, List, [], ◌∷◌, ◌++◌, length, Option, None, Some, IfSome, IsTrue, IsAscii, IsUtf8, ◌<◌, refl, sym, ap, subst, inl, inr, ◌∙◌, ◌⊎◌, arith, and-false, codes, find, flat_map, append_assoc, append-nil, length-append, option_map, unwrap_or, Bor, ◌&&◌, leb, AllByRecursion, after_first, list_all, option_and_then, and_parts, common_steps, nat_tests, IsAscii-append, IsUtf8-from_ascii, IsAscii-cons, IsAscii-nil, lowercase-uppercase, rules, list_any}
+use Rattle.langtag_scan.proofs.Prelude.{◌≡◌, ℕ, ◌+◌, ◌≤◌, not, true, false, Bool, cond, List, [], ◌∷◌, ◌++◌, length, Option, None, Some, IfSome, IsTrue, IsAscii, IsUtf8, ◌<◌, refl, sym, ap, subst, inl, inr, ◌∙◌, ◌⊎◌, arith, and-false, codes, find, flat_map, append_assoc, append-nil, length-append, option_map, unwrap_or, Bor, ◌&&◌, ◌||◌, take, leb, AllByRecursion, after_first, list_all, option_and_then, and_parts, common_steps, nat_tests, IsAscii-append, IsUtf8-from_ascii, IsAscii-cons, IsAscii-nil, lowercase-uppercase, rules, list_any, drop_at}
 use Rattle.langtag_scan.specs.Grammar.{Alike, are_alike, fold_byte, fold_text, are_alike-decides, are_alphanumeric, are_letters, is_alphanumeric, is_digit, is_letter, is_region, is_script, is_variant, language_part, variants_part, Extension, IsWellFormed, Record, extension_flat, one_flat, spell, join, IsNormal, IsTag}
+use Rattle.langtag_scan.proofs.NormalTexts.{spelled_once}
 use Rattle.langtag_scan.proofs.Laws.{alike_primary, alike_region, fold_text-twice, length-fold, extended_three, region_short, hyphenated, length-join, IsAscii-each, alphanumeric_below, normal_or_not, letters_alphanumeric, of_primary, of_region, of_script, of_variant}
 use Rattle.langtag_text.specs.RecommendedCase.{capital_text}
 use Rattle.langtag_text.specs.Fields.{Fields}
@@ -9,7 +10,7 @@ use Rattle.langtag_text.proofs.Alike.{alike_is}
 use Rattle.langtag_range.specs.Definitions.{ends_locale, front_of, is_hash, hyphened}
 use Rattle.langtag_cldr.specs.Definitions.{language_alone, or_else, without_script}
 use Rattle.langtag_likely.proofs.Definitions.{fields_of}
-use Rattle.langtag_posix.proofs.Definitions.{is_empty, modifier_for, modifier_script, modifier_variant, modifiers, names, IsTagOfName, NamesTag, are_keywords, extensions_behind, place_of, place_read, text_of_name, is_at, modifier_of, posix_extension, posix_replaced, with_said, with_said_script, with_said_variant, IsPosixName, IsReadBack, NameParts, ReadsBack, is_likely, is_named, is_of_language, marked, name_modifier, name_parts, name_variant, read_place}
+use Rattle.langtag_posix.proofs.Definitions.{is_empty, modifier_for, modifier_script, modifier_variant, modifiers, names, HasRegisteredVariants, IsReadName, IsTagOfName, NamesTag, are_keywords, extensions_behind, place_of, place_read, text_of_name, is_at, behind_front, has_good_codeset, said_script, modifier_of, posix_extension, posix_replaced, with_said, with_said_script, with_said_variant, IsPosixName, IsReadBack, NameParts, ReadsBack, is_likely, is_named, is_of_language, marked, name_modifier, name_parts, name_variant, read_place}
 use Rattle.langtag_posix.specs.KeywordNames.{key_named, key_names, type_named, type_names}
 use Rattle.langtag_posix.specs.ToPosix.{name_text}
 use Rattle.langtag_posix.proofs.PosixNameLaws.{no_mark, place_kept, read_of_language, IsPlain, after_others, after_rest, alike_text, before_rest, marked_cut, others, place_free, place_hyphened, place_text, spelled_text}
@@ -180,6 +181,18 @@ said_of_place :
     ≡ record (place_record r []) { script = script; variants = one_flat variant; extensions = extensions }
 said_of_place r extensions script variant = grind arith
 
+-- a record without variants has none that is not registered
+none_registered : (script : Option (List ℕ)) (r : Record) → r.variants ≡ [] → HasRegisteredVariants (with_said_script script r)
+none_registered None r none = inr (rw none refl)
+none_registered (Some script) r none = inr (rw none refl)
+
+-- without extensions, no field stands for them
+java_by : (a b : Bool) (place : List ℕ) → cond ((a && false) || (b && false)) (take 5 place) place ≡ place
+java_by true true place = refl
+java_by true false place = refl
+java_by false true place = refl
+java_by false false place = refl
+
 marked_few : (mark : ℕ) (text : List ℕ) → length (marked mark text) ≤ length text + 1
 marked_few mark text = grind arith
 
@@ -241,7 +254,7 @@ module _ (r : Record) (fits : IsWellFormed r) (short : IsShort r) (v m s : List 
 
   is_read : place_read name ≡ read_place place
   unfolding place_read fold_byte
-  is_read = rw (no_extensions, place_is) (grind (arith, nat_tests))
+  is_read = rw (no_extensions, place_is) (java_by _ _ _)
 
   text_is : text_of_name name ≡ read_place place
   unfolding text_of_name
@@ -270,8 +283,23 @@ module _ (r : Record) (fits : IsWellFormed r) (short : IsShort r) (v m s : List 
   place_tag =
       grind (arith, nat_tests, common_steps, fits_place, spelled_read, read_kept, place_hyphened, letters_first, letters_second, of_language, length-fold, region_short, unwrap-capital, length-append, marked_few)
 
+  no_codeset : has_good_codeset (behind_front name) ≡ true
+  no_codeset = rw (front, drop_at place (marked 64 m) (length place) refl) (grind (arith, nat_tests))
+
+  read_name : IsReadName name
+  read_name =
+      grind (arith, common_steps, place_tag, no_codeset, no_extensions, place_is, is_read, text_is, modifier_is, said.no_keywords)
+
+  none_left : (posix_replaced (place_record r v)).variants ≡ []
+  none_left = ap (λ (q : Record). q.variants) variant.replaced
+
   names_tag : NamesTag name
-  names_tag = grind (arith, common_steps, place_tag, no_extensions, place_is, is_read, text_is, modifier_is, said.no_keywords)
+  names_tag = record {
+    read = read_name;
+    variants = λ q spells.
+        let same : place_record r v ≡ q = spelled_once (place_record r v) q fits_place spells.0 (spelled_read ∙ sym text_is ∙ sym spells.1) in
+        subst (λ q. HasRegisteredVariants (with_said_script (said_script name) (posix_replaced q))) same (none_registered (said_script name) (posix_replaced (place_record r v)) none_left);
+  }
 
   said_is : with_said name (place_record r v) ≡ read_record r m extensions
   unfolding is_script

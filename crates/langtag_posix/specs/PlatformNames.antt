@@ -1,8 +1,10 @@
--- The language and the territory of a locale name, as Android's resource folders and old versions of .NET write them, or as
--- Java and ICU do if a field is empty.
-use Rattle.std.specs.Prelude.{ℕ, ◌==◌, ◌&&◌, ◌||◌, Bool, not, List, [], ◌∷◌, ◌++◌, Option, None, Some, codes, is_some, length, map, nat_le, option_map, unwrap_or, if◌then◌else◌}
+-- The language and the territory of a locale name, as Android's resource folders, Windows and old versions of .NET write them,
+-- or as Java and ICU do if a field is empty or is no subtag.
+use Rattle.std.specs.Prelude.{ℕ, ◌==◌, ◌&&◌, ◌||◌, Bool, not, List, [], ◌∷◌, ◌++◌, Option, None, Some, codes, flat_map, is_some, length, map, nat_le, option_map, unwrap_or, if◌then◌else◌}
 use Rattle.langtag_scan.specs.Prelude.{after_first, before_first}
 use Rattle.langtag_scan.specs.Grammar.{are_alike, is_primary, is_region, is_script, is_variant, is_hyphen}
+use Rattle.langtag_text.specs.Words.{words}
+use Rattle.langtag_text.specs.Alias.{Alias, alias_for, aliases_of}
 use Rattle.langtag_range.specs.Definitions.{hyphened}
 use Rattle.langtag_cldr.specs.Definitions.{or_else}
 use Rattle.langtag_posix.specs.Modifiers.{is_empty, is_script_code}
@@ -53,11 +55,19 @@ region_now language region = if are_alike (codes "sr") language && are_alike (co
 abbrev pub script_first : List ℕ → List ℕ → List ℕ → Option (List ℕ)
 script_first language region script = if is_region region && is_script_code script then Some (script ++ 45 ∷ region_now language region) else None
 
--- ---- Java and ICU: no_NO_NY; and _US, en__POSIX and zh_Hant__PINYIN, in which an empty field keeps its mark
+-- ---- last fields of Java and Windows that are no subtags: no_NO_NY, ja_JP_JP and de-DE_phoneb
 
--- Norwegian Nynorsk, which Java names by this variant
-abbrev pub nynorsk : List ℕ → List ℕ → Option (List ℕ)
-nynorsk language behind = if are_alike (codes "no") language && are_alike (codes "NO-NY") behind then Some (codes "nn-NO") else None
+-- the names with such a field and their tags; `POSIX` is another such field
+unfoldable pub last_fields : List Alias
+last_fields =
+    flat_map (λ text. aliases_of (words text))
+    (codes "no-NO-NY nn-NO ja-JP-JP ja-JP-u-ca-japanese th-TH-TH th-TH-u-nu-thai"
+    ∷ codes "de-DE-phoneb de-DE-u-co-phonebk es-ES-tradnl es-ES-u-co-trad ja-JP-radstr ja-JP-u-co-unihan"
+    ∷ codes "zh-CN-stroke zh-CN-u-co-stroke zh-MO-stroke zh-MO-u-co-stroke zh-SG-stroke zh-SG-u-co-stroke"
+    ∷ codes "zh-HK-radstr zh-HK-u-co-unihan zh-MO-radstr zh-MO-u-co-unihan zh-TW-radstr zh-TW-u-co-unihan zh-TW-pronun zh-TW-u-co-zhuyin"
+    ∷ [])
+
+-- ---- Java and ICU: _US, en__POSIX and zh_Hant__PINYIN, in which an empty field keeps its mark
 
 -- the variants behind an empty field
 abbrev pub behind_gap : List ℕ → Option (List ℕ)
@@ -97,11 +107,11 @@ platform_behind language behind =
 abbrev pub platform_text : List ℕ → List ℕ → Option (List ℕ)
 platform_text language behind = if is_short_language language then option_map (λ text. language ++ 45 ∷ text) (platform_behind language behind) else None
 
--- the tag for a text in a form of Android or .NET or with an empty field, or else the text as it stands
+-- the tag for a text in a form of Java, Windows, Android or .NET or with an empty field, or else the text as it stands
 abbrev pub platform_read : List ℕ → List ℕ
 platform_read text =
     unwrap_or
-    (or_else (nynorsk (before_first is_hyphen text) (after_first is_hyphen text))
+    (or_else (alias_for last_fields text)
     (or_else (platform_text (before_first is_hyphen text) (after_first is_hyphen text)) (filled (before_first is_hyphen text) (after_first is_hyphen text))))
     text
 

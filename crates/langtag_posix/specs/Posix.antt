@@ -1,9 +1,10 @@
 -- The tag for a locale name: language[_territory][.codeset][@modifier] (IEEE Std 1003.1, section 8.2), a name as Java and
 -- Android print it, with a script and extensions after `_#`, or a name as in `PlatformNames`. ICU's keywords stand after `@`.
-use Rattle.std.specs.Prelude.{◌≡◌, ℕ, ◌+◌, ◌≤◌, ◌==◌, ◌&&◌, Bool, true, false, List, [], ◌∷◌, ◌++◌, length, not, take, ◌||◌, Option, None, Some, codes, if◌then◌else◌}
-use Rattle.langtag_scan.specs.Prelude.{before_first, after_first, list_any, slice_split, Bor}
-use Rattle.langtag_scan.specs.Grammar.{are_alike, is_hyphen, is_script, Extension, Record, spell, IsTag}
-use Rattle.langtag.specs.Definitions.{with_script, with_variants, IsForm}
+use Rattle.std.specs.Prelude.{◌≡◌, ℕ, ◌+◌, ◌≤◌, ◌==◌, ◌&&◌, ◌⊎◌, Bool, true, false, IsTrue, List, [], ◌∷◌, ◌++◌, drop, length, not, take, ◌||◌, Option, None, Some, codes, if◌then◌else◌}
+use Rattle.langtag_scan.specs.Prelude.{before_first, after_first, list_all, list_any, slice_split, Bor}
+use Rattle.langtag_scan.specs.Grammar.{are_alike, is_alphanumeric, is_hyphen, is_script, EachRecord, Extension, Record, spell, IsTag}
+use Rattle.langtag.specs.Definitions.{with_script, with_variants, IsForm, IsGrandfathered}
+use Rattle.langtag_fields.specs.Registered.{is_registered_variant}
 use Rattle.langtag_range.specs.Definitions.{front_of, is_hash, locale_place}
 use Rattle.langtag_cldr.specs.Definitions.{or_else}
 use Rattle.langtag_posix.specs.KeywordNames.{are_keywords, keywords_text}
@@ -34,16 +35,34 @@ extensions_behind front =
 abbrev pub place_of : List ℕ → List ℕ
 place_of name = if is_empty (locale_place name) && not (is_empty (after_first is_hash (front_of name))) then codes "und" else locale_place name
 
+-- whether a byte may stand in a codeset: an ASCII letter, a digit, `-`, `_` or `.`
+abbrev pub is_codeset_byte : ℕ → Bool
+is_codeset_byte b = is_alphanumeric b || (b == 45 || (b == 95 || b == 46))
+
+-- whether a text is a codeset, which has at least one byte
+abbrev pub is_codeset : List ℕ → Bool
+is_codeset text = not (is_empty text) && list_all is_codeset_byte text
+
+-- the text behind the first `.` or `@` of a name, with this mark
+abbrev pub behind_front : List ℕ → List ℕ
+behind_front name = drop (length (front_of name)) name
+
+-- whether such a text is a modifier, or a dot and a codeset, which ends before the modifier
+abbrev pub has_good_codeset : List ℕ → Bool
+has_good_codeset [] = true
+has_good_codeset (b ∷ text) = is_at b || is_codeset (before_first is_at text)
+
 -- the modifier: the text after the first `@`
 abbrev pub modifier_of : List ℕ → List ℕ
 modifier_of name = after_first is_at name
 
 -- ---- the text of a name: its language and territory, and its extensions
 
--- whether the last field stands for the extension behind it, as Java has it: ja_JP_JP_#u-ca-japanese, th_TH_TH_#u-nu-thai
+-- whether a last field of Java stands for the extension that follows: ja_JP_JP_#u-ca-japanese, th_TH_TH_#u-nu-thai
 abbrev pub is_java_place : List ℕ → List ℕ → Bool
 is_java_place place extensions =
-    (are_alike (codes "ja-JP-JP") place && are_alike (codes "u-ca-japanese") extensions) || (are_alike (codes "th-TH-TH") place && are_alike (codes "u-nu-thai") extensions)
+    (are_alike (codes "ja-JP-u-ca-japanese") place && are_alike (codes "u-ca-japanese") extensions)
+    || (are_alike (codes "th-TH-u-nu-thai") place && are_alike (codes "u-nu-thai") extensions)
 
 abbrev pub without_java_field : List ℕ → List ℕ → List ℕ
 without_java_field place extensions = if is_java_place place extensions then take 5 place else place
@@ -118,14 +137,24 @@ with_said_variant (Some variant) r = with_variants r (variant ∷ [])
 abbrev pub with_said : List ℕ → Record → Record
 with_said name r = with_said_variant (modifier_variant (modifier_of name)) (with_said_script (said_script name) (posix_replaced r))
 
--- a name has a tag: its language and territory, with a language of at most three letters, and its extensions are read as
--- a tag and are not too long. `C` and the empty text are not tags
-pub record NamesTag (name : List ℕ) : Type 0 where
+-- a name is read: its language and territory, with a language of at most three letters, and its extensions are a tag and are
+-- not too long, and its codeset is one. `C` and the empty text are not tags
+pub record IsReadName (name : List ℕ) : Type 0 where
   pub tag : IsTag (text_of_name name)
   pub language : is_of_language (place_read name) ≡ true
+  pub codeset : has_good_codeset (behind_front name) ≡ true
   pub follows : may_follow (place_read name) (extensions_behind (front_of name)) (are_keywords (modifier_of name)) ≡ true
   pub short : length (place_of name) ≤ 255
   pub few : length (text_of_name name) ≤ 260
+
+-- each variant of a record is registered, or the record is that of a grandfathered tag, such as art-lojban
+abbrev pub HasRegisteredVariants : Record → Type 0
+HasRegisteredVariants r = IsGrandfathered (spell r) ⊎ IsTrue (list_all is_registered_variant r.variants)
+
+-- a name has a tag: it is read, and its variants are registered, unless they become a keyword
+pub record NamesTag (name : List ℕ) : Type 0 where
+  pub read : IsReadName name
+  pub variants : EachRecord (text_of_name name) (λ r. HasRegisteredVariants (with_said_script (said_script name) (posix_replaced r)))
 
 -- the tag of a name: its language and territory with its extensions, as a tag, with the script and the variant that the name
 -- gives

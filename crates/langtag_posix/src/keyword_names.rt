@@ -32,8 +32,14 @@ static TYPE_NAMES: [(&str, &str, &str); 17] = [
     ("ks", "quarternary", "level4"), ("ks", "identical", "identic"), ("nu", "traditional", "traditio"),
 ];
 
-/// Returns whether a modifier consists of keywords that can be read.
+/// Returns whether a modifier consists of keywords that can be read. An empty modifier has none.
 pub(crate) fn are_keywords(modifier: &[u8]) -> bool
+    ensures { result ≡ spec.are_keywords modifier.now }
+{
+    !modifier.is_empty() && is_each_keyword(modifier)
+}
+
+fn is_each_keyword(modifier: &[u8]) -> bool
     ensures { result ≡ spec.are_keywords modifier.now }
 {
     modifier

@@ -1,25 +1,40 @@
-//! The language and the territory of a locale name, as Android and .NET write them, or with an empty field. The same
+//! The language and the territory of a locale name, as Java, Windows, Android and .NET write them. The same
 //! call reads all of them, because a program seldom knows where a name comes from. Qualifiers of Android's folders behind
 //! a region are refused, and not dropped: `ldrtl` has the form of a variant, and `land` that of a script. Languages of
 //! more than three letters are refused, because the registry has none, and names such as `german` have their form.
-ghost use Rattle.std.specs.Prelude.{◌≡◌, ◌+◌, ◌≤◌, ◌∷◌, ◌++◌, IfSome, is_some, length, option_map};
+ghost use Rattle.std.specs.Prelude.{◌≡◌, ◌+◌, ◌≤◌, ◌∷◌, ◌++◌, IfSome, is_some, length, map, option_map};
 ghost use Rattle.langtag_scan.specs.Prelude.{before_first};
 ghost use Rattle.langtag_scan.specs.Grammar.{is_hyphen, is_variant};
 ghost use Rattle.langtag_posix.specs.PlatformNames.{hyphened_at, android_region, behind_gap, chinese_script, filled};
 ghost use Rattle.langtag_posix.specs.PlatformNames.{has_marked_region, is_of_language, is_short_language};
-ghost use Rattle.langtag_posix.specs.PlatformNames.{language_or_und, marked, nynorsk, platform_behind, platform_read};
+ghost use Rattle.langtag_text.specs.Alias.{alias_for};
+ghost use Rattle.langtag_posix.specs.PlatformNames.{language_or_und, last_fields, marked, platform_behind, platform_read};
 ghost use Rattle.langtag_posix.specs.PlatformNames.{platform_text, read_place, region_now, without_gap};
 
 use crate::modifiers::is_script_code;
 use langtag_range::split_at_byte;
 use langtag_scan::{case_insensitive_eq, is_primary, is_region, is_script, is_variant};
-use langtag_text::write_pieces;
+use langtag_text::{alias_for, write_pieces};
 
 /// The greatest length of a language and a territory, in bytes.
 pub(crate) const MOST: usize = 255;
 
 /// The greatest length of the string that they are read as, in bytes: `und` may come before them.
 pub(crate) const MOST_READ: usize = 260;
+
+/// The names with a last field that is no subtag, and their tags: those of Java, and those that Windows gives to other
+/// orders of sorting.
+#[rattlefmt::skip]
+static LAST_FIELDS: [(&str, &str); 13] = [
+    ("no-NO-NY", "nn-NO"), ("ja-JP-JP", "ja-JP-u-ca-japanese"), ("th-TH-TH", "th-TH-u-nu-thai"),
+    ("de-DE-phoneb", "de-DE-u-co-phonebk"), ("es-ES-tradnl", "es-ES-u-co-trad"), ("ja-JP-radstr", "ja-JP-u-co-unihan"),
+    ("zh-CN-stroke", "zh-CN-u-co-stroke"), ("zh-MO-stroke", "zh-MO-u-co-stroke"), ("zh-SG-stroke", "zh-SG-u-co-stroke"),
+    ("zh-HK-radstr", "zh-HK-u-co-unihan"), ("zh-MO-radstr", "zh-MO-u-co-unihan"), ("zh-TW-radstr", "zh-TW-u-co-unihan"),
+    ("zh-TW-pronun", "zh-TW-u-co-zhuyin"),
+];
+
+/// The least length of such a name, in bytes.
+const SHORTEST_LAST: usize = 8;
 
 /// Returns the string that a language and a territory are read as, written into `room` or `short`: `zh-TW` for `zh_TW`,
 /// and for `zh-rTW` and `b+zh+TW`, and `und-TW` for `_TW`.
@@ -63,16 +78,17 @@ fn hyphenate(bytes: &mut [u8], mark: u8)
     }
 }
 
-/// Returns the tag for a string in a form of Android or .NET or with an empty field, or else the string as it stands.
+/// Returns the tag for a string in a form of Java, Windows, Android or .NET or with an empty field, or else the string as it
+/// stands.
 fn platform_read<'a>(text: &'a [u8], short: &'a mut [u8; MOST_READ]) -> &'a [u8]
     requires { length text.now ≤ 255 }
     ensures text { result.now ≡ platform_read text.entry.now }
     ensures few { length result.now ≤ 260 }
 {
-    let (language, behind) = split_at_byte(text, b'-');
-    if let Some(tag) = nynorsk(language, behind) {
+    if let Some(tag) = last_field(text) {
         return tag;
     }
+    let (language, behind) = split_at_byte(text, b'-');
     if let Some((first, second)) = platform_text(language, behind) {
         return written(language, first, second, short);
     }
@@ -181,16 +197,26 @@ fn region_now<'a>(language: &[u8], region: &'a [u8]) -> &'a [u8]
     region
 }
 
-/// Returns the tag that Java names `no_NO_NY`.
-fn nynorsk(language: &[u8], behind: &[u8]) -> Option<&'static [u8]>
-    ensures tag { option_map (λ tag. tag.now) result ≡ nynorsk language.now behind.now }
-    ensures few { IfSome result (λ tag. length tag.now ≤ 5) }
+/// Returns the tag for a name whose last field is no subtag: `nn-NO` for `no-NO-NY`.
+#[tactic(auto, using(crate::proofs::LastFields::short_none))]
+fn last_field(text: &[u8]) -> Option<&'static [u8]>
+    ensures tag { option_map (λ tag. tag.now) result ≡ alias_for last_fields text.now }
+    ensures few { IfSome result (λ tag. length tag.now ≤ 20) }
 {
-    if case_insensitive_eq(b"no", language) && case_insensitive_eq(b"NO-NY", behind) {
-        Some(b"nn-NO")
-    } else {
-        None
+    if text.len() < SHORTEST_LAST {
+        return None;
     }
+    match alias_for(last_fields(), text) {
+        Some(tag) => Some(tag.as_bytes()),
+        None => None,
+    }
+}
+
+#[tactic(auto, using(crate::proofs::LastFields::rows))]
+fn last_fields() -> &'static [(&'static str, &'static str)]
+    ensures { map (λ row. record { old = row.0.now; new = row.1.now }) result.now ≡ last_fields }
+{
+    &LAST_FIELDS
 }
 
 /// Returns the string behind a language in a name with an empty field, in one or two parts: `POSIX` for `-POSIX`, and `Hant`

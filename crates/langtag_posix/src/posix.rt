@@ -1,18 +1,20 @@
-//! The tag for a POSIX locale name. A field of a name that is no variant is refused, while ICU puts it into private use
-//! or drops it. Extensions and keywords are never lost in silence: if they cannot become extensions of the tag, the
+//! The tag for a POSIX locale name. A field of a name that is no registered variant is refused, while ICU puts it into
+//! private use or drops it. Extensions and keywords are never lost in silence: if they cannot become extensions of the tag, the
 //! name is refused, or `unknown_modifier` returns the whole modifier, because callers get a single slice of the name.
-ghost use Rattle.std.specs.Prelude.{◌≡◌, ◌+◌, ◌≤◌, ℕ, IsTrue, List, None, Some, IfOk};
+ghost use Rattle.std.specs.Prelude.{◌≡◌, ◌+◌, ◌≤◌, ◌↔◌, ℕ, IsTrue, List, None, Some, IfOk};
 ghost use Rattle.std.specs.Prelude.{IfErr, IfSome, MatchOption, length, option_map};
-ghost use Rattle.langtag_scan.specs.Grammar.{is_variant};
-ghost use Rattle.langtag.specs.Definitions.{SetsPart, SetsVariants, IsVariants, script_text};
+ghost use Rattle.langtag_scan.specs.Grammar.{is_variant, list_all, subtags, EachRecord, IsNormal};
+ghost use Rattle.langtag_fields.specs.Registered.{is_registered_variant};
+ghost use Rattle.langtag.specs.Definitions.{SetsPart, SetsVariants, IsVariants, script_text, variants_text};
 ghost use Rattle.langtag.specs.Definitions.{lang_tag_text, lang_tag_buf_text, Writes, IsForm};
-ghost use Rattle.langtag_posix.specs.Posix.{IsRefusal, IsTagOfName, NamesTag, script_behind, with_said_script, with_said_variant};
+ghost use Rattle.langtag_posix.specs.Posix.{HasRegisteredVariants, IsRefusal, IsTagOfName, NamesTag, script_behind, with_said_script, with_said_variant};
 
 use crate::modifiers::{modifier_script, modifier_variant, script_of};
 use crate::posix_error::PosixError;
 use crate::posix_text::{MOST_NAMED, front_and_modifier, tag_of_name};
 use crate::posix_variant::{MOST_WITH_KEYWORD, tag_with_keyword};
 use langtag::{LangTag, LangTagBuf, Part, tag_of, write_part};
+use langtag_fields::is_registered_variant;
 use langtag_place::{Script, Variants};
 use langtag_range::split_at_byte;
 use langtag_text::write_text;
@@ -25,7 +27,7 @@ const MOST_WITH_SCRIPT: usize = MOST_WITH_KEYWORD + 5;
 /// `language[_territory][.codeset][@modifier]`: `pt-BR` for `pt_BR.UTF-8`, `sr-Latn-RS` for `sr_RS@latin`,
 /// `ca-ES-valencia` for `ca_ES.UTF-8@valencia`.
 ///
-/// The codeset is dropped. These modifiers name a script or a variant, ignoring case:
+/// The codeset is dropped. It consists of ASCII letters, digits, `-`, `_` and `.`, so `No. 5` is no name. These modifiers name a script or a variant, ignoring case:
 ///
 /// - `latin`, `cyrillic`, `devanagari`, `iqtelif`, and the code of a script, such as `Cyrl` and `shaw`;
 /// - `valencia`, `tarask`, `polyton`, `ijekavian`, and `ijekavianlatin`, which names both a script and a variant.
@@ -42,7 +44,10 @@ const MOST_WITH_SCRIPT: usize = MOST_WITH_KEYWORD + 5;
 /// - a script and extensions after `_#`, as Java and Android print them: `zh-Hant-TW` for `zh_TW_#Hant`, and
 ///   `de-DE-u-co-phonebk` for `de_DE_#u-co-phonebk`;
 /// - an empty language or region, as in Java and ICU: `und-US` for `_US`, and `en-u-va-posix` for `en__POSIX`;
-/// - Java's `no_NO_NY`, which becomes `nn-NO`;
+/// - a last field of Java that is no subtag: `nn-NO` for `no_NO_NY`, `ja-JP-u-ca-japanese` for `ja_JP_JP`, and
+///   `th-TH-u-nu-thai` for `th_TH_TH`;
+/// - Windows' names of other sort orders: `de-DE-u-co-phonebk` for `de-DE_phoneb`, and the same for `es-ES_tradnl`, `stroke`,
+///   `radstr` and `pronun`;
 /// - a region after `r`, or subtags after `b+`, as in Android's resource folders: `zh-TW` for `zh-rTW`, and `sr-Latn` for
 ///   `b+sr+Latn`;
 /// - a script after the region, as in .NET Framework: `az-Latn-AZ` for `az-AZ-Latn`, and `sr-Latn-RS` for `sr-SP-Latn`,
@@ -58,7 +63,8 @@ const MOST_WITH_SCRIPT: usize = MOST_WITH_KEYWORD + 5;
 ///
 /// Returns `NoTag` with the name if its language and territory are not a tag, as in `C`, `en_` and the empty string.
 /// `NoTag` is also returned for a language of more than three letters, such as `POSIX`, `german` and `night`, and if other
-/// qualifiers of Android's folders come after a region: `en-rGB-land`. It is also returned if extensions or keywords come
+/// qualifiers of Android's folders come after a region: `en-rGB-land`. The same holds if a variant is not registered, as in
+/// `nl_NL_formal`, unless the tag is grandfathered. It is also returned if extensions or keywords come
 /// after an extension or private use, and if other text than a script and extensions comes after `#`. A language and
 /// territory of more than 255 bytes have no tag, and no tag is made if they have more than 260 bytes with extensions and
 /// keywords.
@@ -122,7 +128,32 @@ pub fn write_from_posix(name: &[u8], buffer: &mut [u8]) -> Option<usize>
     let tag = tag_with_keyword(tag, &mut longer);
     let mut longest = [0; MOST_WITH_SCRIPT];
     let tag = tag_with_script(tag, modifier_script(modifier).or(script), &mut longest);
+    if !has_registered_variants(tag) {
+        return None;
+    }
     Some(write_with_variant(tag, modifier_variant(modifier), buffer))
+}
+
+/// Returns whether each variant of a tag is registered, or the tag is grandfathered.
+fn has_registered_variants(tag: LangTag<'_>) -> bool
+    ensures variants { EachRecord (lang_tag_text tag.entry) (λ r. IsTrue result ↔ HasRegisteredVariants r) }
+    ensures others { (IsNormal (lang_tag_text tag.entry) → ⊥) → IsTrue result }
+{
+    match tag.as_normal() {
+        Some(normal) => all_registered(normal.variants()) || tag.is_grandfathered(),
+        None => true,
+    }
+}
+
+fn all_registered(variants: Variants<'_>) -> bool
+    ensures { result ≡ list_all is_registered_variant (subtags (variants_text variants.entry)) }
+{
+    for variant in variants.iter() {
+        if !is_registered_variant(variant) {
+            return false;
+        }
+    }
+    true
 }
 
 /// Returns the script after `#`.

@@ -14,7 +14,7 @@ use thiserror::Error;
 /// ```
 #[derive(Debug, Drop, Error)]
 pub enum PosixError<'a> {
-    /// The name, which gives no tag: `C`, `POSIX`, the empty string, or a string that is not a tag, such as `en_`.
+    /// The name, which gives no tag: `C`, `POSIX`, the empty string, or a string that is not a tag, such as `en_` and `No. 5`.
     #[error("no locale's name that says a language: {0}")]
     NoTag(&'a str),
     /// Allocation failed.

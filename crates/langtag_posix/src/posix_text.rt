@@ -1,13 +1,13 @@
 //! The string that a locale name is read as, except for its script and its variant: its language and territory, and its
 //! extensions.
 ghost use Rattle.std.specs.Prelude.{◌≡◌, ◌≤◌, ◌++◌, IfSome, MatchOption, length};
-ghost use Rattle.langtag_scan.specs.Grammar.{IsTag};
+ghost use Rattle.langtag_scan.specs.Grammar.{IsTag, list_all};
 ghost use Rattle.langtag.specs.Definitions.{lang_tag_text};
 ghost use Rattle.langtag_text.specs.Output.{Appends, IsCounted};
 ghost use Rattle.langtag_range.specs.Definitions.{front_of};
 ghost use Rattle.langtag_posix.specs.KeywordNames.{are_keywords, keywords_text};
 ghost use Rattle.langtag_posix.specs.PlatformNames.{marked};
-ghost use Rattle.langtag_posix.specs.Posix.{NamesTag, begins_extension, extensions_behind, has_extension, is_java_place};
+ghost use Rattle.langtag_posix.specs.Posix.{IsReadName, begins_extension, extensions_behind, has_extension, has_good_codeset, is_codeset, is_codeset_byte, behind_front, is_java_place};
 ghost use Rattle.langtag_posix.specs.Posix.{is_single, may_follow, modifier_of, place_of, text_of_name, without_java_field};
 
 use crate::keyword_names::{are_keywords, push_keywords};
@@ -22,8 +22,8 @@ pub(crate) const MOST_NAMED: usize = 260;
 
 /// Returns the tag that a name is read as, written into `room`, without the script and the variant that the name gives.
 pub(crate) fn tag_of_name<'a>(name: &[u8], room: &'a mut [u8; MOST_NAMED]) -> Option<LangTag<'a>>
-    ensures tag { MatchOption result (NamesTag name.now → ⊥)
-        (λ tag. NamesTag name.now × (lang_tag_text tag ≡ text_of_name name.now)) }
+    ensures tag { MatchOption result (IsReadName name.now → ⊥)
+        (λ tag. IsReadName name.now × (lang_tag_text tag ≡ text_of_name name.now)) }
     ensures few { IfSome result (λ tag. length (lang_tag_text tag) ≤ 260) }
 {
     let place = place_of(name);
@@ -32,6 +32,9 @@ pub(crate) fn tag_of_name<'a>(name: &[u8], room: &'a mut [u8; MOST_NAMED]) -> Op
     }
     let (mut whole, mut short) = ([0; MOST], [0; MOST_READ]);
     let (front, modifier) = front_and_modifier(name);
+    if !has_good_codeset(behind_front(name, front)) {
+        return None;
+    }
     let extensions = extensions_behind(front);
     let place = without_java_field(read_place(place, &mut whole, &mut short), extensions);
     if !may_follow(place, extensions, are_keywords(modifier)) {
@@ -83,6 +86,47 @@ fn push_posix_extensions(out: &mut Output<'_>, extensions: &[u8])
     }
 }
 
+/// Returns the string behind the front of a name: the codeset and the modifier, with their marks.
+#[tactic(auto, using(crate::proofs::PosixNameLaws::front_within))]
+fn behind_front<'a>(name: &'a [u8], front: &[u8]) -> &'a [u8]
+    requires { front.now ≡ front_of name.now }
+    ensures { result.now ≡ behind_front name.now }
+{
+    &name[front.len()..]
+}
+
+/// Returns whether the string behind a front is a modifier, or a dot and a codeset.
+fn has_good_codeset(behind: &[u8]) -> bool
+    ensures { result ≡ has_good_codeset behind.now }
+{
+    match behind {
+        [] | [b'@', ..] => true,
+        [_, behind @ ..] => {
+            let (codeset, _modifier) = split_at_byte(behind, b'@');
+            is_codeset(codeset)
+        }
+    }
+}
+
+fn is_codeset(text: &[u8]) -> bool
+    ensures { result ≡ is_codeset text.now }
+{
+    !text.is_empty() && are_codeset_bytes(text)
+}
+
+fn are_codeset_bytes(text: &[u8]) -> bool
+    ensures { result ≡ list_all is_codeset_byte text.now }
+{
+    text.iter().all(|byte| is_codeset_byte(*byte))
+}
+
+#[tactic(auto, unfolding(langtag_scan::specs::Class::is_letter, langtag_scan::specs::Class::is_digit))]
+fn is_codeset_byte(byte: u8) -> bool
+    ensures { result ≡ is_codeset_byte byte }
+{
+    byte.is_ascii_alphanumeric() || byte == b'-' || byte == b'_' || byte == b'.'
+}
+
 /// Returns the string before the codeset and the modifier, and the modifier.
 pub(crate) fn front_and_modifier(name: &[u8]) -> (&[u8], &[u8])
     ensures front { result.0.now ≡ front_of name.now }
@@ -131,12 +175,13 @@ fn without_java_field<'a>(place: &'a [u8], extensions: &[u8]) -> &'a [u8]
     }
 }
 
-/// Returns whether the last field of a place stands for the extension behind it, as Java has it.
+/// Returns whether a last field of Java, which has been read, stands for the extension that follows.
 fn is_java_place(place: &[u8], extensions: &[u8]) -> bool
     ensures { result ≡ is_java_place place.now extensions.now }
 {
-    (case_insensitive_eq(b"ja-JP-JP", place) && case_insensitive_eq(b"u-ca-japanese", extensions))
-        || (case_insensitive_eq(b"th-TH-TH", place)
+    (case_insensitive_eq(b"ja-JP-u-ca-japanese", place)
+        && case_insensitive_eq(b"u-ca-japanese", extensions))
+        || (case_insensitive_eq(b"th-TH-u-nu-thai", place)
             && case_insensitive_eq(b"u-nu-thai", extensions))
 }
 

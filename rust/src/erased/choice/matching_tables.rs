@@ -95,8 +95,8 @@ pub(crate) static MAGHREB_INSIDE: [u32; 6] = [
 
 /// The keys, in ascending order, of the regions that are partly in maghreb.
 #[rustfmt::skip]
-pub(crate) static MAGHREB_PARTLY: [u32; 6] = [
-    0x756E, 0x303031, 0x303032, 0x303131, 0x303135, 0x323032,
+pub(crate) static MAGHREB_PARTLY: [u32; 5] = [
+    0x756E, 0x303032, 0x303131, 0x303135, 0x323032,
 ];
 
 /// The keys, in ascending order, of the regions that are wholly in enUS.
@@ -107,9 +107,8 @@ pub(crate) static EN_US_INSIDE: [u32; 10] = [
 
 /// The keys, in ascending order, of the regions that are partly in enUS.
 #[rustfmt::skip]
-pub(crate) static EN_US_PARTLY: [u32; 12] = [
-    0x756E, 0x303031, 0x303033, 0x303039, 0x303139, 0x303231, 0x303239, 0x303335, 0x303537, 0x303631, 0x313432,
-    0x343139,
+pub(crate) static EN_US_PARTLY: [u32; 11] = [
+    0x756E, 0x303033, 0x303039, 0x303139, 0x303231, 0x303239, 0x303335, 0x303537, 0x303631, 0x313432, 0x343139,
 ];
 
 /// The keys, in ascending order, of the regions that are wholly in americas.
@@ -124,8 +123,8 @@ pub(crate) static AMERICAS_INSIDE: [u32; 64] = [
 
 /// The keys, in ascending order, of the regions that are partly in americas.
 #[rustfmt::skip]
-pub(crate) static AMERICAS_PARTLY: [u32; 2] = [
-    0x756E, 0x303031,
+pub(crate) static AMERICAS_PARTLY: [u32; 1] = [
+    0x756E,
 ];
 
 /// The keys, in ascending order, of the regions that are wholly in cnsar.
@@ -136,6 +135,6 @@ pub(crate) static CNSAR_INSIDE: [u32; 2] = [
 
 /// The keys, in ascending order, of the regions that are partly in cnsar.
 #[rustfmt::skip]
-pub(crate) static CNSAR_PARTLY: [u32; 3] = [
-    0x303031, 0x303330, 0x313432,
+pub(crate) static CNSAR_PARTLY: [u32; 2] = [
+    0x303330, 0x313432,
 ];

@@ -5,7 +5,7 @@
 //! runs many times is inlined.
 
 use crate::erased::cldr::read_text::are_alike;
-use crate::erased::fields::preferred_tags;
+use crate::erased::fields::{preferred_tags, preferred_text};
 use crate::erased::range::is_separator;
 use crate::erased::scan::{case_insensitive_eq, into_smallcase};
 
@@ -20,11 +20,29 @@ pub(crate) fn replacement(text: &[u8], first: &[u8], rest: &[u8]) -> Option<&'st
     }
 }
 
-/// Returns the Preferred-Value of the whole tag that equals a range.
+/// Returns the Preferred-Value of the whole tag that equals a range. Tags are searched by halves:
+/// only a range can have `_` or `*`.
 #[inline(never)]
 fn preferred(range: &[u8]) -> Option<&'static [u8]> {
+    let value = if is_plain(range) {
+        preferred_text(range)
+    } else {
+        preferred_as_read(range)
+    };
+    Some(value?.as_bytes())
+}
+
+/// Returns whether a range has neither `_` nor `*`, so that it is read as it is written.
+#[inline]
+fn is_plain(range: &[u8]) -> bool {
+    range.iter().all(|byte| *byte != b'*' && *byte != b'_')
+}
+
+/// Returns the Preferred-Value of the whole tag that equals a range, which may have `_` and `*`.
+#[inline]
+fn preferred_as_read(range: &[u8]) -> Option<&'static str> {
     let (_, value) = first_alike(preferred_tags(), range)?;
-    Some(value.as_bytes())
+    Some(value)
 }
 
 /// Returns the first pair whose first string equals a range.

@@ -40,5 +40,5 @@ pub use subtags::{
 pub use tables::FILE_DATE;
 
 // For this repository.
-pub(crate) use preferred::{preferred_for, preferred_tags};
+pub(crate) use preferred::{preferred_for, preferred_tags, preferred_text};
 pub(crate) use prefixes::{is_prefix_of, prefix_of_language, variant_prefixes};

@@ -92,8 +92,14 @@ pub fn preferred_tag(tag: LangTag<'_>) -> Option<LangTag<'static>> {
 #[inline]
 #[must_use]
 pub fn preferred_for(text: &[u8]) -> Option<LangTag<'static>> {
-    let text = value_beside(&PREFERRED_TAG_KEYS, &PREFERRED_TAGS, text)?;
-    Some(LangTag::from_checked(text))
+    Some(LangTag::from_checked(preferred_text(text)?))
+}
+
+/// Returns the string of the tag that replaces a whole tag with this string.
+#[inline]
+#[must_use]
+pub fn preferred_text(text: &[u8]) -> Option<&'static str> {
+    value_beside(&PREFERRED_TAG_KEYS, &PREFERRED_TAGS, text)
 }
 
 /// Returns each whole tag that has a Preferred-Value, and this value.

@@ -31,9 +31,14 @@ static TYPE_NAMES: [(&str, &str, &str); 17] = [
     ("ks", "quarternary", "level4"), ("ks", "identical", "identic"), ("nu", "traditional", "traditio"),
 ];
 
-/// Returns whether a modifier consists of keywords that can be read.
+/// Returns whether a modifier consists of keywords that can be read. An empty modifier has none.
 #[inline]
 pub(crate) fn are_keywords(modifier: &[u8]) -> bool {
+    !modifier.is_empty() && is_each_keyword(modifier)
+}
+
+#[inline]
+fn is_each_keyword(modifier: &[u8]) -> bool {
     modifier
         .split(|byte| *byte == b';')
         .all(|keyword| is_keyword(keyword))

@@ -1,21 +1,35 @@
 // Generated from crates/langtag_posix/src/platform_names.rt. Do not edit.
 
-//! The language and the territory of a locale name, as Android and .NET write them, or with an
-//! empty field. The same call reads all of them, because a program seldom knows where a name comes
-//! from. Qualifiers of Android's folders behind a region are refused, and not dropped: `ldrtl` has
-//! the form of a variant, and `land` that of a script. Languages of more than three letters are
+//! The language and the territory of a locale name, as Java, Windows, Android and .NET write them.
+//! The same call reads all of them, because a program seldom knows where a name comes from.
+//! Qualifiers of Android's folders behind a region are refused, and not dropped: `ldrtl` has the
+//! form of a variant, and `land` that of a script. Languages of more than three letters are
 //! refused, because the registry has none, and names such as `german` have their form.
 
 use crate::erased::posix::modifiers::is_script_code;
 use crate::erased::range::split_at_byte;
 use crate::erased::scan::{case_insensitive_eq, is_primary, is_region, is_script, is_variant};
-use crate::erased::text::write_pieces;
+use crate::erased::text::{alias_for, write_pieces};
 
 /// The greatest length of a language and a territory, in bytes.
 pub(crate) const MOST: usize = 255;
 
 /// The greatest length of the string that they are read as, in bytes: `und` may come before them.
 pub(crate) const MOST_READ: usize = 260;
+
+/// The names with a last field that is no subtag, and their tags: those of Java, and those that
+/// Windows gives to other orders of sorting.
+#[rustfmt::skip]
+static LAST_FIELDS: [(&str, &str); 13] = [
+    ("no-NO-NY", "nn-NO"), ("ja-JP-JP", "ja-JP-u-ca-japanese"), ("th-TH-TH", "th-TH-u-nu-thai"),
+    ("de-DE-phoneb", "de-DE-u-co-phonebk"), ("es-ES-tradnl", "es-ES-u-co-trad"), ("ja-JP-radstr", "ja-JP-u-co-unihan"),
+    ("zh-CN-stroke", "zh-CN-u-co-stroke"), ("zh-MO-stroke", "zh-MO-u-co-stroke"), ("zh-SG-stroke", "zh-SG-u-co-stroke"),
+    ("zh-HK-radstr", "zh-HK-u-co-unihan"), ("zh-MO-radstr", "zh-MO-u-co-unihan"), ("zh-TW-radstr", "zh-TW-u-co-unihan"),
+    ("zh-TW-pronun", "zh-TW-u-co-zhuyin"),
+];
+
+/// The least length of such a name, in bytes.
+const SHORTEST_LAST: usize = 8;
 
 /// Returns the string that a language and a territory are read as, written into `room` or `short`:
 /// `zh-TW` for `zh_TW`, and for `zh-rTW` and `b+zh+TW`, and `und-TW` for `_TW`.
@@ -50,13 +64,13 @@ fn hyphenate(bytes: &mut [u8], mark: u8) {
     }
 }
 
-/// Returns the tag for a string in a form of Android or .NET or with an empty field, or else the
-/// string as it stands.
+/// Returns the tag for a string in a form of Java, Windows, Android or .NET or with an empty field,
+/// or else the string as it stands.
 fn platform_read<'a>(text: &'a [u8], short: &'a mut [u8; MOST_READ]) -> &'a [u8] {
-    let (language, behind) = split_at_byte(text, b'-');
-    if let Some(tag) = nynorsk(language, behind) {
+    if let Some(tag) = last_field(text) {
         return tag;
     }
+    let (language, behind) = split_at_byte(text, b'-');
     if let Some((first, second)) = platform_text(language, behind) {
         return written(language, first, second, short);
     }
@@ -145,14 +159,20 @@ fn region_now<'a>(language: &[u8], region: &'a [u8]) -> &'a [u8] {
     region
 }
 
-/// Returns the tag that Java names `no_NO_NY`.
-#[inline]
-fn nynorsk(language: &[u8], behind: &[u8]) -> Option<&'static [u8]> {
-    if case_insensitive_eq(b"no", language) && case_insensitive_eq(b"NO-NY", behind) {
-        Some(b"nn-NO")
-    } else {
-        None
+/// Returns the tag for a name whose last field is no subtag: `nn-NO` for `no-NO-NY`.
+fn last_field(text: &[u8]) -> Option<&'static [u8]> {
+    if text.len() < SHORTEST_LAST {
+        return None;
     }
+    match alias_for(last_fields(), text) {
+        Some(tag) => Some(tag.as_bytes()),
+        None => None,
+    }
+}
+
+#[inline]
+fn last_fields() -> &'static [(&'static str, &'static str)] {
+    &LAST_FIELDS
 }
 
 /// Returns the string behind a language in a name with an empty field, in one or two parts: `POSIX`

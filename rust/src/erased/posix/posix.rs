@@ -1,10 +1,11 @@
 // Generated from crates/langtag_posix/src/posix.rt. Do not edit.
 
-//! The tag for a POSIX locale name. A field of a name that is no variant is refused, while ICU puts
-//! it into private use or drops it. Extensions and keywords are never lost in silence: if they
-//! cannot become extensions of the tag, the name is refused, or `unknown_modifier` returns the
-//! whole modifier, because callers get a single slice of the name.
+//! The tag for a POSIX locale name. A field of a name that is no registered variant is refused,
+//! while ICU puts it into private use or drops it. Extensions and keywords are never lost in
+//! silence: if they cannot become extensions of the tag, the name is refused, or `unknown_modifier`
+//! returns the whole modifier, because callers get a single slice of the name.
 
+use crate::erased::fields::is_registered_variant;
 use crate::erased::place::{Script, Variants};
 use crate::erased::posix::modifiers::{modifier_script, modifier_variant, script_of};
 #[cfg(feature = "alloc")]
@@ -28,7 +29,8 @@ const MOST_WITH_SCRIPT: usize = MOST_WITH_KEYWORD + 5;
 /// `language[_territory][.codeset][@modifier]`: `pt-BR` for `pt_BR.UTF-8`, `sr-Latn-RS` for
 /// `sr_RS@latin`, `ca-ES-valencia` for `ca_ES.UTF-8@valencia`.
 ///
-/// The codeset is dropped. These modifiers name a script or a variant, ignoring case:
+/// The codeset is dropped. It consists of ASCII letters, digits, `-`, `_` and `.`, so `No. 5` is no
+/// name. These modifiers name a script or a variant, ignoring case:
 ///
 /// - `latin`, `cyrillic`, `devanagari`, `iqtelif`, and the code of a script, such as `Cyrl` and
 ///   `shaw`;
@@ -51,7 +53,12 @@ const MOST_WITH_SCRIPT: usize = MOST_WITH_KEYWORD + 5;
 ///   `de-DE-u-co-phonebk` for `de_DE_#u-co-phonebk`;
 /// - an empty language or region, as in Java and ICU: `und-US` for `_US`, and `en-u-va-posix` for
 ///   `en__POSIX`;
-/// - Java's `no_NO_NY`, which becomes `nn-NO`;
+/// - a last field of Java that is no subtag: `nn-NO` for `no_NO_NY`, `ja-JP-u-ca-japanese` for
+///   `ja_JP_JP`, and
+///   `th-TH-u-nu-thai` for `th_TH_TH`;
+/// - Windows' names of other sort orders: `de-DE-u-co-phonebk` for `de-DE_phoneb`, and the same for
+///   `es-ES_tradnl`, `stroke`,
+///   `radstr` and `pronun`;
 /// - a region after `r`, or subtags after `b+`, as in Android's resource folders: `zh-TW` for
 ///   `zh-rTW`, and `sr-Latn` for
 ///   `b+sr+Latn`;
@@ -71,10 +78,11 @@ const MOST_WITH_SCRIPT: usize = MOST_WITH_KEYWORD + 5;
 /// Returns `NoTag` with the name if its language and territory are not a tag, as in `C`, `en_` and
 /// the empty string. `NoTag` is also returned for a language of more than three letters, such as
 /// `POSIX`, `german` and `night`, and if other qualifiers of Android's folders come after a region:
-/// `en-rGB-land`. It is also returned if extensions or keywords come after an extension or private
-/// use, and if other text than a script and extensions comes after `#`. A language and territory of
-/// more than 255 bytes have no tag, and no tag is made if they have more than 260 bytes with
-/// extensions and keywords. Returns `Memory` if allocation fails.
+/// `en-rGB-land`. The same holds if a variant is not registered, as in `nl_NL_formal`, unless the
+/// tag is grandfathered. It is also returned if extensions or keywords come after an extension or
+/// private use, and if other text than a script and extensions comes after `#`. A language and
+/// territory of more than 255 bytes have no tag, and no tag is made if they have more than 260
+/// bytes with extensions and keywords. Returns `Memory` if allocation fails.
 ///
 /// ```
 /// # fn main() -> Result<(), Box<dyn std::error::Error>> {
@@ -127,7 +135,29 @@ pub fn write_from_posix(name: &[u8], buffer: &mut [u8]) -> Option<usize> {
     let tag = tag_with_keyword(tag, &mut longer);
     let mut longest = [0; MOST_WITH_SCRIPT];
     let tag = tag_with_script(tag, modifier_script(modifier).or(script), &mut longest);
+    if !has_registered_variants(tag) {
+        return None;
+    }
     Some(write_with_variant(tag, modifier_variant(modifier), buffer))
+}
+
+/// Returns whether each variant of a tag is registered, or the tag is grandfathered.
+#[inline]
+fn has_registered_variants(tag: LangTag<'_>) -> bool {
+    match tag.as_normal() {
+        Some(normal) => all_registered(normal.variants()) || tag.is_grandfathered(),
+        None => true,
+    }
+}
+
+#[inline]
+fn all_registered(variants: Variants<'_>) -> bool {
+    for variant in variants.iter() {
+        if !is_registered_variant(variant) {
+            return false;
+        }
+    }
+    true
 }
 
 /// Returns the script after `#`.

@@ -17,7 +17,7 @@ use core::fmt;
 #[non_exhaustive]
 pub enum PosixError {
     /// The name, which gives no tag: `C`, `POSIX`, the empty string, or a string that is not a tag,
-    /// such as `en_`.
+    /// such as `en_` and `No. 5`.
     NoTag(String),
     /// Allocation failed.
     Memory(AllocError),

@@ -22,6 +22,9 @@ pub(crate) fn tag_of_name<'a>(name: &[u8], room: &'a mut [u8; MOST_NAMED]) -> Op
     }
     let (mut whole, mut short) = ([0; MOST], [0; MOST_READ]);
     let (front, modifier) = front_and_modifier(name);
+    if !has_good_codeset(behind_front(name, front)) {
+        return None;
+    }
     let extensions = extensions_behind(front);
     let place = without_java_field(read_place(place, &mut whole, &mut short), extensions);
     if !may_follow(place, extensions, are_keywords(modifier)) {
@@ -70,6 +73,38 @@ fn push_posix_extensions(out: &mut Output<'_>, extensions: &[u8]) {
     }
 }
 
+/// Returns the string behind the front of a name: the codeset and the modifier, with their marks.
+#[inline]
+fn behind_front<'a>(name: &'a [u8], front: &[u8]) -> &'a [u8] {
+    &name[front.len()..]
+}
+
+/// Returns whether the string behind a front is a modifier, or a dot and a codeset.
+fn has_good_codeset(behind: &[u8]) -> bool {
+    match behind {
+        [] | [b'@', ..] => true,
+        [_, behind @ ..] => {
+            let (codeset, _modifier) = split_at_byte(behind, b'@');
+            is_codeset(codeset)
+        }
+    }
+}
+
+#[inline]
+fn is_codeset(text: &[u8]) -> bool {
+    !text.is_empty() && are_codeset_bytes(text)
+}
+
+#[inline]
+fn are_codeset_bytes(text: &[u8]) -> bool {
+    text.iter().all(|byte| is_codeset_byte(*byte))
+}
+
+#[inline]
+fn is_codeset_byte(byte: u8) -> bool {
+    byte.is_ascii_alphanumeric() || byte == b'-' || byte == b'_' || byte == b'.'
+}
+
 /// Returns the string before the codeset and the modifier, and the modifier.
 #[inline]
 pub(crate) fn front_and_modifier(name: &[u8]) -> (&[u8], &[u8]) {
@@ -113,11 +148,13 @@ fn without_java_field<'a>(place: &'a [u8], extensions: &[u8]) -> &'a [u8] {
     }
 }
 
-/// Returns whether the last field of a place stands for the extension behind it, as Java has it.
+/// Returns whether a last field of Java, which has been read, stands for the extension that
+/// follows.
 #[inline]
 fn is_java_place(place: &[u8], extensions: &[u8]) -> bool {
-    (case_insensitive_eq(b"ja-JP-JP", place) && case_insensitive_eq(b"u-ca-japanese", extensions))
-        || (case_insensitive_eq(b"th-TH-TH", place)
+    (case_insensitive_eq(b"ja-JP-u-ca-japanese", place)
+        && case_insensitive_eq(b"u-ca-japanese", extensions))
+        || (case_insensitive_eq(b"th-TH-u-nu-thai", place)
             && case_insensitive_eq(b"u-nu-thai", extensions))
 }
 

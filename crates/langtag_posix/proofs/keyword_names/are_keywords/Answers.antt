@@ -1,9 +1,7 @@
-use Rattle.langtag_scan.proofs.Prelude.{rules, tests, all_from_yields_List, YieldsList-from_slice_split}
-use Rattle.langtag_posix.specs.KeywordNames.{is_keyword, is_semicolon}
+use Rattle.std.proofs.Common.{arith}
+use Rattle.std.proofs.lemmas.Bool.Decides.{nat_tests}
+use Rattle.langtag_posix.proofs.KeywordNameLaws.{no_keywords}
 use Rattle.langtag_posix.proofs.keyword_names.are_keywords.Goals as goal
 
-pub returns : goal.returns
-returns c =
-    all_from_yields_List is_keyword c.all.new.self _ c.all.result c.all.ensures.ran
-    (YieldsList-from_slice_split _ is_semicolon c.args.modifier.now c.split.ensures.rest c.split.ensures.done c.split.ensures.closure (λ x r q k. search (rules, tests)))
-    (λ x r q k. search rules)
+pub returns-else-not-is_empty : goal.returns-else-not-is_empty
+returns-else-not-is_empty c = grind (arith, nat_tests, no_keywords, c.is_empty.ensures, c.if-not-is_empty.false)

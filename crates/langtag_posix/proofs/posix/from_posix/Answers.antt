@@ -8,7 +8,7 @@ pub tag_of-requires : goal.tag_of-requires
 tag_of-requires c =
     let name = c.as_bytes.result.now in
     let is = rw c.in-Some.is at c.in_ok-bytes.ensures.tag in
-    form_is_tag (with_said name) (said_well_formed name) (text_of_name name) c.in-Some.bytes.items is.0.tag is.1
+    form_is_tag (with_said name) (said_well_formed name) (text_of_name name) c.in-Some.bytes.items is.0.read.tag is.1
 
 pub returns-in-Some-clause-one : goal.returns-in-Some-clause-one
 returns-in-Some-clause-one c = λ form other.

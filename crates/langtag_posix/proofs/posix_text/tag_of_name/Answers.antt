@@ -1,6 +1,7 @@
 use Rattle.std.proofs.Common.{◌∙◌, ◌≡◌, Option, None, length, sym, ap, subst, arith}
 use Rattle.langtag_scan.specs.Grammar.{IsTag}
 use Rattle.langtag_posix.specs.PlatformNames.{is_of_language}
+use Rattle.langtag_posix.specs.Posix.{has_good_codeset}
 use Rattle.langtag_scan.proofs.Prelude.{MatchOption}
 use Rattle.langtag_posix.proofs.TextOfName.{counted_cut, few_counted, cut_follows, cut_name, cut_text}
 use Rattle.langtag_posix.proofs.posix_text.tag_of_name.Goals as goal
@@ -12,6 +13,10 @@ pub returns-then-not-is_of_language-clause-tag : goal.returns-then-not-is_of_lan
 returns-then-not-is_of_language-clause-tag c = λ names.
     let cut = cut_name c.args.name.now _ _ _ _ _ _ c.place_of-place.ensures c.read_place.ensures.text c.front_and_modifier.ensures.front c.front_and_modifier.ensures.modifier c.extensions_behind-extensions.ensures c.without_java_field-place.ensures in
     absurd (cc (ap is_of_language cut.place, names.language, c.is_of_language.ensures, c.if-not-is_of_language.true))
+
+pub returns-then-not-has_good_codeset-clause-tag : goal.returns-then-not-has_good_codeset-clause-tag
+returns-then-not-has_good_codeset-clause-tag c = λ names.
+    absurd (cc (ap has_good_codeset c.behind_front.ensures, c.has_good_codeset.ensures, names.codeset, c.if-not-has_good_codeset.true))
 
 pub returns-then-not-may_follow-clause-tag : goal.returns-then-not-may_follow-clause-tag
 returns-then-not-may_follow-clause-tag c = λ names.
@@ -35,6 +40,7 @@ returns-clause-tag c =
       record {
         tag = subst IsTag text found.0;
         language = cc (ap is_of_language cut.place, c.is_of_language.ensures, c.if-not-is_of_language.false);
+        codeset = cc (ap has_good_codeset c.behind_front.ensures, c.has_good_codeset.ensures, c.if-not-has_good_codeset.false);
         follows = cc (cut_follows _ _ _ _ cut, c.may_follow.ensures, c.are_keywords.ensures, c.if-not-may_follow.false);
         short = omega (arith, short, ap length c.place_of-place.ensures);
         few = omega (arith, ap length (cut_text _ _ _ _ cut), few_counted, c.put_text-len.ensures.counted, few);

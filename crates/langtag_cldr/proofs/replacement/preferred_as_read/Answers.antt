@@ -2,7 +2,7 @@ use Rattle.langtag_scan.proofs.Prelude.{arith, common_steps}
 use Rattle.langtag_fields.specs.Fields.{preferred_tag}
 use Rattle.langtag_range.specs.Definitions.{basic_text}
 use Rattle.langtag_cldr.proofs.WholeTags.{value_found}
-use Rattle.langtag_cldr.proofs.replacement.preferred.Goals as goal
+use Rattle.langtag_cldr.proofs.replacement.preferred_as_read.Goals as goal
 
 pub returns-in_err-value : goal.returns-in_err-value
 unfolding preferred_tag
