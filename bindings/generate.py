@@ -9,6 +9,7 @@
     bindings/js/calls.js                      the functions in JavaScript, over the memory of the WebAssembly module
     bindings/postgresql/langtag.sql           the SQL of the extension, from langtag.sql.in, type.sql.in and order.sql.in
     docs/CALLS.md                             the calls of each language, by task, from bindings/calls.txt
+    the rule of TIES in the references of Rust, Python and JavaScript, which is that of langtag.h
 
 It also compares the numbers that stand in several files (check_numbers.py).
 A function must have LANGTAG_PURE if its result is its only effect.
@@ -21,6 +22,7 @@ from __future__ import annotations
 import pathlib
 import re
 import sys
+import textwrap
 
 import calls_page
 import check_numbers
@@ -172,6 +174,20 @@ def wrong_template(it: Interface, template: str) -> list[str]:
     return [f"{interface.TEMPLATE}: {name}" for name in sorted({*interface.modules(template)} ^ ours)]
 
 
+# ---- which of several tags is chosen
+
+TIES = re.compile(r"(?m)^(/// | \* |    )Among tags at the same distance,(?s:.*?)that you prefer\.\n")
+REFERENCES = {"rust/src/choice.rs": 100, "bindings/python/langtag/__init__.py": 140, "bindings/js/index.ts": 140, "bindings/js/index.d.ts": 140}
+
+
+def with_ties(root: pathlib.Path) -> dict[str, str]:
+    """Returns the references of other languages with the rule that the crate states."""
+    rule = TIES.search((root / "crates/langtag_c/src/choice.rt").read_text(encoding="utf-8"))
+    words = " ".join(rule[0].replace(rule[1], "").split()) if rule else ""
+    wrap = lambda found, width: textwrap.fill(words, width, initial_indent=found[1], subsequent_indent=found[1], break_on_hyphens=False) + "\n"
+    return {name: TIES.sub(lambda found: wrap(found, width), (root / name).read_text(encoding="utf-8")) for name, width in REFERENCES.items()}
+
+
 FILES = {
     "rust/c/src/exports.rs": exports,
     "bindings/c/langtag_verified.map": script,
@@ -196,7 +212,7 @@ def main(root: pathlib.Path, is_check: bool) -> int:
     faults = wrong_template(it, template)
     if not it.functions or not it.structs:
         faults.append("crates/langtag_c has no functions, or no structs")
-    files = {HEADER: header(it, template), sql.WRITTEN: sql.extension(root)} | {name: written(it) for name, written in FILES.items()}
+    files = {HEADER: header(it, template), sql.WRITTEN: sql.extension(root)} | {name: written(it) for name, written in FILES.items()} | with_ties(root)
     faults += put(root, files, is_check)
     faults += put(root, calls_page.pages(root), is_check)  # they read what was written
     faults += calls_page.faults(it, root) + check_numbers.wrong_numbers(root)

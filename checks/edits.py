@@ -111,7 +111,7 @@ def all_words(item):
 def traits():
     """Returns the words of each trait. Its clauses are the contracts of the functions in its impls."""
     texts = (path.read_text() for path in sorted(CRATES.glob("*/src/*.rt")))
-    return {name: words_of(body) for text in texts for name, body in re.findall(r"(?ms)^pub trait (\w+)(.*?)^\}", text)}
+    return {name: words_of(body) for text in texts for name, body in re.findall(r"(?ms)^pub\S* trait (\w+)(.*?)^\}", text)}
 
 
 def trait_of(item):

@@ -602,10 +602,12 @@ LANGTAG_PURE uint32_t langtag_distance(const char *desired, size_t desired_len, 
  * Ranges are tried in order of weight. The first range with a tag at a distance below 16 wins, and its nearest tag is
  * chosen (langtag_distance). If there is no such range, the limit is 50, and after that, lookup is tried (RFC 4647
  * section 3.4). A tag whose longest matching range has the weight 0 is not chosen. A range "*" chooses nothing, so the
- * program's default is used. Among tags at the same distance, the best has the most variants of the range. If several have
- * as many, it is the tag for which lookup removes the fewest subtags from the range, where eng is read as en, then the tag with the
- * range's own code, then a tag with the most likely region of its language, then one of CLDR's paradigm locales, such as es-419, then the first in the list. So list the tags in the
- * order that you prefer.
+ * program's default is used.
+ *
+ * Among tags at the same distance, the best has the most variants of the range. If several have
+ * as many, it is the tag for which lookup removes the fewest subtags from the range, where `eng` is read as `en`. Then it
+ * is the tag with the range's own code, then a tag with the most likely region of its language, then one of CLDR's
+ * paradigm locales, such as `es-419`, and then the first in the list. So list the tags in the order that you prefer.
  *
  * Malformed elements are read leniently: _ is read as a hyphen, everything after ., @ or _# is dropped, and a weight
  * that is not a number counts as 1.

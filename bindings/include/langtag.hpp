@@ -838,6 +838,13 @@ public:
     /* Returns the number of tags. */
     std::size_t size() const noexcept { return tags_.size(); }
 
+    /* Returns how many of the strings are not tags, such as en_US. They are never chosen. */
+    std::size_t refused() const {
+        std::size_t count = 0;
+        for (std::size_t k = 0; k < size(); k++) count += !(*this)[k];
+        return count;
+    }
+
     /* Returns the tag at an index, or std::nullopt if its string is not a tag. */
     std::optional<tag> operator[](std::size_t index) const & {
         return tag::parse(std::string_view(text_).substr(tags_[index].tag.start, tags_[index].tag.len));

@@ -797,9 +797,14 @@ export function unknownModifier(name: string): string | undefined {
 
 /**
  * Returns the best tag for a header by language distance, or the last argument if none is suitable. Malformed elements are read
- * leniently: de_CH is read as de-CH. A tag whose longest matching range has the weight 0 is not chosen, and * chooses nothing. Of several
- * tags at the same distance, the first is chosen, unless one has more of the range's variants, needs fewer subtags removed, has the range's
- * own code, has the most likely region, or is one of CLDR's paradigm locales, such as es-419. Throws InvalidTag if one of the tags is not a tag: a Site throws it
+ * leniently: de_CH is read as de-CH. A tag whose longest matching range has the weight 0 is not chosen, and * chooses nothing.
+ *
+ * Among tags at the same distance, the best has the most variants of the range. If several have as many, it is the tag for which lookup
+ * removes the fewest subtags from the range, where `eng` is read as `en`. Then it is the tag with the range's own code, then a tag with the
+ * most likely region of its language, then one of CLDR's paradigm locales, such as `es-419`, and then the first in the list. So list the
+ * tags in the order that you prefer.
+ *
+ * Throws InvalidTag if one of the tags is not a tag: a Site throws it
  * once, when the program starts. Time is at most proportional to the length of the header times the length of the tags.
  *
  *     bestForHeader("gsw", ["fr", "de-CH"], "fr"); // "de-CH"

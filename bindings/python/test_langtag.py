@@ -193,6 +193,7 @@ class Negotiation(unittest.TestCase):
         for most, wanted in ((-1, []), (0, []), (1, [1]), (2, [1, 0]), (sys.maxsize, [1, 0])):
             self.assertEqual(langtag._native.suitable_for_header("de-CH", ["de", "de-CH"], most), wanted)
             self.assertEqual(langtag._native.suitable_for_ranges(["de-CH"], ["de", "de-CH"], most), wanted)
+        self.assertEqual(langtag.suitable_for_header("de-CH", ["de", "de-CH"], most=2**63), ["de-CH", "de"])
 
 
 class Sites(unittest.TestCase):

@@ -39,10 +39,10 @@ pub use crate::site::Site;
 /// `*` chooses nothing, so the program's default is used.
 ///
 /// Among tags at the same distance, the best has the most variants of the range. If several have as
-/// many, it is the tag for which lookup removes the fewest subtags, where `eng` is read as `en`, then
-/// the tag with the range's own code, then a tag with the most likely region of its language, then
-/// one of CLDR's paradigm locales, such as `es-419`, then the first. So list the tags in the order
-/// that you prefer.
+/// many, it is the tag for which lookup removes the fewest subtags from the range, where `eng` is
+/// read as `en`. Then it is the tag with the range's own code, then a tag with the most likely
+/// region of its language, then one of CLDR's paradigm locales, such as `es-419`, and then the
+/// first in the list. So list the tags in the order that you prefer.
 ///
 /// A malformed element is read as far as possible: `de_CH` as `de-CH`. Time is at most proportional
 /// to the length of the header times the length of the tags. Limit the header to 8 KiB, as most

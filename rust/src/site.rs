@@ -60,7 +60,7 @@ pub struct Site<E> {
 
 impl<E: TagEntry> Site<E> {
     /// Prepares tags, which can be [`LangTag`], `LangTagBuf`, `&str` or `String`. A string that is
-    /// not a tag is never chosen.
+    /// not a tag is never chosen, and [`Site::refused`] counts it.
     #[must_use]
     pub fn new(tags: impl Into<Vec<E>>) -> Site<E> {
         or_abort(Site::try_new(tags))
@@ -89,6 +89,20 @@ impl<E: TagEntry> Site<E> {
     #[must_use]
     pub fn len(&self) -> usize {
         self.tags.len()
+    }
+
+    /// Returns how many of the strings are not tags, such as `en_US`. They are never chosen.
+    ///
+    /// ```
+    /// use langtag::choice::Site;
+    ///
+    /// let site = Site::new(["en_US", "de_DE", "fr"]);
+    /// assert_eq!((site.refused(), site.best_for_header("de-CH, fr")), (2, Some(&"fr")));
+    /// ```
+    #[must_use]
+    pub fn refused(&self) -> usize {
+        let is_refused = |entry: &&E| LangTag::from_bytes(entry.tag_bytes()).is_err();
+        self.tags.iter().filter(is_refused).count()
     }
 
     /// Returns whether there are no tags.

@@ -26,7 +26,7 @@ int main() {
     for (int &count : differ)
         threads.emplace_back([&] { for (int k = 0; k < 200; k++) count += choices_of(site) != alone; });
     for (std::thread &it : threads) it.join();
-    int failures = alone.rfind("4 0 zh-TW zh-Hant nb\n", 0) != 0;
+    int failures = (alone.rfind("4 0 zh-TW zh-Hant nb\n", 0) != 0) + (site.refused() != 1);
     for (int count : differ) failures += count;
     if (failures > 0) std::printf("%s:%d: %d choices differ (alone: %s)\n", __FILE__, __LINE__, failures, alone.c_str());
     return failures > 0;

@@ -13,8 +13,18 @@
 //! other than 0.
 #![tactic(auto)]
 
-use langtag_answers::conclude;
-pub use langtag_answers::{ShowError, run};
+mod answer;
+mod gathered_line;
+mod outcome;
+mod page;
+mod run;
+mod show_error;
+#[cfg(test)]
+mod tests;
+
+use crate::outcome::conclude;
+pub use crate::run::run;
+pub use crate::show_error::ShowError;
 use std::io;
 use std::process::ExitCode;
 

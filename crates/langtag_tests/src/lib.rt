@@ -1,6 +1,5 @@
 //! Tests of the code that Rattle's compilers build, for properties that no contract states. They show that a call
-//! succeeds if no allocation fails, how values are displayed, and how a run of the program ends. `rust/tests` tests
-//! everything else, on the Rust crate.
+//! succeeds if no allocation fails, and how values are displayed. `rust/tests` tests everything else, on the Rust crate.
 //!
 //! `checks/refused` runs the tests and refuses each of their allocations in turn. A call whose allocation fails is made
 //! again.
@@ -11,17 +10,11 @@ mod edits;
 #[cfg(test)]
 mod examples;
 #[cfg(test)]
-mod feed;
-#[cfg(test)]
 mod forms;
 #[cfg(test)]
 mod keywords;
 #[cfg(test)]
-mod program;
-#[cfg(test)]
 mod scan;
-#[cfg(test)]
-mod sheet;
 #[cfg(test)]
 mod support;
 #[cfg(test)]

@@ -1,5 +1,0 @@
-pub mod Lines
-pub mod Report
-pub mod RunError
-pub mod ShowAnswer
-pub mod ShowLaws

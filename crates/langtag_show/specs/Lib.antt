@@ -1,0 +1,5 @@
+pub mod Lines
+pub mod Report
+pub mod ShowAnswer
+pub mod ShowError
+pub mod ShowLaws
