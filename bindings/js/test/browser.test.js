@@ -25,7 +25,7 @@ const PAGES = {
 function fileOf(path) {
     if (path.startsWith("/package/test/")) return new URL(`bindings/js/test/${path.slice(14)}`, ROOT);
     if (path.startsWith("/package/")) return new URL(path.slice(9), PACKAGE);
-    return new URL(`vectors/${path.slice(6)}`, ROOT);
+    return new URL(`vectors/${path.slice(9)}`, ROOT);
 }
 
 const server = createServer((request, response) => {
