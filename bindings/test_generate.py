@@ -20,7 +20,7 @@ import sql
 ROOT = pathlib.Path(sys.argv[1] if sys.argv[1:] else pathlib.Path(__file__).parent.parent).resolve()
 HEADER, TEMPLATE, MODULE = generate.HEADER, interface.TEMPLATE, "bindings/python/langtag/__init__.py"
 CRATE = "crates/langtag_c/src"
-FILES = {HEADER, TEMPLATE, MODULE, "vectors/table.txt", *generate.FILES, *sql.FILES, sql.WRITTEN, *calls_page.FILES, *(name for name, _ in check_numbers.VERSIONS + check_numbers.NUMBERS)}
+FILES = {HEADER, TEMPLATE, MODULE, "vectors/table.txt", *generate.FILES, *generate.REFERENCES, *sql.FILES, sql.WRITTEN, *calls_page.FILES, *(name for name, _ in check_numbers.VERSIONS + check_numbers.NUMBERS)}
 
 # A file, a text in it, the text that replaces it, and what the message has to name.
 PLANTED = [

@@ -39,25 +39,34 @@ static inline void langtag_name_put(langtag_name *to, char byte) {
     to->len++;
 }
 
+/* The bytes of a name, as C's strings have them. C++ may refuse the casts of C. */
+static inline const char *langtag_name_chars(const unsigned char *name) {
+#ifdef __cplusplus
+    return reinterpret_cast<const char *>(name);
+#else
+    return (const char *)name;
+#endif
+}
+
 /* Writes the bytes for which a byte of a packed name stands. */
 static inline void langtag_name_expand(langtag_name *to, unsigned char packed) {
     unsigned char waiting[LANGTAG_NAME_DEPTH] = {packed};
     for (size_t count = 1; count > 0;) {
         const unsigned char *pair = langtag_name_pairs[waiting[count - 1]];
-        if (pair[0] == 0) langtag_name_put(to, (char)waiting[--count]);
+        if (pair[0] == 0) langtag_name_put(to, *langtag_name_chars(waiting + --count));
         else waiting[count - 1] = pair[1], waiting[count++] = pair[0];
     }
 }
 
 /* Returns the name in the row of a key of at least two bytes, or NULL if there is none. It is packed unless it is a language's own name. */
 static inline const unsigned char *langtag_name_row(int kind, const char *key, size_t len) {
-    size_t group = 0;
-    for (size_t k = 0; k < 2; k++) group = 36 * group + (size_t)(key[k] <= '9' ? key[k] - '0' : (key[k] | 0x20) - 'a' + 10);
+    int group = 0;
+    for (size_t k = 0; k < 2; k++) group = 36 * group + (key[k] <= '9' ? key[k] - '0' : (key[k] | 0x20) - 'a' + 10);
     const unsigned char *row = langtag_name_rows + langtag_name_index[group], *end = langtag_name_rows + langtag_name_index[group + 1];
     for (; row < end; row++) {
         if (*row != kind) continue;
         if (kind <= LANGTAG_NAME_TWO_LETTERS) return row + 1;
-        if (strncmp((const char *)row + 1, key + 2, len - 2) == 0 && row[len - 1] == ' ') return row + len;
+        if (strncmp(langtag_name_chars(row + 1), key + 2, len - 2) == 0 && row[len - 1] == ' ') return row + len;
     }
     return NULL;
 }
@@ -169,7 +178,7 @@ static inline const char *langtag_name_autonym(const char *form, size_t len) {
     for (size_t k = 0; k < sizeof lens / sizeof *lens; k++) {
         const bool is_asked = lens[k] > 0 && lens[k] < LANGTAG_NAME_ROOM;
         const unsigned char *name = is_asked ? langtag_name_row(LANGTAG_NAME_OWN, key, lens[k]) : NULL;
-        if (name) return (const char *)name;
+        if (name) return langtag_name_chars(name);
     }
     return NULL;
 }

@@ -297,8 +297,12 @@ class Sqlite(unittest.TestCase):
         self.assertLess(after - before, 20_000)
         for call in (*calls, *(f"{name}('de-x-a' || k, 'de-x-a' || k)" for name in ("group_best_for_header", "best_for_ranges", "match_for_header"))):
             asked = f"SELECT '=' || quote(langtag_{call}) FROM (SELECT replace(hex(zeroblob(11000)), '00', '-abcdefgh') AS k);\n"
-            said, complaint = sqlite(asked + "".join(f"PRAGMA hard_heap_limit = {limit};\n{asked}" for limit in range(1_800_000, 300_000, -10_000)))
-            answers, errors = re.findall("(?m)^=.*$", said), re.findall(r"line \d+: ([a-z ]*[a-z])", complaint)
+            limits, answers, errors = [0, *range(1_800_000, 300_000, -10_000)], [], []  # 0 is no limit
+            while len(answers) + len(errors) < len(limits):  # the shell ends if memory of its own is refused: then another one goes on
+                said, complaint = sqlite("".join(f"PRAGMA hard_heap_limit = {limit};\n{asked}" for limit in limits[len(answers) + len(errors):]))
+                told = re.findall("(?m)^=.*$", said), re.findall(r"(?:line \d+|Error): ([a-z ]*[a-z])", complaint)
+                self.assertTrue(any(told), call)
+                answers, errors = answers + told[0], errors + told[1]
             self.assertEqual((len(set(answers)), set(errors), len(answers) + len(errors)), (1, {"out of memory"}, 151), call)
 
 

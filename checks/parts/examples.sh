@@ -9,14 +9,14 @@ negotiate() {
 check "C: the HTTP example builds" negotiate
 check "C: the HTTP example answers each header" env -C examples PROGRAM="$work/built/negotiate" python3 -m unittest test_examples
 
-check "Flask, Django and films: what a reader and a viewer pick" env -C examples python3 -m unittest test_sites
-python3 -c 'import flask' 2>/dev/null || not_run "Python: the Flask site" "Flask is not there"
+# Debian's modules are for Debian's own Python.
+python_with() { for it in python3 /usr/bin/python3; do "$it" -c "import $1" 2>/dev/null && echo "$it" && return; done; false; }
+check "Flask, Django and films: what a reader and a viewer pick" env -C examples "$(python_with flask || echo python3)" -m unittest test_sites
+python_with flask >"$work/log" || not_run "Python: the Flask site" "Flask is not there"
 
 check "gettext reads the messages of the parents of a locale" env -C examples python3 -m unittest test_gettext
 
-# Debian's rdflib is for Debian's own Python.
-rdflib_python() { for it in python3 /usr/bin/python3; do "$it" -c 'import rdflib' 2>/dev/null && echo "$it" && return; done; false; }
-needs rdflib_python "there is no rdflib (in Debian: apt-get install python3-rdflib)" "RDF literals beside rdflib" env -C examples "$(rdflib_python)" -m unittest test_literals
+needs 'python_with rdflib >"$work/log"' "there is no rdflib (in Debian: apt-get install python3-rdflib)" "RDF literals beside rdflib" env -C examples "$(python_with rdflib)" -m unittest test_literals
 
 sqlite_make() { make -s -B -C sqlite LANGTAG_ARCHIVE="$work/usr/lib/liblangtag_verified.a" LANGTAG_INCLUDE="$work/usr/include" "$@"; }
 sqlite_extension() {

@@ -53,10 +53,8 @@ template <class Site> using asked = decltype(std::declval<Site>().best_for_heade
 template <class Site> using indexed = decltype(std::declval<Site>()[0]);
 template <class Site> using asked_for_match = decltype(std::declval<Site>().match_for_header("de"));
 template <class Site> using asked_for_ranges = decltype(std::declval<Site>().best_for_ranges({"de"}));
-template <class Site> using asked_for_all = decltype(std::declval<Site>().suitable_for_header("de"));
-template <class Site> using asked_for_all_of_ranges = decltype(std::declval<Site>().suitable_for_ranges({"de"}));
 template <template <class> class Call> constexpr bool is_of_sites = is_taken<Call, langtag::site &, const langtag::site &> && is_refused<Call, langtag::site>;
-static_assert(is_of_sites<asked> && is_of_sites<indexed> && is_of_sites<asked_for_match> && is_of_sites<asked_for_ranges> && is_of_sites<asked_for_all> && is_of_sites<asked_for_all_of_ranges>);
+static_assert(is_of_sites<asked> && is_of_sites<indexed> && is_of_sites<asked_for_match> && is_of_sites<asked_for_ranges>);
 
 static void check_views() {
     CHECK(!tag::parse({}) && !langtag::range::parse({}) && langtag::viable_len({}) == 0 && langtag::stop_len({}) == 0);
@@ -72,7 +70,7 @@ static void check_views() {
           cut->with(langtag::part::variants, {}) == "ja" && langtag::quoted({}) == "``" && !langtag::owned_tag::parse(std::string_view()));
     const std::string_view none[] = {{}, "de", {}};
     const langtag::site site(none);
-    CHECK(site.best_for_header("de")->text() == "de" && langtag::suitable_for_ranges(none, none).size() == 1 && langtag::suitable_for_header("de", {"de-CH", "de", "de-AT"}, 2).size() == 2 && site.suitable_for_ranges(none, 0).empty() && !langtag::accept_language({}).look_up({*cut}));
+    CHECK(site.best_for_header("de")->text() == "de" && langtag::suitable_for_ranges(none, none).size() == 1 && langtag::suitable_for_header("de", {"de-CH", "de", "de-AT"}, 2).size() == 2 && langtag::suitable_for_ranges(none, none, 0).empty() && !langtag::accept_language({}).look_up({*cut}));
     const std::vector<std::string_view> nothing, many(150, "de");
     const langtag::site empty(nothing);
     CHECK(!site.best_for_header({}) && !empty.best_for_header({}) && langtag::suitable_for_header({}, nothing).empty() &&
