@@ -82,6 +82,9 @@ valid_record_alike r q like is = record {
 pub valid_alike : (t u : List ℕ) → Alike t u → IsValid t → IsValid u
 unfolding IsValid
 valid_alike t u alike (tag, inl old) = (alike_tag t u alike tag, inl (grandfathered_alike t u alike old))
-valid_alike t u alike (tag, inr each) = (alike_tag t u alike tag, inr (λ q spells.
-    let like = alike_parts u t (sym alike) q spells in
-    valid_record_alike like.0 q (sym like.2) (each like.0 like.1)))
+valid_alike t u alike (tag, inr each) = (
+  alike_tag t u alike tag,
+  inr (λ q spells.
+      let like = alike_parts u t (sym alike) q spells in
+      valid_record_alike like.0 q (sym like.2) (each like.0 like.1)),
+)

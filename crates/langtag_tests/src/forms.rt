@@ -91,7 +91,7 @@ const ANSWERS: &[(&str, &str)] = &[
     ("from_parts|es-419-1996", "es-419"),
     ("from_parts|fr", "fr"),
     ("canonical|iw-BU-heploc", "he-MM-alalc97"),
-    ("canonical|zh-yue-b-cc-A-dd", "yue-A-dd-b-cc"),
+    ("canonical|zh-yue-b-cc-A-dd", "yue-a-dd-b-cc"),
     ("canonical|x-a", "x-a"),
     ("extlang_form|hak-CN", "zh-hak-CN"),
     ("maximized|zh-TW-x-a", "zh-Hant-TW-x-a"),
