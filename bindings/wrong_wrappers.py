@@ -215,7 +215,7 @@ langtag_pg.c registry: `|| memcmp(it->array, array, VARSIZE(array)) != 0`` ;; `i
 langtag_pg.c registry: entries[k] = all->entries[`some[k]`k`]; ;; all.places[all.count] = `k`all.count`;
 langtag_pg.c registry: it->tags = tags_of(`it->``array);
 langtag_pg.c types: (int)`LEN(value`Min(LEN(value), 2000`)); PG_RETURN_BYTEA_P ;; `langtag_recommend(VARDATA(tag), len);``
-langtag_pg.c types: == LANGTAG_NONE) `PG_RETURN_NULL(`refuse_tag("", 0`); ;; BYTES(b), LEN(b)) `>`<`= 0 ? a : b
+langtag_pg.c types: == LANGTAG_NONE) `PG_RETURN_NULL(`refuse_tag(NULL, "", 0`); ;; BYTES(b), LEN(b)) `>`<`= 0 ? a : b
 langtag_pg.c types: int size = `pg_mblen(text)`1`; ;; if (`len > 0 && ``langtag_kind
 langtag_pg.c parts: `while (next(BYTES(tag), LEN(tag), &rest, &one)`for (int k = 0; k < 256 && next(BYTES(tag), LEN(tag), &rest, &one); k++`) {
 langtag_pg.c parts: primary_of(tag, &rest); return span_or_null(fcinfo, BYTES(tag), `rest`primary_of(tag, &rest)`)

@@ -60,10 +60,11 @@ static inline void langtag_name_expand(langtag_name *to, unsigned char packed) {
 
 /* Returns the name in the row of a key of at least two bytes, or NULL if there is none. It is packed unless it is a language's own name. */
 static inline const unsigned char *langtag_name_row(int kind, const char *key, size_t len) {
+    const unsigned char *row, *end;
     int group = 0;
     for (size_t k = 0; k < 2; k++) group = 36 * group + (key[k] <= '9' ? key[k] - '0' : (key[k] | 0x20) - 'a' + 10);
-    const unsigned char *row = langtag_name_rows + langtag_name_index[group], *end = langtag_name_rows + langtag_name_index[group + 1];
-    for (; row < end; row++) {
+    end = langtag_name_rows + langtag_name_index[group + 1];
+    for (row = langtag_name_rows + langtag_name_index[group]; row < end; row++) {
         if (*row != kind) continue;
         if (kind <= LANGTAG_NAME_TWO_LETTERS) return row + 1;
         if (strncmp(langtag_name_chars(row + 1), key + 2, len - 2) == 0 && row[len - 1] == ' ') return row + len;
