@@ -4,11 +4,11 @@ import re
 from crates import OF_C, WITH_DATA
 
 INLINED = 40  # In a module with data, a function with at most this many tokens is inlined across crates.
-# Longer functions that are inlined, too, by file: they are called for each tag of a site and each range of a header.
-OFTEN_CALLED = {"prepared_form": {"form", "has_language_of", "is_far_from"}}
-# Called for each tag of a site. In a program that is built as one unit, LLVM would not inline it, and a choice would take 1.3 times the
-# instructions.
-INLINED_ALWAYS = {"known_at": {"improve_entry"}}
+# Longer functions that are inlined, too, by file: they are called for each tag of a site and each range of a header, or for each keyword.
+OFTEN_CALLED = {"alias": {"key_alias_for"}, "prepared_form": {"form", "has_language_of", "is_far_from"}}
+# LLVM does not always inline these. `improve_entry` is called for each tag of a site: in a program that is built as one unit, a choice would
+# take 1.3 times the instructions. The loop of `put_pieces` is unrolled where the number of pieces is known, which is 8 % of `maximized`.
+INLINED_ALWAYS = {"known_at": {"improve_entry"}, "write": {"put_pieces"}}
 
 FORMS = [
     # The C library has its exports in a separate file, rust/c/src/exports.rs.

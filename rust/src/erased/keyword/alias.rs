@@ -59,6 +59,7 @@ fn transform_value<'a>(key: &[u8], value: &'a str) -> &'a str {
 }
 
 /// Returns the replacement of a type of a key, if there is one.
+#[inline]
 fn key_alias_for(rows: &'static [KeyAliases], key: &[u8], text: &[u8]) -> Option<&'static str> {
     let mut rows = rows;
     while let [(of, types), others @ ..] = rows {

@@ -26,7 +26,7 @@ pub fn write_text(text: &[u8], buffer: &mut [u8]) -> usize {
 }
 
 /// Writes as much of some pieces as fits into a buffer, and returns their total length.
-#[inline]
+#[inline(always)]
 fn put_pieces(pieces: &[&[u8]], buffer: &mut [u8]) -> usize {
     let mut out = Output::new(buffer);
     for piece in pieces {
