@@ -93,7 +93,8 @@ matching.rs rows: found(Ranges(ranges), tags).unwrap_or(`default`tags.first().un
 choice.rs choice: &found[..count``.min(1)`]
 site.rs choice: found.into_iter().``rev().`map(
 too_short.rs rows: buffer.get(..len).ok_or(TooShort { needed: `len`buffer.len()` })?
-methods.rs methods: choice::distance(`self, supported.into()`supported.into(), self`) ;; tag.validate().`is_ok`is_err`()
+methods.rs rows: choice::distance(`self, supported.into()`supported.into(), self`)
+methods.rs methods: tag.validate().`is_ok`is_err`()
 shown.rs methods: Kind::Grandfathered => "`grandfathered`normal`"
 walks.rs habits: `self.iter()`{ let mut walk = self.iter(); walk.next(); walk }`
 oxilangtag.rs oxilangtag: `Some(&*self.tag).filter(|tag| begins_private_use(tag))`None` ;; `tag.make_recommended_case();``
@@ -145,7 +146,6 @@ native/list.c Negotiation: count <= sizeof list->few` / sizeof *list->few``
 native/list.c Negotiation.test_best: `memcpy(more, list->text, list->len);``
 native/list.c WrongCalls: `|| !tag->text.owner``) {
 native/names.c names.txt: `langtag_name_keep_language(tag.data, tag.len, data);``
-native/names.c names.txt: `langtag_recommend(data, len);``
 native/text.c Kinds.test_subclasses_of_texts: `PyBytes_FromStringAndSize(data, len`PyBytes_FromString(data`);
 """),
     "JavaScript": ("bindings/js", r"""
@@ -185,7 +185,7 @@ sqlite_langtag.c test_memory: made, len, `sqlite3_free`SQLITE_TRANSIENT` ;; `sql
 sqlite_langtag.c choices.txt: (int)best` - 1``, text_of
 sqlite_langtag.c table.txt: return `langtag_cmp(langtag_bytes(a), (size_t)a_len, langtag_bytes(b), (size_t)b_len`memcmp(a, b, (size_t)(a_len < b_len ? a_len : b_len)`);
 sqlite_langtag.c table.txt: kind `!= LANGTAG_NONE`== LANGTAG_NORMAL` && span->len > 0
-sqlite_langtag.c table.txt: (len <= sizeof room) {`` langtag_recommend(room, len);`
+sqlite_langtag.c names.txt: (len <= sizeof room) {`` langtag_recommend(room, len);`
 sqlite_langtag.c table.txt: &invalid) `== LANGTAG_VALID`!= LANGTAG_VALIDITY_NONE`; ;; made, len`` < 512 ? len : 512`, sqlite3_free
 sqlite_langtag.c table.txt: span.len`` < 255 ? span.len : 255`, SQLITE_TRANSIENT
 sqlite_langtag.c table.txt: {"private_use", &parts->`private_use`extensions`} ;; langtag_parse(tag.at, `tag.len`strlen(tag.at)`, &

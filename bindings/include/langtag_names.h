@@ -2,7 +2,7 @@
  * Names of tags from Unicode's CLDR and IANA's registry, for the wrappers of the C library: langtag_names.hpp, PostgreSQL and SQLite. The
  * functions do not allocate. They are not proved: tests compare them with the other languages.
  *
- * Each function takes the form of a tag that langtag_name_form writes, in the recommended case, so call langtag_recommend next.
+ * Each function takes the form of a tag that langtag_name_form writes. It is in the recommended case.
  */
 #ifndef LANGTAG_NAMES_H
 #define LANGTAG_NAMES_H

@@ -17,7 +17,7 @@ namespace langtag {
  * "Himachali languages" for him. A subtag without a name is shown as it is. Extensions and private use are left out, but a tag that is only
  * private use is shown as it is. */
 inline std::string describe(const tag &tag) {
-    std::string form = recommended(written_by(langtag_name_form, tag.text()));
+    std::string form = written_by(langtag_name_form, tag.text());
     langtag_name_keep_language(tag.text().data(), tag.text().size(), &form[0]);
     return written_by(langtag_name_describe, form);
 }
@@ -26,7 +26,7 @@ inline std::string describe(const tag &tag) {
  * CLDR has a name for the language in the tag's script or region, it returns that name. The script is the tag's own, or the likely script
  * of the language in the region. If there is no name in that script, it returns std::nullopt. */
 inline std::optional<std::string_view> autonym(const tag &tag) {
-    const std::string form = recommended(written_by(langtag_name_form, tag.text()));
+    const std::string form = written_by(langtag_name_form, tag.text());
     const char *name = langtag_name_autonym(form.data(), form.size());
     if (name == nullptr) return std::nullopt;
     return name;

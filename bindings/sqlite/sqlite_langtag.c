@@ -169,7 +169,6 @@ static char *named_form(sqlite3_context *context, text tag, size_t *len) {
     char *form = sqlite3_malloc64(*len);
     if (lacks(context, form)) return NULL;
     langtag_name_form(tag.at, tag.len, form, *len);
-    langtag_recommend(form, *len);
     return form;
 }
 

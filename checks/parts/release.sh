@@ -85,7 +85,8 @@ npm_package() {
     away 'mkdir empty && cd empty && npm install --offline --no-audit --no-fund --loglevel=error ../../dist/langtag-verified-*.tgz >&2
         cp ../../first.mjs . && node first.mjs; cp -r node_modules/langtag-verified ../../npm'
 }
-npm_pack() { cd "$work/npm" && diff <(npm pack --ignore-scripts --dry-run --json 2>/dev/null | sed -n 's/.*"path": "\(.*\)",/\1/p' | sort) <(find . -type f | cut -c3- | sort); }
+# npm runs `prepare` even if it is told to run no script, and a package has no `build`.
+npm_pack() { cd "$work/npm" && npm pkg delete scripts.prepare && diff <(npm pack --ignore-scripts --dry-run --json 2>/dev/null | sed -n 's/.*"path": "\(.*\)",/\1/p' | sort) <(find . -type f | cut -c3- | sort); }
 npm_bundled() {
     away 'mkdir -p node_modules && cp -r ../npm node_modules/langtag-verified; cp ../first.mjs .
         esbuild first.mjs --bundle --format=esm --outfile=esm.mjs --log-level=error; esbuild first.mjs --bundle --outfile=iife.cjs --log-level=error

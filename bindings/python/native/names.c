@@ -16,7 +16,6 @@ static PyObject *named_form(const Text *tag) {
     char *data = PyBytes_AsString(form);
     LET_GO(tag->len);
     langtag_name_form(tag->data, tag->len, data, len);
-    langtag_recommend(data, len);
     TAKE_BACK();
     return form;
 }

@@ -59,6 +59,12 @@ some_written key value old before after len w normal zero = absurd (omega (arith
 pub some_canonical : (old new : List ℕ) → IsTag old → IsCanonicalForm old new → 1 ≤ length new
 some_canonical old new tag is = some_tag new (canonical.canonical_is_tag old new tag is)
 
+-- so the length that is written is not 0
+pub canonical_written : (old before after : List ℕ) (len : ℕ) → WritesWhole (IsCanonicalForm old) before after len → IsTag old → len ≡ 0 → ⊥
+canonical_written old before after len w tag zero =
+    let some = some_canonical old w.text tag w.is_so in
+    absurd (omega (arith, zero, w.whole, some))
+
 pub some_maximal : (old new : List ℕ) → IsTag old → IsMaximalForm old new → 1 ≤ length new
 some_maximal old new tag is = some_tag new (form_is_tag maximal_record maximal_well_formed old new tag is)
 
@@ -72,6 +78,11 @@ pub some_named : (name new : List ℕ) → NamesTag name → IsTagOfName name ne
 some_named name new names is =
     let tag = form_is_tag (with_said name) (said_well_formed name) (text_of_name name) is.form names.read.tag is.said in
     some_tag new (alike_tag is.form new (alike_of_recommended is.form new is.case) tag)
+
+pub named_written : (name before after : List ℕ) (len : ℕ) → Writes (IsTagOfName name) before after len → NamesTag name → len ≡ 0 → ⊥
+named_written name before after len w names zero =
+    let some = some_named name w.text names w.is_so in
+    absurd (omega (arith, zero, w.whole, some))
 
 pub some_locale : (old new : List ℕ) → IsWholeForm old (Some new) → 1 ≤ length new
 some_locale old new is = let (r, fits, locale, same) = whole_of_record old new is in some_tag new (subst IsTag (sym same) (locale_tag r fits locale))

@@ -27,7 +27,7 @@ use langtag_registry::{is_canonical, write_canonical};
 /// before them.
 ///
 /// Returns 0 and writes nothing if the string is not a tag.
-#[tactic(auto, using(crate::proofs::WrittenTexts::some_canonical))]
+#[tactic(auto, using(crate::proofs::WrittenTexts::canonical_written))]
 #[unsafe(no_mangle)]
 pub extern "C" fn langtag_canonical(bytes: &[u8], buffer: &mut [u8]) -> usize
     ensures canonical { IsTag bytes.now → WritesWhole (IsCanonicalForm bytes.now) buffer.old buffer.new result }

@@ -30,7 +30,7 @@ use langtag_posix::{unknown_modifier, write_from_posix, write_to_posix};
 /// Android folder come after the region (en-rGB-land). Also if a variant is not registered and the tag is not grandfathered
 /// (nl_NL_formal), or if what follows the dot is no codeset (No. 5). Also if what follows # is no script and no extension, or if
 /// extensions would come after an extension or private use.
-#[tactic(auto, using(crate::proofs::WrittenTexts::some_named))]
+#[tactic(auto, using(crate::proofs::WrittenTexts::named_written))]
 #[unsafe(no_mangle)]
 pub extern "C" fn langtag_from_posix(name: &[u8], buffer: &mut [u8]) -> usize
     ensures tag { NamesTag name.now → Writes (IsTagOfName name.now) buffer.old buffer.new result }
