@@ -34,12 +34,13 @@ TABLES = [
     (0, 3, "Every call is documented: for Rust by `cargo doc --open`, for C in [langtag.h](../bindings/include/langtag.h), and for C++ in\n[langtag.hpp](../bindings/include/langtag.hpp)."),
     (3, 5, "Every call is documented: for Python by `help(langtag)`, and for JavaScript in [index.d.ts](../bindings/js/index.d.ts)."),
 ]
-OF_THE_LANGUAGE = {"==", "<", "=", "Hash", "std::hash", "to_ascii_lowercase", "lower", "lower(tag::text)", "COLLATE langtag"}  # what the language itself has
+OF_THE_LANGUAGE = {"==", "<", "=", "Hash", "hash", "std::hash", "to_ascii_lowercase", "lower", "lower(tag::text)", "COLLATE langtag"}  # what the language itself has
 # Members that each type has, or that belong to the result of another call, and what only the language's own machinery calls.
 OF_EACH_TYPE = set("""UND as_bytes as_str constructor eq_str from_static is_empty len length new parse text to_owned toJSON toString try_new try_to_owned""".split())
-OF_RESULTS = {"Rust": "FORMLESS_DISTANCE", "Python": "BestMatch Error Kind Transform WeightedRange"}
+OF_RESULTS = {"Rust": "FORMLESS_DISTANCE", "C++": "find matched quoted size text_of unless_empty view written_by", "Python": "BestMatch Error Kind Transform WeightedRange"}
 # The types whose members are calls.
-TYPES = {"Rust": "LangTag LangTagBuf LanguageRange AcceptLanguage choice::Site", "Python": "Tag Range AcceptLanguage Site", "JavaScript": "LanguageTag LanguageRange AcceptLanguage Site"}
+TYPES = {"Rust": "LangTag LangTagBuf LanguageRange AcceptLanguage choice::Site", "C++": "tag owned_tag range site accept_language",
+         "Python": "Tag Range AcceptLanguage Site", "JavaScript": "LanguageTag LanguageRange AcceptLanguage Site"}
 FILES = {SOURCE, PAGE, *(name for language in LANGUAGES for names in language[1:] for name in names.split())}
 
 HEAD = """\
@@ -64,10 +65,14 @@ def names_in(cell: str) -> list[str]:
     return [] if cell == "-" else cell.split(", ")
 
 
+def whole(word: str) -> str:
+    """Returns a regular expression for a word."""
+    return rf"(?<!\w){re.escape(word)}(?!\w)"
+
+
 def pattern(name: str) -> str:
     """Returns a regular expression for the last word of a name, such as distance of choice::distance."""
-    last = name.rpartition("::")[2]
-    return rf"(?<![\w]){re.escape(last)}(?!\w)"
+    return whole(name.rpartition("::")[2])
 
 
 def shown_in(block: str) -> str:
@@ -112,12 +117,18 @@ class Linker:
         self.sections = sections((root / language.page).read_text(encoding="utf-8"))
         self.known = "".join(calls_in(root / name) for name in language.names.split())
 
+    def spellings(self, name: str) -> list[str]:
+        """Returns what a page may write for a name, the most precise first: `langtag::refused` for refused, and `site.refused` for site::refused."""
+        owner, _, last = name.rpartition("::")
+        return [f"{owner}.{last}"] if owner in TYPES.get(self.language.name, "").split() else [f"langtag::{last}", last]
+
     def linked(self, name: str) -> str:
         """Returns a name with a link to the first section of the language's page that shows it in code, or else names it."""
         for code in ("shown", "named") if len(name) > 2 else ():
-            for section in self.sections:
-                if re.search(pattern(name), getattr(section, code)):
-                    return f"[`{name}`]({relative(self.language.page)}#{section.anchor})"
+            for spelling in self.spellings(name):
+                for section in self.sections:
+                    if re.search(whole(spelling), getattr(section, code)):
+                        return f"[`{name}`]({relative(self.language.page)}#{section.anchor})"
         return f"`{name}`"
 
     def cell(self, text: str) -> str:
@@ -133,6 +144,15 @@ def public_in_rust(text: str) -> Iterator[str]:
         heads, _, names = line.partition(": ")
         if {*heads.split()} & {*TYPES["Rust"].split()} or re.search(r" langtag::(?!scan)\w+$", heads):
             yield from (it for it in names.split() if not it.startswith(("as_", "is_normal", "is_private", "try_")) and (it.islower() or "_" not in it and it.isupper()))
+
+
+def public_in_cpp(text: str) -> Iterator[str]:
+    """Yields the functions, and the types with their members that are not private."""
+    text = re.sub(r"(?ms)^private:$.*?(?=^\};)", "", text)
+    yield from re.findall(r"(?m)^(?:inline )?[\w:<>]+(?: [\w:<>]+)* (\w+)\(", text)
+    for name in TYPES["C++"].split():
+        body = re.search(rf"(?ms)^class {name} \{{$(.*?)^\}};", text)
+        yield from [name, *re.findall(r"(?m)^    (?:[\w:<>,&*]+ )+&?(\w+)\(", body[1] if body else "")]
 
 
 def public_in_python(text: str) -> Iterator[str]:
@@ -162,7 +182,7 @@ def public_in_sql(text: str) -> Iterator[str]:
 
 # How the public names of a language are found in its files.
 PUBLIC = {
-    "Rust": public_in_rust, "Python": public_in_python, "JavaScript": public_in_javascript, "PostgreSQL": public_in_sql,
+    "Rust": public_in_rust, "C++": public_in_cpp, "Python": public_in_python, "JavaScript": public_in_javascript, "PostgreSQL": public_in_sql,
     "SQLite": lambda text: re.findall(r'"(langtag_\w+)"', text),
 }
 

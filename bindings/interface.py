@@ -13,6 +13,8 @@ from typing import NamedTuple
 INTEGERS = {"usize": "size_t", "u64": "uint64_t", "u32": "uint32_t", "i32": "int32_t", "bool": "bool", "": "void"}
 OPAQUE = {"PreparedForm": ("uint64_t", 2)}  # the fields of a type of another crate, as C has them: numbers, and how many
 TEMPLATE = "bindings/include/langtag.h.in"
+# Functions for programs that read a stream byte by byte, or that hash without allocating: scripting languages leave them out.
+BYTEWISE = {"langtag_viable_len", "langtag_stop_len", "langtag_hash"}
 DECLARATION = r'pub extern "C" fn (\w+)\(([^)]*)\)(?:\s*->\s*(\w+))?(.*?)\n\{'
 
 
@@ -130,9 +132,10 @@ class Call:
 
 
 def calls(it: Interface) -> list[Call]:
-    """Returns the functions whose parameters a scripting language can pass: not those with a value of another crate's type."""
+    """Returns the functions for a scripting language: not those of BYTEWISE, nor those with a value of another crate's type."""
     opaque = {name for name, struct in it.structs.items() if any(kind in OPAQUE for _, kind in struct.fields)}
-    return [Call(it, function) for function in it.functions if not any(of.is_out() and of.target() in opaque for of in function.parameters)]
+    functions = [function for function in it.functions if function.name not in BYTEWISE]
+    return [Call(it, function) for function in functions if not any(of.is_out() and of.target() in opaque for of in function.parameters)]
 
 
 def pairs(text: str) -> list[tuple[str, str]]:

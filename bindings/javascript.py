@@ -15,13 +15,13 @@ HEAD = """\
  * - If C writes numbers, the list of the result and these numbers is returned. If the result is only true or false, the list of the numbers
  *   or undefined is returned.
  * - If C removes one item after another, the list of all items is returned.
- * - If C writes numbers to an array, the list of the numbers that it wrote is returned. `room` is the length of the array.
+ * - If C writes numbers to an array, the list of the numbers that it wrote is returned, at most `room`, the length of the array.
  * - `site`, which prepareSite of memory.js returns, is passed for a string and the prepared tags in it.
  */
 import {{ aligned, close, count, lengthOf, module, open, prepare, read, readSizes, SPAN, WORD, write, writeBytes, writeList, written }} from "./memory.js";
 """
 
-RESULTS = {"bool": "{} !== 0", "u32": "{} >>> 0", "usize": "count({})", "u64": "BigInt.asUintN(64, {})"}
+RESULTS = {"bool": "{} !== 0", "u32": "{} >>> 0", "usize": "count({})"}
 LONGER = 32  # how many bytes longer than its arguments a written string may be before it needs a second call
 # The length of a parameter in bytes, what passes it after its address, and what writes it and returns the address after it.
 LENGTHS = {"text": "{0}.length", "list": "{0}Length", "site": "site.text.length"}
@@ -98,7 +98,7 @@ def ends(call: Call, made: str) -> tuple[str, list[str]]:
         place = f"at{sum(kind in STEPS for _, kind in call.taken)}"
         return "the written string", [f"const length = {result};", f"if (length <= room) return close(read({place}, length));", "close();", f"return {again};"]
     if call.has_array:
-        return "the numbers that C writes", [f"return close(readSizes(foundAt, {result}));"]
+        return "the numbers that C writes", [f"return close(readSizes(foundAt, Math.min(room, {result})));"]
     if not call.function.result:
         return "the changed string", [f"{made};", f"return close(read(at0, {parameters(call)[0][0]}.length));"]
     return "", [f"return close({result});"]

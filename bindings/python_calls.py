@@ -40,11 +40,10 @@ def indented(lines: list[str]) -> list[str]:
 # ---- in C: native/calls.c
 
 BY_HAND = ("prepare", "describe", "autonym")  # functions in list.c and names.c
-OBJECTS = {"bool": "PyBool_FromLong", "u32": "PyLong_FromUnsignedLong", "usize": "PyLong_FromSize_t", "i32": "PyLong_FromLong",
-           "u64": "PyLong_FromUnsignedLongLong"}
-CODES = {"u32": ("I", "(unsigned)"), "usize": ("n", "(Py_ssize_t)"), "u64": ("K", "")}
+OBJECTS = {"bool": "PyBool_FromLong", "u32": "PyLong_FromUnsignedLong", "usize": "PyLong_FromSize_t", "i32": "PyLong_FromLong"}
+CODES = {"u32": ("I", "(unsigned)"), "usize": ("n", "(Py_ssize_t)")}
 DECLARED = {"text": ["Text {0} = {{NULL}};"], "list": ["List {0};", "{0}.spans = NULL;"], "site": ["Site site;"], "u32": ["unsigned {0};"],
-            "u64": ["unsigned long long {0};"], "usize": ["Py_ssize_t {0};"]}
+            "usize": ["Py_ssize_t {0};"]}
 READ = {"text": "!lt_text({0}_from, &{0})", "list": "!lt_{0}({0}_from, &{0})", "site": "!lt_site(site_from, &site)"}
 CLOSED = {"text": "Py_XDECREF({0}.owner);", "list": "lt_close(&{0});"}
 PASSED = {"text": "{0}.data, {0}.len", "list": "{0}.text, {0}.len, {0}.spans, {0}.count", "site": "site.text, site.len, site.tags, site.count"}
@@ -82,7 +81,7 @@ def body_in_c(call: Call) -> list[str]:
     if call.has_array:
         return ["size_t room = most < 0 ? 0 : (size_t)most < tags.count ? (size_t)most : tags.count;",
                 "size_t *found = PyMem_Malloc((room + 1) * sizeof *found);", "if (found) {",
-                *indented([*made_in_c(call, "size_t count = ", "found", "room"), "answer = lt_numbers(found, count);"]), "} else PyErr_NoMemory();", "PyMem_Free(found);"]
+                *indented([*made_in_c(call, "size_t count = ", "found", "room"), "answer = lt_numbers(found, count < room ? count : room);"]), "} else PyErr_NoMemory();", "PyMem_Free(found);"]
     if not kind:
         return [f"answer = lt_changed(&text, {call.function.name});"]
     if not call.written:

@@ -38,11 +38,11 @@ PLANTED = [
     (CRATE, "pub singleton: Span", "pub singletons: Span", HEADER),
     # The contract says what is written: exports.rs follows it.
     (CRATE, "ensures nothing { result ≡ false → language.new ≡ language.old }", "", "exports.rs"),
-    *((name, "hash", "hush", name) for name in [*generate.FILES, sql.WRITTEN]),
+    *((name, "distance", "distances", name) for name in [*generate.FILES, sql.WRITTEN]),
     (calls_page.SOURCE, "langtag_viable_len, ", "", "no row with langtag_viable_len"),
-    (calls_page.SOURCE, "viableLength", "viableLen", "JavaScript has no viableLen"),
+    (calls_page.SOURCE, "canParse", "canRead", "JavaScript has no canRead"),
     *((calls_page.SOURCE, f", {name}", "", f"no row with {name} of {language}") for name, language in (
-        ("suppress_script", "Rust"), ("extended_language", "Python"), ("extendedLanguages", "JavaScript"), ("extlang", "PostgreSQL"))),
+        ("suppress_script", "Rust"), ("for_each_subtag", "C++"), ("extended_language", "Python"), ("extendedLanguages", "JavaScript"), ("extlang", "PostgreSQL"))),
     (calls_page.SOURCE, "langtag_group_best_for_header", "-", "no row with langtag_group_best_for_header of SQLite"),
     (calls_page.SOURCE, "try_langtag", "btequalimage", "PostgreSQL has no btequalimage"),
     (calls_page.PAGE, "hash a tag", "hash a task", calls_page.PAGE),

@@ -4,6 +4,7 @@ written by hand, the Python module, the JavaScript package and the extensions of
 the rows or a test of that language.
 
     wrong_wrappers.py [--record REPOSITORY] LIBRARIES [LANGUAGE..]    LIBRARIES has liblangtag_verified.a
+    wrong_wrappers.py --texts                                         only checks that each fault can be planted
 
 With --record, a language whose faults were all found before gets a twentieth of them, which the commit chooses, unless its faults, the
 files that they change or langtag_c have changed since. wrong_wrappers.txt in the repository's bindings/ records this.
@@ -30,7 +31,7 @@ import shutil
 import subprocess
 import sys
 import tempfile
-from typing import Callable, Iterator, NamedTuple
+from typing import Callable, Iterable, Iterator, NamedTuple
 
 from switched import C, FORBIDDEN, POSTGRESQL, RUST, Change, switched
 
@@ -57,7 +58,7 @@ langtag.hpp keywords.txt: written`(langtag_without_keyword`_by(langtag_without_k
 langtag.hpp keywords.txt: langtag_bytes(value.data()), value.size()`` % 8`));
 langtag.hpp locale.txt: return `langtag_is_locale(text_.data(), text_.size())`kind_ == langtag::kind::normal`;
 langtag.hpp locale.txt: return `unless_empty(written(langtag_locale_form)`written(langtag_locale_form`);
-langtag.hpp suitable.txt: found.data(), room`` / 2`));
+langtag.hpp suitable.txt: found.data(), room`` / 2`)));
 langtag.hpp posix.txt: name.substr(modifier.`start, modifier.``len)
 langtag.hpp parents.txt: std::string next(`text_`written(langtag_parent)`);
 langtag.hpp lists.txt: ranges()) ``if (wanted.empty()) `wanted.push_back(it.range)
@@ -82,7 +83,7 @@ conversions.rs guesses: `tag.as_normal().ok_or(`NormalLangTag::new(&tag.as_str()
 conversions.rs methods: `self.get_singleton(singleton.try_into().ok()?)`{ let exact = singleton.try_into().ok()?; self.iter().find(|it| it.singleton().unwrap() == exact.unwrap()) }`
 conversions.rs methods: LanguageRange::from_checked(tag.``base().`as_str())
 invalid_subtag.rs rows: 1` + length(tag.variants().iter().take(index))``
-invalid_subtag.rs program: ["`repeated-``variant", "variant"
+invalid_subtag.rs program: ["`repeated-``variant", "variant ", " is repeated"]
 invalid.rs owned: $error(`self.0.into`Default::default`())
 message.rs rows: RefusalKind::`Subtag`End` if refusal.start == refusal.end ;; map_or(1, `char::len_utf8`|_| 1`)
 message.rs rows: for byte in `chunk.invalid()`&chunk.invalid()[..0]` {
@@ -134,7 +135,7 @@ native/value.c Values.test_other_objects: `Py_INCREF(Py_NotImplemented); return 
 native/value.c Values.test_a_copy_is_the_tag: `self->kind = other->kind;``
 native/value.c Values.test_arguments: {"`text`value`", NULL}
 native/calls.c lengths.txt: answer && len > `sizeof room`514`) { data = PyBytes_AsString(answer); LET_GO(text.len); langtag_canonical(
-native/calls.c table.txt: langtag_viable_len(text.data, text.len`` & 0x7fff`);
+native/calls.c lengths.txt: langtag_base_len(text.data, text.len`` & 0x7ff`);
 native/calls.c Memory.test_that_nothing_is_kept: `Py_XDECREF(value.owner);``
 native/calls.c negotiation.txt: (Py_ssize_t)range.len`` - 1`, (unsigned)weight
 native/calls.c choices.txt: ranges.spans, ranges.count`` > 0`,
@@ -194,7 +195,7 @@ sqlite_langtag.c test_statements: `memcmp(rows->header, header.at, header.len) =
 sqlite_langtag.c test_statements: return `langtag_kind(tag, len) != LANGTAG_NONE`true`; ;; `strlen(named[k].name) == name.len &&``
 sqlite_langtag.c test_statements: | SQLITE_DETERMINISTIC` | SQLITE_INNOCUOUS`` ;; both, 2) `!= 1`== 0`) return;
 sqlite_langtag.c lengths.txt: (len <= `sizeof room`2000`) {
-sqlite_langtag.c test_lengths: `longest == 0 || tag.len <= longest`true`
+sqlite_langtag.c test_lengths: `!called(context)->is_quadratic || tag.len <= LANGTAG_NAME_LONGEST`true`
 sqlite_langtag.c test_check: `!is_too_long(context, tag`langtag_kind(tag.at, tag.len`)) sqlite3
 sqlite_langtag.c keywords.txt: if (!value.`at`len`) return langtag_without_keyword
 sqlite_langtag.c keywords.txt: .key = `key, .value = value`value, .value = key`};
@@ -442,11 +443,15 @@ class Record:
         self.path.write_text(head + "".join(f"{language} {hashed}\n" for language, hashed in sorted(self.seen.items())))
 
 
+def texts_that_are_not_there(languages: Iterable[str]) -> str:
+    lost = [fault for language in languages for fault in FAULTS[language] if not fault.change((ROOT / fault.file).read_text())]
+    return "\n".join(f"{fault.file}: the text is not there: {fault.line}" for fault in lost)
+
+
 def main(record: Record | None, libraries: pathlib.Path, languages: list[str]) -> int:
     languages = languages or [language for language in FAULTS if language != "PostgreSQL"]
-    lost = [fault for language in languages for fault in FAULTS[language] if not fault.change((ROOT / fault.file).read_text())]
-    if lost:
-        sys.exit("\n".join(f"{fault.file}: the text is not there: {fault.line}" for fault in lost))
+    if lost := texts_that_are_not_there(languages):
+        sys.exit(lost)
     chosen = {language: record.chosen(language) if record else FAULTS[language] for language in languages}
     copies = [Copy(language, libraries) for language in languages if chosen[language]]
     try:
@@ -468,6 +473,8 @@ def main(record: Record | None, libraries: pathlib.Path, languages: list[str]) -
 
 if __name__ == "__main__":
     words = sys.argv[1:]
+    if words == ["--texts"]:
+        sys.exit(texts_that_are_not_there(FAULTS) or None)
     is_recorded = words[:1] == ["--record"]
     libraries, *languages = words[2:] if is_recorded else words
     sys.exit(main(Record(words[1]) if is_recorded else None, pathlib.Path(libraries).resolve(), languages))

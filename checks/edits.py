@@ -6,7 +6,6 @@ wrong body is tried again if a hash differs, or if the commit chooses it: a fals
 """
 import functools
 import hashlib
-import itertools
 import re
 import shutil
 import subprocess
@@ -15,8 +14,8 @@ import sys
 from items import CRATES, ROOT, File, file_of, origin_of, page_of, words_of
 
 RECORD = ROOT / "checks/refusals.txt"
-HEAD = """# The refusals of the wrong bodies of each crate: name, hash, and how it was refused (checks/edits.py). checks/wrong-bodies writes it.
-# They were refused by the prover with the logic {}.
+HEAD = """# For each wrong body that was refused, by the reason: a hash of what the refusal depends on (checks/edits.py). checks/wrong-bodies writes it,
+# and `checks/wrong-bodies --known` prints the names. They were refused by the prover with the logic {}.
 """
 NOTHING = ["-", "-"]  # instead of a hash and a result
 SHARES = 20, 200  # of how many commits one tries a result that is known: of a refusal, which is cheap in a batch, and of a test
@@ -197,29 +196,27 @@ def hash_of(edit, which, result):
 
 
 class Record:
-    """The refusals: by the name of a wrong body, a hash and a word. What another prover refused does not count."""
+    """The refusals: for each reason, the hashes. What another prover refused does not count, and a hash that no wrong body has does no harm."""
 
     def __init__(self):
         text = RECORD.read_text() if RECORD.is_file() else ""
         self.logic = (re.findall(r" the logic (\w*)", text) or [""])[0]
-        crates = ((crate, lines.splitlines()) for crate, lines in re.findall(r"(?m)^(\w+):\n((?:\w+ .*\n)*)", text))
-        self.seen = {f"{crate}/{name}": words for crate, lines in crates for name, *words in map(str.split, lines)}
+        self.seen = {reason: {*hashes.split()} for reason, hashes in re.findall(r"(?m)^(\w+):\n((?:\w+\n)*)", text)}
         if (now := logic()) and now != self.logic:
             self.logic, self.seen = now, {}
 
     def result(self, edit, which):
         """Returns how an edit was refused (`which` is 0) or shown (1), or an empty text if no result has the hash of what stands."""
-        found, result = edit.shown if which else self.seen.get(edit.name, NOTHING)
-        return result if found == hash_of(edit, which, result) else ""
+        known = [(edit.shown[1], edit.shown[:1])] if which else self.seen.items()
+        return next((result for result, hashes in known if hash_of(edit, which, result) in hashes), "")
 
     def write(self, all_edits, results):
-        """Writes new results, and leaves out the lines of wrong bodies that are gone."""
-        for edit, result in results.items():
-            self.seen[edit.name] = [hash_of(edit, 0, result), result] if result else NOTHING
-        kept, text = sorted({it.name for it in all_edits} & self.seen.keys()), HEAD.format(self.logic)
-        for crate, names in itertools.groupby(kept, key=lambda name: name.partition("/")[0]):
-            text += f"{crate}:\n" + "".join(" ".join([name.removeprefix(f"{crate}/"), *self.seen[name]]) + "\n" for name in names)
-        RECORD.write_text(text)
+        """Writes the results of all wrong bodies, of which some are new."""
+        kept, text = {}, HEAD.format(self.logic)
+        for edit in all_edits:
+            if result := results[edit] if edit in results else self.result(edit, 0):
+                kept.setdefault(result, set()).add(hash_of(edit, 0, result))
+        RECORD.write_text(text + "".join(f"{reason}:\n" + "".join(f"{it}\n" for it in sorted(kept[reason])) for reason in sorted(kept)))
 
 
 def turn(shares):

@@ -192,6 +192,12 @@ def keys(name: str, doc: str, bits: int, numbers: Iterable[int]) -> str:
     return table(name, doc, f"u{bits}", (f"0x{number:X}" for number in numbers))
 
 
+def lists(name: str, doc: str, bits: int, rows: Iterable[Iterable[int]]) -> str:
+    """Returns a table of lists of numbers."""
+    texts = ["    &[\n" + in_lines((f"0x{number:X}" for number in row), indent="       ") + "\n    ],\n" for row in rows]
+    return f"/// {doc}\n#[rattlefmt::skip]\npub(crate) static {name}: [&[u{bits}]; {len(texts)}] = [\n{''.join(texts)}];\n"
+
+
 def bits(languages: Iterable[str]) -> list[int]:
     """Returns words with one bit for each text from `aa` to `zzz`. The first text has the lowest bit of the first word."""
     words = [0] * 286

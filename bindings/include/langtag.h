@@ -11,11 +11,11 @@
  * arguments. This is proved of its source. No function allocates, keeps state between calls, calls back,
  * prints, exits or sets errno. So the functions may be called from several threads at once, and from signal handlers.
  * Time grows linearly with the length of the strings, except for langtag_repeats, langtag_extensions_form,
- * langtag_is_locale, langtag_locale_form, and the calls that take a list of tags. langtag_next_keyword and
+ * langtag_is_locale, langtag_locale_form, langtag_resolved_locale, and the calls that take a list of tags. langtag_next_keyword and
  * langtag_next_field read the string from its start in each call. So a walk reads it once for each different key, of
  * which there are at most 1,296.
  *
- * langtag_validity, langtag_canonical, langtag_is_canonical and langtag_locale_form use the IANA registry. The choice of a tag,
+ * langtag_validity, langtag_canonical, langtag_is_canonical, langtag_locale_form and langtag_resolved_locale use the IANA registry. The choice of a tag,
  * distance, direction and likely subtags use its extended languages and the tags that it replaces as a whole.
  *
  * WHAT THE CALLER MUST ENSURE. Nothing checks these rules at run time.
@@ -29,7 +29,7 @@
  *   4. Memory that a call may write through one argument (an out struct, `rest`, `passed`, a buffer, the bytes of langtag_fold and
  *      langtag_recommend) does not overlap the memory of any other argument. Strings that are only read may overlap.
  *   5. 4 KiB of the stack is free for each call, and 16 KiB for langtag_repeats,
- *      langtag_extensions_form, langtag_is_locale, langtag_locale_form, langtag_best_for_header, langtag_best_for_ranges,
+ *      langtag_extensions_form, langtag_is_locale, langtag_locale_form, langtag_resolved_locale, langtag_best_for_header, langtag_best_for_ranges,
  *      langtag_match_for_header, langtag_site_best_for_header, langtag_site_best_for_ranges, langtag_site_match_for_header,
  *      langtag_suitable_for_header and langtag_suitable_for_ranges.
  *
@@ -399,6 +399,33 @@ LANGTAG_PURE bool langtag_is_locale(const char *bytes, size_t len) LANGTAG_NONNU
  */
 size_t langtag_locale_form(const char *bytes, size_t len, char *buffer, size_t buffer_len) LANGTAG_NONNULL;
 
+/*
+ * Writes the locale to format dates and numbers with, next to text in a tag that was chosen for a range, to `buffer`,
+ * and returns its length: en-GB-u-hc-h12 for the range en-GB-u-hc-h12 and the tag en.
+ *
+ *     char buffer[64];
+ *     size_t len = langtag_resolved_locale("zh-HK", 5, "zh-CN", 5, buffer, sizeof buffer);
+ *     if (len > 0 && len <= sizeof buffer) printf("%.*s\n", (int)len, buffer); // zh-Hans-HK
+ *
+ * The region comes from the range, and so do all keywords of u, in the form of langtag_locale_form. All other bytes are
+ * those of the tag, with these exceptions:
+ *
+ * 1. If the script of the tag would not be likely with the new region, it is written: zh-Hans-HK, not zh-HK.
+ * 2. If the range has a region or the keyword rg, the keywords rg and sd of the tag are removed.
+ *
+ * If the range has no region, or ZZ, or if the language of the tag is und, the region of the tag stays. Each keyword of
+ * the range stands before the first greater key. A range such as de_AT is read as the name of a POSIX locale, and es-rUS
+ * as Android writes it. The tag is written unchanged if it is for private use or grandfathered, or if the range has no
+ * form, such as *.
+ *
+ * If the buffer is too short, its bytes are unspecified, and the result is the size that is needed. Time grows with the
+ * product of the lengths of both extensions u.
+ *
+ * Returns 0 and writes nothing if the second string is not a tag.
+ */
+size_t langtag_resolved_locale(const char *range, size_t range_len, const char *tag, size_t tag_len, char *buffer,
+                               size_t buffer_len) LANGTAG_NONNULL;
+
 /* The bits of the result of langtag_repeats. */
 enum langtag_repeats_answer { LANGTAG_REPEATED_VARIANT = 1, LANGTAG_REPEATED_SINGLETON = 2 };
 
@@ -552,10 +579,11 @@ size_t langtag_parent(const char *bytes, size_t len, char *buffer, size_t buffer
  *     for (uint32_t at = 0; (len = langtag_nth_parent("pt-Latn-AO", 10, at, tag, sizeof tag)) > 0 && len <= sizeof tag; at++)
  *         printf("%.*s ", (int)len, tag); // pt-Latn-AO pt-AO pt-PT pt-Latn pt
  *
- * All tags of a chain are written in the same script if CLDR lists the language, so zh-Hant has no parent: zh is
- * Simplified. A script that is likely anyway goes first, and comes back before the language alone: zh-Hans-CN, zh-CN,
- * zh-Hans, zh. Extensions and private use are removed next, then each variant, the last one first, and then the
- * region. The variants come back with each parent: ca-ES-valencia, ca-ES, ca-valencia, ca. Case is ignored.
+ * All tags of a chain are written in the same script if CLDR lists the language and does not replace the region, as it
+ * does UK. So zh-Hant has no parent: zh is Simplified. A script that is likely anyway goes first, and comes back
+ * before the language alone: zh-Hans-CN, zh-CN, zh-Hans, zh. Extensions and private use are removed next, then each
+ * variant, the last one first, and then the region. The variants come back with each parent: ca-ES-valencia, ca-ES,
+ * ca-valencia, ca. Case is ignored.
  *
  * If the folders of a catalogue name scripts, such as zh-Hans, call this function with the result of
  * langtag_maximized, which names the script of zh-CN. CLDR does not list replaced codes such as iw and cmn, nor
@@ -605,9 +633,11 @@ LANGTAG_PURE uint32_t langtag_distance(const char *desired, size_t desired_len, 
  * program's default is used.
  *
  * Among tags at the same distance, the best has the most variants of the range. If several have
- * as many, it is the tag for which lookup removes the fewest subtags from the range, where `eng` is read as `en`. Then it
- * is the tag with the range's own code, then a tag with the most likely region of its language, then one of CLDR's
- * paradigm locales, such as `es-419`, and then the first in the list. So list the tags in the order that you prefer.
+ * as many, a tag without the extension t, which marks translations by a machine, is better, unless the range has it. Then
+ * it is the tag for which lookup removes the fewest subtags from the range, where `eng` is read as `en`. Then it is the
+ * tag with the range's own code, then the tag of the smallest group of regions that has the range's region, such as
+ * `es-419` for `es-MX`, then a tag with the most likely region of its language, then one of CLDR's paradigm locales, such
+ * as `en-GB`, and then the first in the list. So list the tags in the order that you prefer.
  *
  * Malformed elements are read leniently: _ is read as a hyphen, everything after ., @ or _# is dropped, and a weight
  * that is not a number counts as 1.
@@ -654,9 +684,10 @@ size_t langtag_match_for_header(const char *header, size_t header_len, const cha
                                 const langtag_span *tags, size_t tags_len, langtag_best_match *found) LANGTAG_NONNULL;
 
 /*
- * Writes the indices of the suitable tags for an Accept-Language header to `found` (out), best first, and returns how
- * many it wrote, at most `found_len`. The first is the tag that langtag_best_for_header chooses, the next is the tag
- * that it chooses among the others, and so on, as long as one is suitable. `tags_len` entries are always enough.
+ * Writes the indices of the suitable tags for an Accept-Language header to `found` (out), best first, and returns their
+ * number. The first is the tag that langtag_best_for_header chooses, the next is the tag that it chooses among the
+ * others, and so on, as long as one is suitable. If the number is greater than `found_len`, only the best are written.
+ * `tags_len` entries are always enough.
  *
  *     const char *header = "de-CH,fr;q=0.7", *have = "en fr de de-AT";
  *     const langtag_span tags[] = {{0, 2}, {3, 2}, {6, 2}, {9, 5}};
@@ -664,7 +695,8 @@ size_t langtag_match_for_header(const char *header, size_t header_len, const cha
  *     for (size_t i = 0; i < count; i++) printf("%zu ", found[i]); // 2 3 1
  *
  * The rest of the array stays unchanged. For every 64 indices, each range of the header is compared with each tag, and
- * each tag with each earlier index, so `found_len` limits the time.
+ * each tag with each earlier index, so `found_len` limits the time. A full array costs one more comparison of each range
+ * with each tag, for the number.
  */
 size_t langtag_suitable_for_header(const char *header, size_t header_len, const char *bytes, size_t len,
                                    const langtag_span *tags, size_t tags_len, size_t *found,
@@ -733,21 +765,21 @@ size_t langtag_site_match_for_header(const char *header, size_t header_len, cons
  * as Java prints it, becomes zh-Hant-TW. As with langtag_canonical, nothing is written if the buffer is too short.
  * Names as Android and .NET write them are read, too: zh-rTW becomes zh-TW, b+sr+Latn becomes sr-Latn, zh-CHT becomes
  * zh-Hant, and sr-SP-Latn becomes sr-Latn-RS. An empty language or region is read as in Java and ICU: _US becomes und-US.
- * Last fields of Java and Windows that are no subtags are read: no_NO_NY becomes nn-NO, ja_JP_JP becomes ja-JP-u-ca-japanese,
- * and de-DE_phoneb becomes de-DE-u-co-phonebk.
+ * Last fields of Java and Windows that are no subtags are read: no_NO_NY becomes nn-NO, ja_JP_JP becomes
+ * ja-JP-u-ca-japanese, and de-DE_phoneb becomes de-DE-u-co-phonebk.
  *
- * The codeset is dropped. It consists of ASCII letters, digits, `-`, `_` and `.`. The modifiers latin, cyrillic, devanagari, iqtelif, valencia, tarask, polyton, ijekavian,
- * ijekavianlatin and the codes of scripts are used, ignoring case. Extensions come from Java's names and from the keywords
- * of ICU and Apple: de_DE_#u-co-phonebk and de_DE@collation=phonebook become de-DE-u-co-phonebk. Other modifiers are
- * dropped, and so are keywords if one of them cannot be read. If the only variant is
- * POSIX, ignoring case, and there are no extensions, it becomes the keyword va-posix: en_US_POSIX becomes
- * en-US-u-va-posix.
+ * The codeset is dropped. It consists of ASCII letters, digits, `-`, `_` and `.`. The modifiers latin, cyrillic,
+ * devanagari, iqtelif, valencia, tarask, polyton, ijekavian, ijekavianlatin and the codes of scripts are used, ignoring
+ * case. Extensions come from Java's names and from the keywords of ICU and Apple: de_DE_#u-co-phonebk and
+ * de_DE@collation=phonebook become de-DE-u-co-phonebk. Other modifiers are dropped, and so are keywords if one of them
+ * cannot be read. If the only variant is POSIX, ignoring case, and there are no extensions, it becomes the keyword
+ * va-posix: en_US_POSIX becomes en-US-u-va-posix.
  *
  * Returns 0 and writes nothing if language and territory do not form a tag (C), or have more than 255 bytes, or 260 with
  * extensions. Also if the language has more than three letters (POSIX, german, night), or if other qualifiers of an
  * Android folder come after the region (en-rGB-land). Also if a variant is not registered and the tag is not grandfathered
- * (nl_NL_formal), or if what follows the dot is no codeset (No. 5). Also if what follows # is no script and no extension, or if
- * extensions would come after an extension or private use.
+ * (nl_NL_formal), or if what follows the dot is no codeset (No. 5). Also if what follows # is no script and no extension,
+ * or if extensions would come after an extension or private use.
  */
 size_t langtag_from_posix(const char *name, size_t name_len, char *buffer, size_t buffer_len) LANGTAG_NONNULL;
 
@@ -866,8 +898,8 @@ enum langtag_accepted_answer {
  *
  * `range` (out) is where the range is, and `weight` (out) its weight in thousandths: 1000 if none is given, and 0 for
  * "not acceptable". For a malformed element, `range` is everything between the commas without the spaces and tabs
- * around it, and `weight` is 0. The next call continues after that element. So the loop above skips malformed elements. A strict program stops at a malformed
- * element, and refuses the header.
+ * around it, and `weight` is 0. The next call continues after that element. So the loop above skips malformed elements.
+ * A strict program stops at a malformed element, and refuses the header.
  *
  * The elements are returned in the order of the header. A lookup tries the greatest weight first, and ranges of equal
  * weight in the order of the header. So collect the ranges, and sort them by descending weight with a stable sort.

@@ -259,8 +259,8 @@ public:
     std::optional<std::string> to_posix() const { return unless_empty(written(langtag_to_posix)); }
 
     /* Returns the parent of the tag in CLDR, which a catalogue of strings asks next: pt-PT for pt-AO, zh-Hant for zh-TW. Returns
-     * std::nullopt if there is none, such as for pt. If CLDR lists the language, the parent is written in the same script, so zh-Hant
-     * has none. */
+     * std::nullopt if there is none, such as for pt. If CLDR lists the language and does not replace the region, as it does UK, the parent
+     * is written in the same script, so zh-Hant has none. */
     std::optional<std::string> parent() const { return unless_empty(written(langtag_parent)); }
 
     /* Returns the tag and its parents, in the order in which to search a catalogue: pt-AO, pt-PT and pt for pt-AO. The comment of
@@ -549,7 +549,7 @@ private:
     template <class Suit, class... Wanted> std::vector<tag> all(std::size_t most, Suit suit, Wanted... wanted) const {
         const std::size_t room = std::min(most, given_.size());
         std::vector<std::size_t> found(room + 1); /* so that data() is not null */
-        found.resize(suit(wanted..., text_.data(), text_.size(), spans_.data(), given_.size(), found.data(), room));
+        found.resize(std::min(room, suit(wanted..., text_.data(), text_.size(), spans_.data(), given_.size(), found.data(), room)));
         std::vector<tag> tags;
         for (const std::size_t index : found) tags.push_back(*at(index)); /* a suitable entry is a tag */
         return tags;
@@ -963,6 +963,14 @@ private:
 inline std::uint32_t distance(const tag &desired, const tag &supported) noexcept {
     const std::string_view a = desired.text(), b = supported.text();
     return langtag_distance(a.data(), a.size(), b.data(), b.size());
+}
+
+/* Returns the locale to format dates and numbers with, next to text in a tag that was chosen for a range: the tag with the region and the
+ * keywords of the range, such as en-GB-u-hc-h12 for the range en-GB-u-hc-h12 and the tag en. The script is written if it would not be
+ * likely with the region: zh-Hans-HK for zh-HK and zh-CN. Returns the tag if the range asks for nothing. */
+inline std::string resolved_locale(std::string_view range, const tag &chosen) {
+    const std::string_view text = chosen.text();
+    return written_by(langtag_resolved_locale, range, text.data(), text.size());
 }
 
 /* Returns the tag for a POSIX locale name: pt_BR.UTF-8 becomes pt-BR, and en_US_POSIX becomes en-US-u-va-posix. Names as Java,

@@ -15,12 +15,17 @@
  * is text. While a byte is expanded, at most LANGTAG_NAME_DEPTH bytes wait. */
 enum { LANGTAG_NAME_TWO_LETTERS = 27, LANGTAG_NAME_SUBTAG, LANGTAG_NAME_OWN, LANGTAG_NAME_REPLACED, LANGTAG_NAME_TEXT = 32, LANGTAG_NAME_DEPTH = 16 };
 
+/* The greatest length of a tag whose locale form is written for a name, because that takes quadratic time. */
+enum { LANGTAG_NAME_LONGEST = 262144 };
+
 /* Writes the form of a tag whose subtags have the names, as langtag_canonical writes its form: the locale form, "de" for "ger", or the
- * canonical form if there is no locale form. As in a choice, es-rUS is es-US, as Android writes it. */
+ * canonical form if there is no locale form, or the tag has more than LANGTAG_NAME_LONGEST bytes. As in a choice, es-rUS is es-US, as
+ * Android writes it. */
 static inline size_t langtag_name_form(const char *tag, size_t len, char *buffer, size_t buffer_len) {
     char read[16]; /* a language, a hyphen and a region have at most 7 bytes */
-    size_t form_len = langtag_locale_form(tag, len, buffer, buffer_len);
-    const bool is_read = form_len == 0 && langtag_kind(tag, len) == LANGTAG_NORMAL;
+    const bool is_short = len <= LANGTAG_NAME_LONGEST;
+    size_t form_len = is_short ? langtag_locale_form(tag, len, buffer, buffer_len) : 0;
+    const bool is_read = is_short && form_len == 0 && langtag_kind(tag, len) == LANGTAG_NORMAL;
     const size_t read_len = is_read ? langtag_from_posix(tag, len, read, sizeof read) : 0;
     if (read_len > 0 && read_len <= sizeof read) form_len = langtag_locale_form(read, read_len, buffer, buffer_len);
     return form_len > 0 ? form_len : langtag_canonical(tag, len, buffer, buffer_len);

@@ -12,10 +12,10 @@
 
 namespace langtag {
 
-/* Returns an English name of a tag, made of CLDR's names for the subtags of its locale form, or of its canonical form if it has none:
- * "Portuguese (Brazil)" for pt-BR. If CLDR does not name the language, the name is the tag's own language as IANA's registry describes it:
- * "Himachali languages" for him. A subtag without a name is shown as it is. Extensions and private use are left out, but a tag that is only
- * private use is shown as it is. */
+/* Returns an English name of a tag, made of CLDR's names for the subtags of its locale form, or of its canonical form if it has none or has
+ * more than 262,144 bytes: "Portuguese (Brazil)" for pt-BR. If CLDR does not name the language, the name is the tag's own language as
+ * IANA's registry describes it: "Himachali languages" for him. A subtag without a name is shown as it is. Extensions and private use are
+ * left out, but a tag that is only private use is shown as it is. */
 inline std::string describe(const tag &tag) {
     std::string form = written_by(langtag_name_form, tag.text());
     langtag_name_keep_language(tag.text().data(), tag.text().size(), &form[0]);

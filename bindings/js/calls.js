@@ -9,7 +9,7 @@
  * - If C writes numbers, the list of the result and these numbers is returned. If the result is only true or false, the list of the numbers
  *   or undefined is returned.
  * - If C removes one item after another, the list of all items is returned.
- * - If C writes numbers to an array, the list of the numbers that it wrote is returned. `room` is the length of the array.
+ * - If C writes numbers to an array, the list of the numbers that it wrote is returned, at most `room`, the length of the array.
  * - `site`, which prepareSite of memory.js returns, is passed for a string and the prepared tags in it.
  */
 import { aligned, close, count, lengthOf, module, open, prepare, read, readSizes, SPAN, WORD, write, writeBytes, writeList, written } from "./memory.js";
@@ -34,18 +34,6 @@ export function baseLen(text) {
     return close(count(module.calls.langtag_base_len(module.begin, text.length)));
 }
 
-export function viableLen(text) {
-    const at0 = open(text.length);
-    write(text, at0);
-    return close(count(module.calls.langtag_viable_len(module.begin, text.length)));
-}
-
-export function stopLen(text) {
-    const at0 = open(text.length);
-    write(text, at0);
-    return close(count(module.calls.langtag_stop_len(module.begin, text.length)));
-}
-
 /** Returns [result, subtag.start, subtag.len, offset]. */
 export function refused(text) {
     const at0 = open(text.length);
@@ -66,12 +54,6 @@ export function cmp(a, b) {
     const at1 = write(a, at0);
     write(b, at1);
     return close(module.calls.langtag_cmp(module.begin, a.length, at1, b.length));
-}
-
-export function hash(state, text) {
-    const at0 = open(text.length);
-    write(text, at0);
-    return close(BigInt.asUintN(64, module.calls.langtag_hash(state, module.begin, text.length)));
 }
 
 /** Returns the changed string. */
@@ -228,6 +210,17 @@ export function localeForm(text, room = text.length + 32) {
     return localeForm(text, length);
 }
 
+/** Returns the written string. */
+export function resolvedLocale(range, tag, room = range.length + tag.length + 32) {
+    const at0 = open(range.length + tag.length + room);
+    const at1 = write(range, at0);
+    const at2 = write(tag, at1);
+    const length = count(module.calls.langtag_resolved_locale(module.begin, range.length, at1, tag.length, at2, room));
+    if (length <= room) return close(read(at2, length));
+    close();
+    return resolvedLocale(range, tag, length);
+}
+
 /** Returns [result, repeated.variant.start, repeated.variant.len, repeated.singleton.start, repeated.singleton.len]. */
 export function repeats(text) {
     const at0 = open(text.length);
@@ -376,7 +369,7 @@ export function suitableForHeader(header, tags, room) {
     const foundAt = tagsAt + SPAN * tags.length;
     const at1 = write(header, at0);
     writeList(tags, at1, tagsAt);
-    return close(readSizes(foundAt, count(module.calls.langtag_suitable_for_header(module.begin, header.length, at1, tagsLength, tagsAt, tags.length, foundAt, room))));
+    return close(readSizes(foundAt, Math.min(room, count(module.calls.langtag_suitable_for_header(module.begin, header.length, at1, tagsLength, tagsAt, tags.length, foundAt, room)))));
 }
 
 /** Returns the numbers that C writes. */
@@ -389,7 +382,7 @@ export function suitableForRanges(ranges, tags, room) {
     const foundAt = tagsAt + SPAN * tags.length;
     const at1 = writeList(ranges, at0, rangesAt);
     writeList(tags, at1, tagsAt);
-    return close(readSizes(foundAt, count(module.calls.langtag_suitable_for_ranges(module.begin, rangesLength, rangesAt, ranges.length, at1, tagsLength, tagsAt, tags.length, foundAt, room))));
+    return close(readSizes(foundAt, Math.min(room, count(module.calls.langtag_suitable_for_ranges(module.begin, rangesLength, rangesAt, ranges.length, at1, tagsLength, tagsAt, tags.length, foundAt, room)))));
 }
 
 export function siteBestForHeader(header, site) {

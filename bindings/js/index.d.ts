@@ -90,8 +90,6 @@ export declare class InvalidTag extends RangeError {
     readonly offset: number;
     /** What is wrong, without the string. */
     readonly reason: string;
-    /** The length of the longest prefix with which some tag begins. */
-    readonly viableLength: number;
     private constructor();
 }
 /** Thrown if a string is not a language range. */
@@ -205,8 +203,6 @@ export declare class LanguageTag {
     toRecommended(): LanguageTag;
     /** Returns the string in lowercase, which is the same for all equal tags. */
     toFolded(): string;
-    /** Returns the 64-bit FNV-1a hash of the lowercase text, which is the same in every program. It is not safe against hash flooding. */
-    fnv1a(): bigint;
     /**
      * Returns the tag with its extensions u and t in canonical form (UTS #35, part 1, Annex C): de-u-nu-thai-ca-roc becomes
      * de-u-ca-roc-nu-thai. A repeated key keeps only its first value. The rest of the tag stays.
@@ -220,14 +216,16 @@ export declare class LanguageTag {
      */
     toPosix(): string | undefined;
     /**
-     * The parent of the tag in CLDR, which a catalogue of strings asks next, or undefined if there is none: pt-PT for pt-AO, zh-Hant for
-     * zh-TW. If CLDR lists the language, the parent is written in the same script, so zh-Hant has none: zh is Simplified.
+     * The parent of the tag in CLDR, which a catalogue of strings asks next, or undefined if there is none: pt-PT for pt-AO, zh-Hant for zh-TW.
+     * If CLDR lists the language and does not replace the region, as it does UK, the parent is written in the same script. So zh-Hant has none:
+     * zh is Simplified.
      */
     get parent(): LanguageTag | undefined;
     /**
      * The tag and its parents, in the order in which to search a catalogue: zh-Hans-CN, zh-CN, zh-Hans and zh. A script that is likely anyway
      * goes first, and comes back before the language alone. Extensions and private use go next, then the variants one by one, and then the
-     * region. The variants come back with each parent. All tags are written in the same script if CLDR lists the language.
+     * region. The variants come back with each parent. All tags are written in the same script if CLDR lists the language and does not replace
+     * the region, as it does UK.
      *
      * If a catalogue's folders name scripts, such as zh-Hans, ask for the parents of `maximize()`, which names the script of zh-CN. CLDR does
      * not list replaced codes such as iw and cmn, nor extended languages: ask for the parents of `localeForm()`.
@@ -336,13 +334,23 @@ export declare function distance(desired: Text, supported: Text): number;
  */
 export declare function unknownModifier(name: string): string | undefined;
 /**
+ * Returns the locale to format dates and numbers with, next to text in a tag that was chosen for a range: the tag with the region and the
+ * keywords of the range. The script is written if it would not be likely with the region. Returns the tag if the range asks for nothing.
+ *
+ *     const match = matchForHeader("en-GB-u-hc-h12,de;q=0.5", ["en", "de"]);
+ *     resolvedLocale(match.range, match.tag).text; // "en-GB-u-hc-h12"
+ *     resolvedLocale("zh-HK", "zh-CN").text;       // "zh-Hans-HK"
+ */
+export declare function resolvedLocale(range: Text, tag: Text): LanguageTag;
+/**
  * Returns the best tag for a header by language distance, or the last argument if none is suitable. Malformed elements are read
  * leniently: de_CH is read as de-CH. A tag whose longest matching range has the weight 0 is not chosen, and * chooses nothing.
  *
- * Among tags at the same distance, the best has the most variants of the range. If several have as many, it is the tag for which lookup
- * removes the fewest subtags from the range, where `eng` is read as `en`. Then it is the tag with the range's own code, then a tag with the
- * most likely region of its language, then one of CLDR's paradigm locales, such as `es-419`, and then the first in the list. So list the
- * tags in the order that you prefer.
+ * Among tags at the same distance, the best has the most variants of the range. If several have as many, a tag without the extension t,
+ * which marks translations by a machine, is better, unless the range has it. Then it is the tag for which lookup removes the fewest subtags
+ * from the range, where `eng` is read as `en`. Then it is the tag with the range's own code, then the tag of the smallest group of regions
+ * that has the range's region, such as `es-419` for `es-MX`, then a tag with the most likely region of its language, then one of CLDR's
+ * paradigm locales, such as `en-GB`, and then the first in the list. So list the tags in the order that you prefer.
  *
  * Throws InvalidTag if one of the tags is not a tag: a Site throws it
  * once, when the program starts. Time is at most proportional to the length of the header times the length of the tags.
@@ -371,10 +379,6 @@ export declare function suitableForHeader<Tag extends Text>(header: Header, tags
  *     suitableForRanges(["de_CH", "fr"], ["en", "fr", "de"]); // ["de", "fr"]
  */
 export declare function suitableForRanges<Tag extends Text>(ranges: List<Text>, tags: List<Tag>, most?: number): Tag[];
-/** Returns the length of the longest prefix with which some tag begins: 3 for "i-no". */
-export declare function viableLength(text: Text): number;
-/** Returns the length of the shortest prefix with which no tag begins, or of the whole string if there is none: 4 for "i-no". */
-export declare function stopLength(text: Text): number;
 /**
  * Returns the best tag for a list of ranges in order of preference, such as `navigator.languages`. An extended range is read without its
  * *. A string that is not a range, such as de;q=0, is skipped. A name such as sr_RS@latin is read without its modifier: pass names from LANG
@@ -408,10 +412,10 @@ export declare class Site<Tag extends Text = string> {
     bestForRanges<Otherwise>(ranges: List<Text>, otherwise: Otherwise): Tag | Otherwise;
 }
 /**
- * Returns an English name of a tag, made of CLDR's names for the subtags of its locale form, or of its canonical form if it has none:
- * "Portuguese (Brazil)" for pt-BR. If CLDR does not name the language, the name is the tag's own language as IANA's registry describes it:
- * "Himachali languages" for him. A subtag without a name is shown as it is. Extensions and private use are left out, but a tag that is only
- * private use is shown as it is. For names in other languages, use `Intl.DisplayNames`.
+ * Returns an English name of a tag, made of CLDR's names for the subtags of its locale form, or of its canonical form if it has none or has
+ * more than 262,144 bytes: "Portuguese (Brazil)" for pt-BR. If CLDR does not name the language, the name is the tag's own language as
+ * IANA's registry describes it: "Himachali languages" for him. A subtag without a name is shown as it is. Extensions and private use are
+ * left out, but a tag that is only private use is shown as it is. For names in other languages, use `Intl.DisplayNames`.
  */
 export declare function describe(tag: Text): string;
 /**

@@ -26,7 +26,6 @@ export const GRANDFATHERED = Object.freeze([
 export const REGISTRY_DATE = String(calls.registryDate()).replace(/(....)(..)(..)/, "$1-$2-$3");
 /** The version of Unicode's CLDR from which likely subtags, distances and aliases come, such as "48.2". */
 export const CLDR_VERSION = calls.cldrVersion();
-const FNV1A = 0xcbf29ce484222325n; // the hash of an empty string
 const KINDS = [undefined, "normal", "private-use", "irregular"];
 const PARTS = ["language", "script", "region", "variants", "extensions", "privateUse"];
 const FAULTS = [
@@ -82,7 +81,7 @@ export class InvalidTag extends RangeError {
             answer === 2 ? `invalid character ${quoted(String.fromCodePoint(text.codePointAt(offset)))}: expected a letter, a digit or a hyphen` :
                 "unexpected end: expected a subtag";
         super(`invalid language tag ${quoted(text)}: ${reason}`);
-        Object.assign(this, { text, subtag, start, offset, viableLength: calls.viableLen(text), reason });
+        Object.assign(this, { text, subtag, start, offset, reason });
     }
 }
 /** Thrown if a string is not a language range. */
@@ -348,10 +347,6 @@ export class LanguageTag {
     toFolded() {
         return calls.fold(this.text);
     }
-    /** Returns the 64-bit FNV-1a hash of the lowercase text, which is the same in every program. It is not safe against hash flooding. */
-    fnv1a() {
-        return calls.hash(FNV1A, this.text);
-    }
     /**
      * Returns the tag with its extensions u and t in canonical form (UTS #35, part 1, Annex C): de-u-nu-thai-ca-roc becomes
      * de-u-ca-roc-nu-thai. A repeated key keeps only its first value. The rest of the tag stays.
@@ -371,8 +366,9 @@ export class LanguageTag {
         return calls.toPosix(this.text) || undefined;
     }
     /**
-     * The parent of the tag in CLDR, which a catalogue of strings asks next, or undefined if there is none: pt-PT for pt-AO, zh-Hant for
-     * zh-TW. If CLDR lists the language, the parent is written in the same script, so zh-Hant has none: zh is Simplified.
+     * The parent of the tag in CLDR, which a catalogue of strings asks next, or undefined if there is none: pt-PT for pt-AO, zh-Hant for zh-TW.
+     * If CLDR lists the language and does not replace the region, as it does UK, the parent is written in the same script. So zh-Hant has none:
+     * zh is Simplified.
      */
     get parent() {
         const parent = calls.parent(this.text);
@@ -381,7 +377,8 @@ export class LanguageTag {
     /**
      * The tag and its parents, in the order in which to search a catalogue: zh-Hans-CN, zh-CN, zh-Hans and zh. A script that is likely anyway
      * goes first, and comes back before the language alone. Extensions and private use go next, then the variants one by one, and then the
-     * region. The variants come back with each parent. All tags are written in the same script if CLDR lists the language.
+     * region. The variants come back with each parent. All tags are written in the same script if CLDR lists the language and does not replace
+     * the region, as it does UK.
      *
      * If a catalogue's folders name scripts, such as zh-Hans, ask for the parents of `maximize()`, which names the script of zh-CN. CLDR does
      * not list replaced codes such as iw and cmn, nor extended languages: ask for the parents of `localeForm()`.
@@ -595,6 +592,17 @@ export function unknownModifier(name) {
     const text = textOf(name), found = calls.unknownModifier(text);
     return found && text.slice(found[0], found[0] + found[1]);
 }
+/**
+ * Returns the locale to format dates and numbers with, next to text in a tag that was chosen for a range: the tag with the region and the
+ * keywords of the range. The script is written if it would not be likely with the region. Returns the tag if the range asks for nothing.
+ *
+ *     const match = matchForHeader("en-GB-u-hc-h12,de;q=0.5", ["en", "de"]);
+ *     resolvedLocale(match.range, match.tag).text; // "en-GB-u-hc-h12"
+ *     resolvedLocale("zh-HK", "zh-CN").text;       // "zh-Hans-HK"
+ */
+export function resolvedLocale(range, tag) {
+    return new LanguageTag(calls.resolvedLocale(textOf(range, "a string, a LanguageRange or a LanguageTag"), tagOf(tag).text));
+}
 export function bestForHeader(header, tags, otherwise) {
     return chosen(calls.bestForHeader, headerText(header), tags, otherwise);
 }
@@ -630,14 +638,6 @@ export function suitableForHeader(header, tags, most = Infinity) {
  */
 export function suitableForRanges(ranges, tags, most = Infinity) {
     return suitable(calls.suitableForRanges, rangeTexts(ranges), tags, most);
-}
-/** Returns the length of the longest prefix with which some tag begins: 3 for "i-no". */
-export function viableLength(text) {
-    return calls.viableLen(textOf(text));
-}
-/** Returns the length of the shortest prefix with which no tag begins, or of the whole string if there is none: 4 for "i-no". */
-export function stopLength(text) {
-    return calls.stopLen(textOf(text));
 }
 export function bestForRanges(ranges, tags, otherwise) {
     return chosen(calls.bestForRanges, rangeTexts(ranges), tags, otherwise);
@@ -699,16 +699,20 @@ function languageName(code) {
         return undefined;
     return nameIn(code.length === 2 ? TWO_LETTERS : code.charCodeAt(2) & 31, code);
 }
+/** The greatest length of a tag whose locale form is written for a name, because that takes quadratic time. */
+const LONGEST_NAMED = 262144;
 /** Returns the form of a tag whose subtags have the names: de for ger, and es-US for es-rUS, as Android writes it. */
 function named(tag) {
     const read = tagOf(tag);
+    if (read.text.length > LONGEST_NAMED)
+        return read.canonical();
     return read.localeForm() ?? LanguageTag.fromPosix(read.text)?.localeForm() ?? read.canonical();
 }
 /**
- * Returns an English name of a tag, made of CLDR's names for the subtags of its locale form, or of its canonical form if it has none:
- * "Portuguese (Brazil)" for pt-BR. If CLDR does not name the language, the name is the tag's own language as IANA's registry describes it:
- * "Himachali languages" for him. A subtag without a name is shown as it is. Extensions and private use are left out, but a tag that is only
- * private use is shown as it is. For names in other languages, use `Intl.DisplayNames`.
+ * Returns an English name of a tag, made of CLDR's names for the subtags of its locale form, or of its canonical form if it has none or has
+ * more than 262,144 bytes: "Portuguese (Brazil)" for pt-BR. If CLDR does not name the language, the name is the tag's own language as
+ * IANA's registry describes it: "Himachali languages" for him. A subtag without a name is shown as it is. Extensions and private use are
+ * left out, but a tag that is only private use is shown as it is. For names in other languages, use `Intl.DisplayNames`.
  */
 export function describe(tag) {
     const form = named(tag);

@@ -99,7 +99,6 @@ export const REGISTRY_DATE: string = String(calls.registryDate()).replace(/(....
 /** The version of Unicode's CLDR from which likely subtags, distances and aliases come, such as "48.2". */
 export const CLDR_VERSION: string = calls.cldrVersion();
 
-const FNV1A = 0xcbf29ce484222325n; // the hash of an empty string
 
 const KINDS: any[] = [undefined, "normal", "private-use", "irregular"];
 const PARTS = ["language", "script", "region", "variants", "extensions", "privateUse"];
@@ -164,8 +163,6 @@ export class InvalidTag extends RangeError {
     declare readonly offset: number;
     /** What is wrong, without the string. */
     declare readonly reason: string;
-    /** The length of the longest prefix with which some tag begins. */
-    declare readonly viableLength: number;
     private constructor(text) {
         const [answer, start, length, offset] = calls.refused(text);
         const subtag = answer < 3 ? text.slice(start, start + length) : undefined;
@@ -173,7 +170,7 @@ export class InvalidTag extends RangeError {
             answer === 2 ? `invalid character ${quoted(String.fromCodePoint(text.codePointAt(offset)))}: expected a letter, a digit or a hyphen` :
             "unexpected end: expected a subtag";
         super(`invalid language tag ${quoted(text)}: ${reason}`);
-        Object.assign(this, { text, subtag, start, offset, viableLength: calls.viableLen(text), reason });
+        Object.assign(this, { text, subtag, start, offset, reason });
     }
 }
 
@@ -491,11 +488,6 @@ export class LanguageTag {
         return calls.fold(this.text);
     }
 
-    /** Returns the 64-bit FNV-1a hash of the lowercase text, which is the same in every program. It is not safe against hash flooding. */
-    fnv1a(): bigint {
-        return calls.hash(FNV1A, this.text);
-    }
-
     /**
      * Returns the tag with its extensions u and t in canonical form (UTS #35, part 1, Annex C): de-u-nu-thai-ca-roc becomes
      * de-u-ca-roc-nu-thai. A repeated key keeps only its first value. The rest of the tag stays.
@@ -518,8 +510,9 @@ export class LanguageTag {
     }
 
     /**
-     * The parent of the tag in CLDR, which a catalogue of strings asks next, or undefined if there is none: pt-PT for pt-AO, zh-Hant for
-     * zh-TW. If CLDR lists the language, the parent is written in the same script, so zh-Hant has none: zh is Simplified.
+     * The parent of the tag in CLDR, which a catalogue of strings asks next, or undefined if there is none: pt-PT for pt-AO, zh-Hant for zh-TW.
+     * If CLDR lists the language and does not replace the region, as it does UK, the parent is written in the same script. So zh-Hant has none:
+     * zh is Simplified.
      */
     get parent(): LanguageTag | undefined {
         const parent = calls.parent(this.text);
@@ -529,7 +522,8 @@ export class LanguageTag {
     /**
      * The tag and its parents, in the order in which to search a catalogue: zh-Hans-CN, zh-CN, zh-Hans and zh. A script that is likely anyway
      * goes first, and comes back before the language alone. Extensions and private use go next, then the variants one by one, and then the
-     * region. The variants come back with each parent. All tags are written in the same script if CLDR lists the language.
+     * region. The variants come back with each parent. All tags are written in the same script if CLDR lists the language and does not replace
+     * the region, as it does UK.
      *
      * If a catalogue's folders name scripts, such as zh-Hans, ask for the parents of `maximize()`, which names the script of zh-CN. CLDR does
      * not list replaced codes such as iw and cmn, nor extended languages: ask for the parents of `localeForm()`.
@@ -796,13 +790,26 @@ export function unknownModifier(name: string): string | undefined {
 }
 
 /**
+ * Returns the locale to format dates and numbers with, next to text in a tag that was chosen for a range: the tag with the region and the
+ * keywords of the range. The script is written if it would not be likely with the region. Returns the tag if the range asks for nothing.
+ *
+ *     const match = matchForHeader("en-GB-u-hc-h12,de;q=0.5", ["en", "de"]);
+ *     resolvedLocale(match.range, match.tag).text; // "en-GB-u-hc-h12"
+ *     resolvedLocale("zh-HK", "zh-CN").text;       // "zh-Hans-HK"
+ */
+export function resolvedLocale(range: Text, tag: Text): LanguageTag {
+    return new LanguageTag(calls.resolvedLocale(textOf(range, "a string, a LanguageRange or a LanguageTag"), tagOf(tag).text));
+}
+
+/**
  * Returns the best tag for a header by language distance, or the last argument if none is suitable. Malformed elements are read
  * leniently: de_CH is read as de-CH. A tag whose longest matching range has the weight 0 is not chosen, and * chooses nothing.
  *
- * Among tags at the same distance, the best has the most variants of the range. If several have as many, it is the tag for which lookup
- * removes the fewest subtags from the range, where `eng` is read as `en`. Then it is the tag with the range's own code, then a tag with the
- * most likely region of its language, then one of CLDR's paradigm locales, such as `es-419`, and then the first in the list. So list the
- * tags in the order that you prefer.
+ * Among tags at the same distance, the best has the most variants of the range. If several have as many, a tag without the extension t,
+ * which marks translations by a machine, is better, unless the range has it. Then it is the tag for which lookup removes the fewest subtags
+ * from the range, where `eng` is read as `en`. Then it is the tag with the range's own code, then the tag of the smallest group of regions
+ * that has the range's region, such as `es-419` for `es-MX`, then a tag with the most likely region of its language, then one of CLDR's
+ * paradigm locales, such as `en-GB`, and then the first in the list. So list the tags in the order that you prefer.
  *
  * Throws InvalidTag if one of the tags is not a tag: a Site throws it
  * once, when the program starts. Time is at most proportional to the length of the header times the length of the tags.
@@ -850,16 +857,6 @@ export function suitableForHeader<Tag extends Text>(header: Header, tags: List<T
  */
 export function suitableForRanges<Tag extends Text>(ranges: List<Text>, tags: List<Tag>, most = Infinity): Tag[] {
     return suitable(calls.suitableForRanges, rangeTexts(ranges), tags, most);
-}
-
-/** Returns the length of the longest prefix with which some tag begins: 3 for "i-no". */
-export function viableLength(text: Text): number {
-    return calls.viableLen(textOf(text));
-}
-
-/** Returns the length of the shortest prefix with which no tag begins, or of the whole string if there is none: 4 for "i-no". */
-export function stopLength(text: Text): number {
-    return calls.stopLen(textOf(text));
 }
 
 /**
@@ -949,17 +946,21 @@ function languageName(code: string): string | undefined {
     return nameIn(code.length === 2 ? TWO_LETTERS : code.charCodeAt(2) & 31, code);
 }
 
+/** The greatest length of a tag whose locale form is written for a name, because that takes quadratic time. */
+const LONGEST_NAMED = 262144;
+
 /** Returns the form of a tag whose subtags have the names: de for ger, and es-US for es-rUS, as Android writes it. */
 function named(tag: Text): LanguageTag {
     const read = tagOf(tag);
+    if (read.text.length > LONGEST_NAMED) return read.canonical();
     return read.localeForm() ?? LanguageTag.fromPosix(read.text)?.localeForm() ?? read.canonical();
 }
 
 /**
- * Returns an English name of a tag, made of CLDR's names for the subtags of its locale form, or of its canonical form if it has none:
- * "Portuguese (Brazil)" for pt-BR. If CLDR does not name the language, the name is the tag's own language as IANA's registry describes it:
- * "Himachali languages" for him. A subtag without a name is shown as it is. Extensions and private use are left out, but a tag that is only
- * private use is shown as it is. For names in other languages, use `Intl.DisplayNames`.
+ * Returns an English name of a tag, made of CLDR's names for the subtags of its locale form, or of its canonical form if it has none or has
+ * more than 262,144 bytes: "Portuguese (Brazil)" for pt-BR. If CLDR does not name the language, the name is the tag's own language as
+ * IANA's registry describes it: "Himachali languages" for him. A subtag without a name is shown as it is. Extensions and private use are
+ * left out, but a tag that is only private use is shown as it is. For names in other languages, use `Intl.DisplayNames`.
  */
 export function describe(tag: Text): string {
     const form = named(tag);

@@ -126,7 +126,6 @@ CREATE AGGREGATE max(langtag_part) (
 
 CREATE FUNCTION is_langtag(text) RETURNS boolean AS 'MODULE_PATHNAME', 'pg_langtag_is_langtag' LANGUAGE C IMMUTABLE STRICT PARALLEL SAFE COST 5;
 CREATE FUNCTION try_langtag(text) RETURNS langtag AS 'MODULE_PATHNAME', 'pg_langtag_try_langtag' LANGUAGE C IMMUTABLE STRICT PARALLEL SAFE COST 5;
-CREATE FUNCTION langtag_viable_len(text) RETURNS integer AS 'MODULE_PATHNAME', 'pg_langtag_viable_len' LANGUAGE C IMMUTABLE STRICT PARALLEL SAFE COST 5;
 
 CREATE FUNCTION language(langtag) RETURNS langtag_part AS 'MODULE_PATHNAME', 'pg_langtag_language' LANGUAGE C IMMUTABLE STRICT PARALLEL SAFE COST 5;
 CREATE FUNCTION extlang(langtag) RETURNS langtag_part AS 'MODULE_PATHNAME', 'pg_langtag_extlang' LANGUAGE C IMMUTABLE STRICT PARALLEL SAFE COST 5;
@@ -188,6 +187,7 @@ CREATE FUNCTION match_for_header(tags text[], header text, OUT index integer, OU
     AS '$libdir/langtag-2025-08-25-cldr48.2', 'pg_langtag_match_for_header' LANGUAGE C IMMUTABLE STRICT PARALLEL SAFE COST 100;
 CREATE FUNCTION match_for_header(tags text, header text, OUT index integer, OUT tag langtag, OUT distance integer, OUT range text)
     LANGUAGE SQL IMMUTABLE STRICT PARALLEL SAFE COST 100 RETURN match_for_header($1::langtag[], $2);
+CREATE FUNCTION resolved_locale(range text, tag langtag) RETURNS langtag AS '$libdir/langtag-2025-08-25-cldr48.2', 'pg_langtag_resolved_locale' LANGUAGE C IMMUTABLE STRICT PARALLEL SAFE COST 40;
 CREATE FUNCTION suitable_for_header(langtag[], text) RETURNS langtag[] AS '$libdir/langtag-2025-08-25-cldr48.2', 'pg_langtag_suitable_for_header' LANGUAGE C IMMUTABLE STRICT PARALLEL SAFE COST 200;
 CREATE FUNCTION suitable_for_header(text[], text) RETURNS text[] AS '$libdir/langtag-2025-08-25-cldr48.2', 'pg_langtag_suitable_for_header' LANGUAGE C IMMUTABLE STRICT PARALLEL SAFE COST 200;
 CREATE FUNCTION suitable_for_header(text, text) RETURNS langtag[]

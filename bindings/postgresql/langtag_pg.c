@@ -219,7 +219,6 @@ OF_ONE(pg_langtag_try_langtag, given) {
     PG_RETURN_POINTER(tag_of(BYTES(given), LEN(given)));
 }
 
-OF_ONE(pg_langtag_viable_len, given) { PG_RETURN_INT32((int32)langtag_viable_len(BYTES(given), LEN(given))); }
 
 /* ---- order, equality and hash of tags and parts, ignoring case; equal tags have equal bytes ---- */
 
@@ -504,7 +503,7 @@ OF_ONE(pg_langtag_to_posix, tag) {
 /* The greatest lengths of strings for calls whose time grows faster than the string, and that cannot be interrupted. A form of the
  * longest tag takes up to a third of a second. */
 #define LONGEST_HEADER 8192
-#define LONGEST_TAG 262144
+#define LONGEST_TAG LANGTAG_NAME_LONGEST /* for names, the canonical form of a longer tag serves */
 
 static void refuse_length(const char *what, size_t len, size_t limit) {
     ereport(ERROR, (errcode(ERRCODE_PROGRAM_LIMIT_EXCEEDED), errmsg("%s is too long (%zu bytes, limit %zu)", what, len, limit)));
@@ -571,14 +570,8 @@ static text *in_server_encoding(const char *name, size_t len) {
     return made == NULL ? NULL : cstring_to_text(made);
 }
 
-/* Returns the form of a tag whose subtags have the names. */
-static struct varlena *named_form(struct varlena *tag) {
-    check_length("tag", tag, LONGEST_TAG);
-    return form_of_tag(tag, langtag_name_form, 0);
-}
-
 OF_ONE(pg_langtag_describe, tag) {
-    struct varlena *form = named_form(tag);
+    struct varlena *form = form_of_tag(tag, langtag_name_form, 0);
     char none, *name;
     size_t len;
     text *made;
@@ -591,7 +584,7 @@ OF_ONE(pg_langtag_describe, tag) {
 }
 
 OF_ONE(pg_langtag_autonym, tag) {
-    struct varlena *form = named_form(tag);
+    struct varlena *form = form_of_tag(tag, langtag_name_form, 0);
     const char *name = langtag_name_autonym(BYTES(form), LEN(form));
     text *made = name == NULL ? NULL : in_server_encoding(name, strlen(name));
     if (made == NULL) PG_RETURN_NULL();
@@ -615,6 +608,23 @@ OF_ONE(pg_langtag_unknown_modifier, name) {
     langtag_span found;
     if (!langtag_unknown_modifier(BYTES(name), LEN(name), &found)) PG_RETURN_NULL();
     PG_RETURN_TEXT_P(cstring_to_text_with_len(BYTES(name) + found.start, (int)found.len));
+}
+
+/* Its time grows with the product of both lengths. */
+OF_TWO(pg_langtag_resolved_locale, range, tag) {
+    size_t room = LEN(range) + LEN(tag) + 32, len;
+    struct varlena *made = palloc(VARHDRSZ + room);
+    check_length("range", range, LONGEST_HEADER);
+    check_length("tag", tag, LONGEST_HEADER);
+    len = langtag_resolved_locale(BYTES(range), LEN(range), BYTES(tag), LEN(tag), VARDATA(made), room);
+    if (len > room) {
+        pfree(made);
+        made = palloc(VARHDRSZ + len);
+        langtag_resolved_locale(BYTES(range), LEN(range), BYTES(tag), LEN(tag), VARDATA(made), len);
+    }
+    SET_VARSIZE(made, VARHDRSZ + len);
+    langtag_recommend(VARDATA(made), len);
+    PG_RETURN_POINTER(made);
 }
 
 OF_TWO(pg_langtag_distance, desired, supported) {

@@ -182,7 +182,7 @@ def wheel(folder: str | pathlib.Path, library: pathlib.Path, platforms: str, com
 
 def sdist(folder: str | pathlib.Path, library: pathlib.Path) -> str:
     """Writes an sdist, and returns its name: the sources of the C module with the archive, so that it needs no cargo."""
-    examples = tree(EXAMPLES, r"(parts|gettext_catalogue)\.py", "examples/")
+    examples = tree(EXAMPLES, r"gettext_catalogue\.py", "examples/")
     files = {**tree(HERE, SDIST_FILES), **module_files(), **examples, **rows(), **notes(readme()), **tree(HEADER, r"langtag_names(_data)?\.h"),
              "liblangtag_c.a": library.read_bytes(), "langtag.h": (HEADER / "langtag.h").read_bytes(), "PKG-INFO": metadata()}
     top = f"langtag_verified-{of_python()}"

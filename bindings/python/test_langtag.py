@@ -16,8 +16,8 @@ import weakref
 
 import langtag
 import wrong_calls
-from langtag import (AcceptLanguage, BestMatch, EditError, InvalidTag, Kind, Range, Site, Tag, kind, look_up, parse, stop_len,
-                     tag_for_header, tag_for_header_lenient, viable_len)
+from langtag import (AcceptLanguage, BestMatch, EditError, InvalidTag, Kind, Range, Site, Tag, kind, look_up, parse, tag_for_header,
+                     tag_for_header_lenient)
 
 
 class Kinds(unittest.TestCase):
@@ -33,9 +33,9 @@ class Kinds(unittest.TestCase):
                 return b"x-a"
 
         for text in (Short(b"zh-Hant"), Long(b"zh-Hant"), Odd("zh-Hant")):
-            self.assertEqual((str(parse(text)), kind(text), viable_len(text), stop_len(text)), ("zh-Hant", Kind.NORMAL, 7, 7))
+            self.assertEqual((str(parse(text)), kind(text)), ("zh-Hant", Kind.NORMAL))
             self.assertEqual(str(Range(text)), "zh-Hant")
-        self.assertEqual((kind(Short(b"de\0")), viable_len(Short(b"de\0"))), (None, 2))
+        self.assertIsNone(kind(Short(b"de\0")))
 
     def test_the_invalid_character(self):
         self.assertEqual((caught(Tag, "dé").subtag, caught(Tag, "d\udc80").subtag, caught(Tag, b"d\xff").subtag), ("dé", "d\udc80", "d\\xff"))
@@ -260,6 +260,11 @@ class Names(unittest.TestCase):
             if Tag(text).is_valid and not "qaa" <= text <= "qtz":  # for private use
                 self.assertNotRegex(langtag.describe(text), "^[a-z]{2,3}$")
 
+    def test_that_a_tag_beyond_the_limit_is_named_by_its_canonical_form(self):
+        for count, name, own in ((262_144, "German", "Deutsch"), (262_145, "ger", None)):
+            tag = ("ger-x" + "-abcdefgh" * 30_000)[: count - 1] + "a"
+            self.assertEqual((langtag.describe(tag), langtag.autonym(tag)), (name, own))
+
 
 class Edits(unittest.TestCase):
     def test_several(self):
@@ -449,7 +454,7 @@ class Threads(unittest.TestCase):
 class Help(unittest.TestCase):
     def test_that_it_shows_the_calls(self):
         said = pydoc.render_doc(langtag, renderer=pydoc.plaintext)
-        for name in ("matches_basic", "canonical", "extensions_form", "locale_form", "is_locale", "keywords", "tag_for_header_lenient", "viable_len", "invalid_subtag", "private_use"):
+        for name in ("matches_basic", "canonical", "extensions_form", "locale_form", "is_locale", "keywords", "tag_for_header_lenient", "invalid_subtag", "private_use"):
             self.assertIn(name, said)
         for name in ("with_traceback", "__getnewargs__", "_asdict", "add_note"):
             self.assertNotIn(f" {name}(", said)

@@ -79,16 +79,19 @@ def answer_tag(text):
         "language": tag.language and " ".join(languages), "script": tag.script, "region": tag.region, "variants": " ".join(tag.variants) or None,
         "extensions": " ".join(extensions_of(tag)) or None, "private_use": tag.private_use and tag.private_use.replace("-", " "),
         "repeated_variant": tag.repeated_variant, "repeated_singleton": tag.repeated_singleton,
-        "recommended": tag.recommended(), "folded": tag.folded(), "hash": f"{tag.fnv1a():016x}",
+        "recommended": tag.recommended(), "folded": tag.folded(),
     }
     return "\n".join([kind, *(f"  {name} {value}" for name, value in found.items() if value is not None)])
 
 
 def adapted(row):
-    """Returns the answer as Python gives it: without offsets of repeats, and with lowercase keys in a dictionary."""
+    """Returns the answer as Python gives it: without hashes, offsets of repeats and the number of bytes that are read, and with
+    lowercase keys in a dictionary."""
+    if row.call == "scan":
+        return row.wanted.partition(" ")[2]
     if row.call in ("keywords", "transform"):
         return re.sub(r"\w\w=", lambda key: key[0].lower(), row.wanted)
-    return re.sub(r"\n  at_\w+ \d+", "", row.wanted)
+    return re.sub(r"\n  (?:hash|at_\w+) \w+", "", row.wanted)
 
 
 def answer_validity(tag):
@@ -128,9 +131,9 @@ def answer_grandfathered(text):
 
 
 def answer_scan(text):
-    """Returns how many bytes have to be read, how many prefixes are tags, and the kind of the text with the ends of its parts."""
+    """Returns how many prefixes are tags, and the kind of the text with the ends of its parts."""
     tag, fronts = made(Tag, text), sum(langtag.kind(text[:end]) is not None for end in range(len(text) + 1))
-    what = [langtag.stop_len(text), fronts, KINDS[langtag.kind(text)]]
+    what = [fronts, KINDS[langtag.kind(text)]]
     if tag is not None and tag.kind is langtag.Kind.IRREGULAR:
         what.append(GRANDFATHERED.index(tag.grandfathered))
     if tag is not None and tag.kind is langtag.Kind.NORMAL:
@@ -239,7 +242,7 @@ def answer_refused(text):
     _, error = outcome(Tag, text)
     if error is None:
         return f"none {len(text)} 0 {len(text)}"
-    assert text.decode("utf-8", "backslashreplace").find(error.subtag) >= 0 and error.viable_len <= len(text)
+    assert text.decode("utf-8", "backslashreplace").find(error.subtag) >= 0
     why = error.reason
     kind = "end" if why == "unexpected end: expected a subtag" else "byte" if why.startswith("invalid character ") else "subtag"
     answer, start, length, offset = langtag._backend.refused(text)
@@ -260,6 +263,13 @@ def answer_message(text, kind=Tag):
 def answer_distance(desired, supported):
     desired, supported = made(Tag, desired), made(Tag, supported)
     return shown(desired and supported and langtag.distance(desired, supported))
+
+
+def answer_resolved_locale(range, tag):
+    tag = made(Tag, tag)
+    locale = tag and langtag.resolved_locale(range, tag)
+    assert not tag or (type(locale) is Tag and str(langtag.resolved_locale(range, locale)) == str(locale))
+    return shown(locale)
 
 
 def answer_parents(tag):
@@ -343,6 +353,7 @@ ANSWERS = {
     "keywords": of_tag(answer_keywords), "transform": of_tag(answer_transform), "refused": answer_refused,
     "fault": of_tag(lambda tag: str(tag.invalid_subtag or "valid").partition(": did you mean ")[0]),
     "message": answer_message, "range-message": lambda text: answer_message(text, Range), "distance": answer_distance,
+    "resolved-locale": answer_resolved_locale,
     "posix": lambda name: shown(outcome(Tag.from_posix, name)[0]), "posix-name": of_tag(answer_posix_name),
     "unknown-modifier": lambda name: shown(langtag.unknown_modifier(name)), "best": answer_best, "best-ranges": answer_best_ranges,
     "best-accepted": answer_best_accepted, "best-match": answer_best_match,
@@ -351,7 +362,7 @@ ANSWERS = {
     "parents": of_tag(answer_parents), "tag": answer_tag, "scan": answer_scan, "recommended": of_tag(Tag.recommended, None), "validity": of_tag(answer_validity, "none"),
     "suggestion": of_tag(lambda tag: tag.invalid_subtag and tag.invalid_subtag.suggestion),
     "canonical": of_tag(answer_canonical), "grandfathered": answer_grandfathered, "order": answer_order, "edit": answer_edit,
-    "viable": lambda text: f"{langtag.viable_len(text)} {langtag.stop_len(text)}", "range": answer_range, "match": answer_match,
+    "range": answer_range, "match": answer_match,
     "header": answer_header, "elements": answer_elements, "ranges": lambda ranges, tags: shown(look_up(map(Range, ranges.split()), map(Tag, tags.split()))),
     "fallbacks": lambda text: shown(list(made(Range, text).fallbacks()) if made(Range, text) else "refused"),
 }

@@ -9,7 +9,7 @@ from langtag import (AcceptLanguage, EditError, InvalidLocale, InvalidRange, Inv
 TAG, RANGE = Tag("de"), Range("de")
 MADE, MADE_RANGE = Tag.__new__(Tag), Range.__new__(Range)  # values without __init__
 
-ABOUT_TEXT = [langtag.kind, langtag.viable_len, langtag.stop_len, Tag.from_posix, langtag.unknown_modifier, TAG.keyword]
+ABOUT_TEXT = [langtag.kind, Tag.from_posix, langtag.unknown_modifier, TAG.keyword]
 ABOUT_TAG = [lambda it: langtag.distance("de", it), lambda it: langtag.distance(it, "de"), langtag.describe, langtag.autonym]
 MATCHES = [RANGE.matches_basic, RANGE.matches_extended]
 OF_TAG = [str, repr, hash, Tag.canonical, Tag.folded, lambda it: it.script, lambda it: it == TAG, lambda it: it < TAG]

@@ -30,15 +30,12 @@ typedef struct function {
     bool (*is)(const char *tag, size_t len);
     bool (*matches)(const char *range, size_t range_len, const char *tag, size_t tag_len);
     bool is_for_ranges; /* a choice for a list of ranges, and not for a header */
-    size_t longest;     /* the greatest length of a tag, or 0 if there is no limit */
+    bool is_quadratic; /* a call that cannot be interrupted, so it refuses a longer tag than names are made of */
 } function;
-
-/* The limit of calls whose time is quadratic, and that cannot be interrupted. PostgreSQL has the same limit. */
-#define LONGEST_TAG 262144
 
 /* A function with a call of its own, and a form, whose function of the library has the name that it has in SQL. */
 #define CALL(sql, count, own) {.name = sql, .arguments = count, .call = own}
-#define FORM(both, limit) {.name = #both, .arguments = 1, .call = form, .form = both, .longest = limit}
+#define FORM(both, quadratic) {.name = #both, .arguments = 1, .call = form, .form = both, .is_quadratic = quadratic}
 
 static const function *called(sqlite3_context *context) { return sqlite3_user_data(context); }
 
@@ -59,12 +56,11 @@ static text text_of(sqlite3_value *value) {
     return (text){at, at ? (size_t)sqlite3_value_bytes(value) : 0};
 }
 
-/* Returns whether a tag is longer than the limit of the function, which is an error. */
+/* Returns whether a tag is too long for the function, which is an error. */
 static bool is_too_long(sqlite3_context *context, text tag) {
-    const size_t longest = called(context)->longest;
     char why[80];
-    if (longest == 0 || tag.len <= longest) return false;
-    sqlite3_snprintf(sizeof why, why, "tag is too long (%llu bytes, limit %llu)", (unsigned long long)tag.len, (unsigned long long)longest);
+    if (!called(context)->is_quadratic || tag.len <= LANGTAG_NAME_LONGEST) return false;
+    sqlite3_snprintf(sizeof why, why, "tag is too long (%llu bytes, limit %d)", (unsigned long long)tag.len, LANGTAG_NAME_LONGEST);
     sqlite3_result_error(context, why, -1);
     return true;
 }
@@ -114,18 +110,19 @@ static void return_made(sqlite3_context *context, char *made) {
     if (!lacks(context, made)) sqlite3_result_text(context, made, -1, sqlite3_free);
 }
 
-/* Of what a string is made: its form, or the parent at an index above 0, or the tag with the value of a key, or without the key if the
- * value is NULL. */
+/* Of what a string is made: its form, or the parent at an index above 0, or the locale for a range, or the tag with the value of a key, or
+ * without the key if the value is NULL. */
 typedef struct source {
     size_t (*form)(const char *tag, size_t len, char *buffer, size_t buffer_len);
     uint32_t parent;
-    text tag, key, value;
+    text tag, range, key, value;
 } source;
 
 static size_t write_source(const source *of, char *buffer, size_t room) {
-    const text tag = of->tag, key = of->key, value = of->value;
+    const text tag = of->tag, range = of->range, key = of->key, value = of->value;
     if (of->form) return of->form(tag.at, tag.len, buffer, room);
     if (of->parent > 0) return langtag_nth_parent(tag.at, tag.len, of->parent - 1, buffer, room);
+    if (range.at) return langtag_resolved_locale(range.at, range.len, tag.at, tag.len, buffer, room);
     if (!value.at) return langtag_without_keyword(tag.at, tag.len, key.at, key.len, buffer, room);
     return langtag_with_keyword(tag.at, tag.len, key.at, key.len, value.at, value.len, buffer, room);
 }
@@ -161,10 +158,10 @@ FUNCTION(form) {
 }
 
 /* Returns the form of a tag whose subtags have the names, in memory to be freed, and sets `len`. Returns NULL if the string is not a tag, or
- * is too long, or memory is short, which are errors. */
+ * memory is short, which is an error. */
 static char *named_form(sqlite3_context *context, text tag, size_t *len) {
     char none;
-    *len = tag.at && !is_too_long(context, tag) ? langtag_name_form(tag.at, tag.len, &none, 0) : 0;
+    *len = tag.at ? langtag_name_form(tag.at, tag.len, &none, 0) : 0;
     if (*len == 0) return NULL;
     char *form = sqlite3_malloc64(*len);
     if (lacks(context, form)) return NULL;
@@ -207,6 +204,15 @@ FUNCTION(set_keyword) {
     if (!removes && lacks(context, value.at)) return; /* no memory for the string of a number is no reason to remove the key */
     if (!tag.at || !key.at || !langtag_kind(tag.at, tag.len)) return; /* NULL */
     if (!return_written(context, &(source){.tag = tag, .key = key, .value = value})) sqlite3_result_error(context, why_refused(key, value), -1);
+}
+
+/* The time grows with the product of both lengths, so both have a limit, which PostgreSQL has, too. */
+FUNCTION(resolved_locale) {
+    const size_t longest = 8192;
+    const text range = text_of(values[0]), tag = text_of(values[1]);
+    if (!range.at || !tag.at) return; /* NULL */
+    if (range.len > longest || tag.len > longest) sqlite3_result_error(context, "langtag_resolved_locale: more than 8192 bytes", -1);
+    else return_written(context, &(source){.tag = tag, .range = range});
 }
 
 /* Reads an argument of a function that says yes or no. Returns false if it is NULL, as then the result is, or if there is no memory for
@@ -259,11 +265,24 @@ typedef struct offered {
     bool is_prepared;
 } offered;
 
-/* Returns the tags of a call, which the caller frees. Returns NULL if there is no memory, which is an error. */
+/* Returns whether a string is not a tag, which is an error in a choice. NULL is skipped. */
+static bool is_no_tag(sqlite3_context *context, text tag) {
+    char why[120];
+    if (!tag.at || langtag_kind(tag.at, tag.len) != LANGTAG_NONE) return false;
+    sqlite3_snprintf(sizeof why, why, "langtag: expected language tags, got `%.*s`", (int)(tag.len < 80 ? tag.len : 80), tag.at);
+    sqlite3_result_error(context, why, -1);
+    return true;
+}
+
+/* Returns the tags of a call, which the caller frees. Returns NULL if a string is not a tag or there is no memory, which are errors. */
 static offered *offer(sqlite3_context *context, int count, sqlite3_value **values) {
     const size_t tags_count = (size_t)count - 1;
     size_t len = 0;
-    for (size_t k = 1; k <= tags_count; k++) len += text_of(values[k]).len;
+    for (size_t k = 1; k <= tags_count; k++) {
+        const text tag = text_of(values[k]);
+        if (is_no_tag(context, tag)) return NULL;
+        len += tag.len;
+    }
     offered *tags = sqlite3_malloc64(sizeof *tags + tags_count * (sizeof *tags->site + sizeof *tags->spans + sizeof *tags->found) + len + 1);
     if (lacks(context, tags)) return NULL;
     tags->count = tags_count;
@@ -424,7 +443,9 @@ static bool same_header(sqlite3_context *context, group *rows, text header) {
 FUNCTION(group_step) {
     group *rows = sqlite3_aggregate_context(context, sizeof *rows);
     text header, tag;
-    if (lacks(context, rows) || !given(context, values[0], &header) || !given(context, values[1], &tag) || !same_header(context, rows, header)) return;
+    if (lacks(context, rows) || !given(context, values[0], &header) || !given(context, values[1], &tag) || is_no_tag(context, tag) ||
+        !same_header(context, rows, header))
+        return;
     char *bytes = sqlite3_realloc64(rows->bytes, rows->best_len + tag.len + 1);
     if (lacks(context, bytes)) return;
     rows->bytes = bytes;
@@ -463,16 +484,16 @@ int sqlite3_sqlitelangtag_init(sqlite3 *db, char **message, const sqlite3_api_ro
     static function functions[] = {
         CALL("langtag_part", 2, part), CALL("langtag_keyword", 2, keyword), CALL("langtag_set_keyword", 3, set_keyword), CALL("langtag_base", 1, base),
         CALL("langtag_nth_parent", 2, nth_parent), CALL("langtag_suggestion", 1, suggestion),
-        {.name = "langtag_describe", .arguments = 1, .call = describe, .longest = LONGEST_TAG},
-        {.name = "langtag_autonym", .arguments = 1, .call = autonym, .longest = LONGEST_TAG},
+        CALL("langtag_describe", 1, describe), CALL("langtag_autonym", 1, autonym),
         CALL("langtag_unknown_modifier", 1, unknown_modifier), CALL("langtag_distance", 2, distance), CALL("langtag_version", 0, version),
         CALL("langtag_best_for_header", -1, best), CALL("langtag_match_for_header", -1, match_for_header),
         CALL("langtag_suitable_for_header", -1, suitable),
+        {.name = "langtag_resolved_locale", .arguments = 2, .call = resolved_locale},
         {.name = "langtag_best_for_ranges", .arguments = -1, .call = best, .is_for_ranges = true},
         {.name = "langtag_suitable_for_ranges", .arguments = -1, .call = suitable, .is_for_ranges = true},
-        FORM(langtag_extensions_form, LONGEST_TAG), FORM(langtag_locale_form, LONGEST_TAG), FORM(langtag_canonical, 0), FORM(langtag_maximized, 0),
-        FORM(langtag_minimized, 0), FORM(langtag_parent, 0), FORM(langtag_from_posix, 0), FORM(langtag_to_posix, 0),
-        {.name = "langtag_is_locale", .arguments = 1, .call = is, .is = langtag_is_locale, .longest = LONGEST_TAG},
+        FORM(langtag_extensions_form, true), FORM(langtag_locale_form, true), FORM(langtag_canonical, false), FORM(langtag_maximized, false),
+        FORM(langtag_minimized, false), FORM(langtag_parent, false), FORM(langtag_from_posix, false), FORM(langtag_to_posix, false),
+        {.name = "langtag_is_locale", .arguments = 1, .call = is, .is = langtag_is_locale, .is_quadratic = true},
         {.name = "langtag_is_well_formed", .arguments = 1, .call = is, .is = is_well_formed},
         {.name = "langtag_is_valid", .arguments = 1, .call = is, .is = is_valid},
         {.name = "langtag_is_right_to_left", .arguments = 1, .call = is, .is = langtag_is_right_to_left},

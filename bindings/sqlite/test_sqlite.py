@@ -171,7 +171,7 @@ STATEMENTS = [
     ("SELECT langtag_best_for_header('de', NULL) IS NULL, langtag_best_for_header('', NULL, 'de') IS NULL, langtag_best_for_header('fi') IS NULL, langtag_match_for_header('fi') IS NULL;", "1|1|1|1"),
     ("SELECT langtag_match_for_header('fi, de_AT;q=0.5', NULL, 'en', 'de');", '{"index":2,"tag":"de","distance":4,"range":"de_AT"}'),
     # A choice among rows: NULL is skipped, and the first of equally good tags is taken.
-    ("SELECT langtag_group_best_for_header('zh-TW', column1) FROM (VALUES (NULL), ('en'), ('zh'), ('not a tag at all'), ('zh-Hant'), ('zh-Hant-x-a'), (NULL));", "zh-Hant"),
+    ("SELECT langtag_group_best_for_header('zh-TW', column1) FROM (VALUES (NULL), ('en'), ('zh'), ('zh-Hant'), ('zh-Hant-x-a'), (NULL));", "zh-Hant"),
     ("SELECT langtag_group_best_for_header('de', 'de') IS NULL WHERE 0;", "1"),
     ("SELECT langtag_group_best_for_header('de', tag) = max(tag) FROM (SELECT 'de-CH-x-a' AS tag UNION ALL SELECT 'de-x' || replace(hex(zeroblob(1000)), '00', '-abcdefg'));", "1"),
     ("CREATE TABLE t (page, tag); INSERT INTO t VALUES (1, 'en'), (2, 'de'), (1, 'de-CH'), (2, 'fr'), (3, 'ja');"
@@ -228,15 +228,24 @@ class Sqlite(unittest.TestCase):
         self.assertIn("expected a header or ranges", sqlite("SELECT langtag_best_for_header();")[1])
         for index in ("'x'", "''", "'1x'", "X'31'"):
             self.assertIn("the index is not a number", sqlite(f"SELECT langtag_nth_parent('de', {index});")[1], index)
+        for call in ("best_for_header('de', 'en', {})", "match_for_header('de', {}, 'de')", "suitable_for_header('de', 'de', {})",
+                     "best_for_ranges('de', {})", "suitable_for_ranges('de', {}, NULL)", "group_best_for_header('de', {})"):
+            for given in ("en_US", "", "de-" + 200 * "a"):
+                said, complaint = sqlite(f"SELECT langtag_{call.format(repr(given))};")
+                self.assertIn(f"expected language tags, got `{given[:80]}`", complaint)
+                self.assertEqual(said, "")
         self.assertIn("the header differs in the rows of a group", sqlite("SELECT langtag_group_best_for_header(column1, 'de') FROM (VALUES ('de'), ('en'));")[1])
 
     def test_lengths(self):
-        """A call whose time is quadratic refuses a tag of more than 262,144 bytes."""
+        """A call whose time is quadratic refuses a tag of more than 262,144 bytes. The name of such a tag is that of its canonical form."""
         tag = "'de-x-' || substr(replace(hex(zeroblob(40000)), '00', 'abcdefgh-'), 1, {}) || 'a'"
-        for name in ("autonym", "describe", "extensions_form", "is_locale", "locale_form"):
+        for name in ("extensions_form", "is_locale", "locale_form"):
             said, complaint = sqlite("".join(f"SELECT langtag_{name}({tag.format(len)}) IS NOT NULL;\n" for len in (262138, 262139)))
             self.assertEqual(said, "1\n", name)
             self.assertIn("tag is too long (262145 bytes, limit 262144)", complaint)
+        tag = tag.replace("de-x", "ger-x")
+        said, complaint = sqlite("".join(f"SELECT langtag_describe({tag.format(len)}), langtag_autonym({tag.format(len)});\n" for len in (262137, 262138)))
+        self.assertEqual((said, complaint), ("German|Deutsch\nger|\n", ""))
 
     def differing(self, choose, tags):
         """Returns the query that counts the headers whose choice differs if SQLite does not keep the tags, because the first is a column."""
@@ -264,13 +273,13 @@ class Sqlite(unittest.TestCase):
 
     def test_tags_that_change(self):
         """Tags that change in a statement are read again: a longer list, other bytes of the same length, NULL, and the same tags later."""
-        lists = "('de', 'fr'), ('de', 'fr'), ('de', 'ja'), ('de', 'ja'), ('d', 'efr'), ('ja', 'de'), ('ja', 'de'), (NULL, 'de'), (NULL, 'de'), ('', 'de'), ('de', NULL), ('de', 'fr'), ('de', 'fr')"
+        lists = "('de', 'fr'), ('de', 'fr'), ('de', 'ja'), ('de', 'ja'), ('def', 'ra'), ('de', 'fra'), ('ja', 'de'), ('ja', 'de'), (NULL, 'de'), (NULL, 'de'), ('de', NULL), ('de', 'fr'), ('de', 'fr')"
         script = (f"CREATE TABLE lists AS SELECT column1 AS a, column2 AS b FROM (VALUES {lists}); CREATE TABLE headers AS SELECT header, a, b "
                   "FROM (SELECT 'de' AS header UNION ALL SELECT 'fr,ja;q=0.5' UNION ALL SELECT 'ja') CROSS JOIN lists;")
         script += "CREATE TABLE firsts AS SELECT 'en' AS first;" + "".join(
             self.differing(choose, ["'en'", "a", "b"]) for choose in ("langtag_best_for_header", "langtag_match_for_header"))
         script += "SELECT group_concat(coalesce(langtag_best_for_header(header, 'en', a, b), '-'), ' ') FROM headers WHERE header = 'fr,ja;q=0.5';"
-        self.assertEqual(sqlite(script), ("0\n0\nfr fr ja ja - ja ja - - - - fr fr\n", ""))
+        self.assertEqual(sqlite(script), ("0\n0\nfr fr ja ja - fra ja ja - - - fr fr\n", ""))
 
     def test_check(self):
         """A CHECK refuses what is no valid tag, and NOT NULL refuses NULL."""

@@ -7,7 +7,7 @@ debian_lintian() {
 # What a user does with the packages, in the copy, without a variable of these checks.
 cat >"$work/debian_used.sh" <<'END_OF_USE'
 set -euo pipefail
-cd /tmp && cp "$1/examples/parts.c" "$1/examples/parts.cc" .
+cd /tmp && cp "$1"/../first/parts.c* .
 export DEBIAN_FRONTEND=noninteractive
 apt-get install -y -qq -o APT::Sandbox::User=root "$2"/*.deb >/dev/null
 cc parts.c $(pkg-config --cflags --libs langtag_verified) -o parts && ./parts zh-Hant-TW

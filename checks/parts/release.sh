@@ -11,8 +11,8 @@ check "release: two runs give the same bytes" releases
 
 # Checks what only the tarball has: the archive under the name in the page, and the examples.
 by_itself() {
-    away 'tar -xzf ../dist/*-x86_64-elf.tar.gz; cd liblangtag-verified-*; rm ../parts.*
-        c++ -std=c++17 examples/parts.cc -Iinclude lib/liblangtag_verified.a -o parts; ./parts zh-Hant-TW >cc
+    away 'tar -xzf ../dist/*-x86_64-elf.tar.gz; cd liblangtag-verified-*; mv ../parts.cc .; rm ../parts.*
+        c++ -std=c++17 parts.cc -Iinclude lib/liblangtag_verified.a -o parts; ./parts >cc
         cc examples/parts.c -Iinclude lib/liblangtag_verified.a -o parts; ./parts zh-Hant-TW | tee c; cmp c cc'
 }
 
@@ -20,7 +20,7 @@ by_itself() {
 hide=
 if unshare -rm true 2>/dev/null; then hide="unshare -rm"; else not_run "release: hiding the repository" "unshare is refused"; fi
 away() {
-    folder=$(mktemp -d -p "$work") && cp examples/parts.* "$root/rust/examples/parts.rs" "$folder" || return 1
+    folder=$(mktemp -d -p "$work") && cp "$work"/first/* "$folder" || return 1
     $hide bash -c 'set -e; cd "$1"; hide=$2 root=$3 copy=$4; shift 4
         if [ -n "$hide" ]; then mount -t tmpfs none "$root"; mount -t tmpfs none "$copy"; fi
         unset LANGTAG_ARCHIVE LANGTAG_ANSWERS; eval "$1"' away \
@@ -43,12 +43,13 @@ needs 'has cmake' "there is no cmake" "release: C by find_package" by_cmake
 crate() {
     away 'tar -xzf ../dist/*.crate; cargo new -q --vcs none first; cp parts.rs first/src/main.rs; cd first
         cp -r ../../with-serde/.cargo .cargo; export CARGO_TARGET_DIR=$PWD/../../released CARGO_HOME=$PWD/cargo-home
-        cargo add -q --offline --path ../langtag-verified-*/; cargo run -q --offline zh-Hant-TW'
+        cargo add -q --offline --path ../langtag-verified-*/; cargo run -q --offline'
 }
 # Its own tests, with all features.
 crate_tests() {
     away 'tar -xzf ../dist/*.crate; cd langtag-verified-*; cp -r ../../with-serde/.cargo .cargo; export CARGO_TARGET_DIR=$PWD/../../released CARGO_HOME=$PWD/cargo-home
-        cargo test -q --offline --all-features >log 2>&1 || { cat log; exit 1; }; cargo run -q --offline --example parts zh-Hant-TW'
+        cargo test -q --offline --all-features >log 2>&1 || { cat log; exit 1; }
+        echo zh-Hant-TW | cargo run -q --offline show | grep -oE "(language|script|region)=\w+" | tr = " "'
 }
 if ! lacks "release: the Rust crate and its tests" '[ -d "$work/with-serde" ]' "there is no cargo, or no serde in $registry"; then
     check "release: the tests of the Rust crate, with all features" crate_tests
@@ -59,7 +60,7 @@ fi
 python_package() {
     local venv=$work/venv${1//\//-}
     [ -d "$venv" ] || "$1" -m venv "$venv" || return 1
-    away "cp -r $venv v; $2 v/bin/python parts.py zh-Hant-TW"
+    away "cp -r $venv v; $2 v/bin/python parts.py"
 }
 wheel_released() { python_package "$1" 'v/bin/python -m pip install -q --no-index --find-links ../dist --only-binary :all: langtag-verified;'; }
 sdist_released() {

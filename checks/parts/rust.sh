@@ -49,7 +49,7 @@ needs 'ls "$registry"/serde-1.* "$registry"/serde_json-1.* >/dev/null 2>&1' \
 
 program() {
     cargo new -q --vcs none tags && cd tags && cargo add -q --offline --path "$rust_crate" || return 1
-    cp "$rust_crate/examples/parts.rs" src/main.rs
-    cargo run -q zh-Hant-TW | diff - <(wanted)
+    cp "$work/first/parts.rs" src/main.rs
+    cargo run -q | diff - <(wanted)
 }
 check "Rust: a program of a user" program

@@ -14,7 +14,7 @@ import sys
 
 sys.path.append(str(pathlib.Path(__file__).resolve().parent.parent))
 import common  # noqa: E402
-from common import (Generator, Refused, bits, cldr_version, codes, files_of, folded_number, head, joined, keys, letter_number, rows_of, run,  # noqa: E402
+from common import (Generator, Refused, bits, cldr_version, codes, files_of, folded_number, head, joined, keys, letter_number, lists, rows_of, run,  # noqa: E402
                     table, word_list)
 from matching import Matching  # noqa: E402
 
@@ -27,6 +27,9 @@ SCRIPT_VARIANTS = ["Aran", "Syre", "Syrj", "Syrn"]
 # A column of a table has one byte, so at most 256 values. A key of other_rows also has a byte for the script. There 0 means that
 # there is no script, and the number after the last script means a script that is not in the list.
 MOST_NAMES, MOST_SCRIPTS = 256, 254
+
+# The languages of three letters that begin tags that the registry replaces as a whole, and the language that is unknown.
+CHANGED = ["art", "sgn", "und"]
 
 EMPTY = "-"
 
@@ -101,6 +104,11 @@ def counts(name, doc, bits, items):
     return table(name, doc, f"u{bits}", items)
 
 
+def bit_table(name, doc, words):
+    return table(name, f"A bit for each text of two letters, and then of three, in alphabetical order: it is set if {doc}. The first text has the lowest bit of the first word.",
+                 "u64", [f"0x{word:016X}" for word in words])
+
+
 def names(name, doc, texts):
     return table(name, doc, "[u8; 4]", ['*b"' + text + "\\0" * (4 - len(text)) + '"' for text in texts])
 
@@ -121,8 +129,7 @@ def tables(likely):
         keys("REGION_KEYS", "The keys of the regions, in ascending order: each key is the number whose base-256 digits are the lowercase bytes.", 32, map(folded_number, likely.regions)),
         names("REGION_NAMES", "The same regions as text, in the same order.", likely.regions),
         names("LANGUAGE_NAMES", "An empty entry for no language, and then the languages on the right sides of the rows of `OTHER_KEYS`.", likely.languages),
-        table("LANGUAGE_BITS", "A bit for each text of two letters, and then of three, in alphabetical order: it is set if the language has likely\n"
-                "/// subtags. The first text has the lowest bit of the first word.", "u64", [f"0x{word:016X}" for word in language_bits]),
+        bit_table("LANGUAGE_BITS", "the language has likely\n/// subtags", language_bits),
         counts("LANGUAGE_ENDS", "The number of bits that are set in each word and all words before it.", 16,
                 itertools.accumulate(word.bit_count() for word in language_bits)),
         counts("LANGUAGE_SCRIPTS", "The index of the likely script of each language of `LANGUAGE_BITS`, among the scripts.", 8, map(script, likely.of_languages)),
@@ -170,10 +177,11 @@ def matching_tables(matching):
         head_of("//!", "The rules of language matching", ", in tables"),
         keys("LANGUAGE_RULE_KEYS", "The desired and the supported language of each rule, as one number, in ascending order.", 32, map(matching.language_key, matching.languages)),
         counts("LANGUAGE_RULE_DISTANCES", "The distance that each rule of `LANGUAGE_RULE_KEYS` gives.", 8, [row[2] for row in matching.languages]),
-        keys("SHORT_ALIAS_KEYS", "The keys, in ascending order, of the two-letter languages that are replaced.", 16,
-                [letter_number(row[0]) for row in matching.aliases if len(row[0]) == 2]),
+        bit_table("CHANGED_BITS", "the language is\n/// replaced, is `und`, or begins tags that are replaced (`art`, `sgn`)", bits([row[0] for row in matching.aliases] + CHANGED)),
         keys("SCRIPT_RULE_KEYS", "The desired and the supported language of each rule, both with their scripts, as one number, in ascending order.", 64, map(matching.script_key, matching.scripts)),
         counts("SCRIPT_RULE_DISTANCES", "The distance that each rule of `SCRIPT_RULE_KEYS` gives.", 8, [row[2] for row in matching.scripts]),
+        keys("GROUP_KEYS", "The keys of the groups of regions, in ascending order.", 32, [folded_number(group) for group, _ in matching.groups]),
+        lists("GROUP_REGIONS", "The keys of the regions of each group of `GROUP_KEYS`, in ascending order.", 32, [map(folded_number, regions) for _, regions in matching.groups]),
     ] + [
         keys(f"{const}_{part.upper()}", f"The keys, in ascending order, of the regions that are {'wholly' if part == 'inside' else 'partly'} in {name}.", 32, map(folded_number, texts))
         for name, const in SETS for part, texts in zip(("inside", "partly"), matching.sets[name])
@@ -249,11 +257,13 @@ def alias_lists(matching):
 def matching_lists(matching):
     return "\n".join([
         head_of_lists("The rules of language matching", "ℕ, [], ◌∷◌, List, codes",
-                      "Rattle.langtag_choice.specs.Rules.{Rule, rules_of_languages, rules_of_scripts}"),
+                      "Rattle.langtag_choice.specs.Rules.{Rule, rules_of_languages, rules_of_scripts}", "Rattle.langtag_choice.specs.RegionGroup.{RegionGroup, groups_of_words}"),
         row_list("language_rules", "the rules for languages: a desired language, a supported language, and their distance. A rule that holds in both directions is listed twice", "Rule", "rules_of_languages",
                   [[row[0], row[1], str(row[2])] for row in matching.languages]),
         row_list("script_rules", "the rules for scripts: a desired language with its script, a supported language with its script, and the distance of the scripts. A rule that holds in both directions is listed twice", "Rule",
                   "rules_of_scripts", [[*row[0], *row[1], str(row[2])] for row in matching.scripts]),
+        word_list("region_groups", "the groups of regions other than the world, each before its regions: countries, and smaller groups", "RegionGroup",
+                  "(λ text. groups_of_words (words text))", [[group, *regions] for group, regions in matching.groups], 1),
     ] + [
         row_list(f"{const.lower()}_{part}", f"the regions of ${name}: countries, and groups of countries that are all in it" if part == "inside" else f"groups of countries of which some are in ${name}, but not all",
                   "(List ℕ)", "", [[text] for text in texts])

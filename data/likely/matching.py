@@ -28,6 +28,7 @@ class Matching:
         self.scripts = self.both_ways((((d, a), (s, b)), int(n), one_way) for d, a, s, b, n, one_way in read("script-distance.txt"))
         self.scripts.sort(key=self.script_key)
         self.sets = self.region_sets(read("region-sets.txt"), {row[0]: set(row[1:]) for row in read("region-groups.txt")})
+        self.groups = self.region_groups({row[0]: set(row[1:]) for row in read("region-groups.txt")})
         self.test(read)
 
     @staticmethod
@@ -51,6 +52,13 @@ class Matching:
             partly = {group for group, its in groups.items() if group != "001" and its & countries and not its <= countries}
             sets[name.strip("$")] = (sorted(inside, key=folded_number), sorted(partly, key=folded_number))
         return sets
+
+    @staticmethod
+    def region_groups(groups):
+        """Returns each group with its regions: its countries, and the groups whose countries are all in it. The world is left out, since it
+        has all regions."""
+        regions = {group: its | {other for other, others in groups.items() if other != group and others <= its} for group, its in groups.items() if group != "001"}
+        return [(group, sorted(regions[group], key=folded_number)) for group in sorted(regions, key=folded_number)]
 
     @staticmethod
     def language_key(row):
@@ -101,6 +109,7 @@ class Matching:
         each("script-distance.txt", "a distance from 1 to 50", lambda row: 1 <= row[2] <= 50, self.scripts)
         each("language-distance.txt", "no distance from 15 to 19, nor from 45 to 49", lambda distance: not (15 <= distance <= 19 or 45 <= distance <= 49),
              sorted(self.distances()))
+        each("region-groups.txt", "fewer than 999 regions", lambda row: len(row[1]) < 999, self.groups)
         rules = []
         for language, script, name in SIDES:
             rules.append([language, script, f"${name}", f"${name}", "4"])

@@ -43,6 +43,8 @@ ALIASES = {row[0]: row[1:] for row in rows("language-alias.txt")}
 REGION_ALIASES = {row[0].lower(): row[1] for row in rows("region-alias.txt")}
 REPLACEMENTS = {row[0].lower(): row[1] for row in rows("region-alias.txt") if row[2:] == []}
 GROUPS = {row[0]: set(row[1:]) for row in rows("region-groups.txt")}
+# the regions of each group, countries and smaller groups
+REGIONS = {group: its | {other for other in GROUPS if other != group and GROUPS[other] <= its} for group, its in GROUPS.items()}
 SETS = {row[0]: set(row[1:]) for row in rows("region-sets.txt")}
 LANGUAGE_RULES = [((d, s), int(far), one_way == "1") for d, s, far, one_way in rows("language-distance.txt")]
 SCRIPT_RULES = [((d + "-" + a, s + "-" + b), int(far), one_way == "1") for d, a, s, b, far, one_way in rows("script-distance.txt")]
@@ -284,16 +286,29 @@ def as_read(text):
     return (language if any(more) else replacement) + hyphen + others
 
 
+def is_transformed(text):
+    """Returns whether a tag or a range has the extension t, which begins before private use."""
+    return "t" in itertools.takewhile(lambda subtag: subtag != "x", text.lower().split("-"))
+
+
+def region_width(wish, tag):
+    """Returns the number of regions of the tag's group if the range's region is in it, 999 for the world, and else 1000."""
+    region, code = (form[2] if form else "" for form in map(matching_form, (wish, tag)))
+    return 999 if code == "001" else len(REGIONS[code]) if region in REGIONS.get(code, ()) else 1000
+
+
 def nearest(wish, near, tags):
-    """Returns the best of several indices of tags at the same distance: of those that lack the fewest variants of the range, the tag
-    that look-up finds if all are read as above, or else the most likely tag. Of tags that are read alike, it is the tag that look-up
-    finds as it is written."""
+    """Returns the best of several indices of tags at the same distance: of those that lack the fewest variants of the range, and that
+    have the extension t only if the range has it, the tag that look-up finds if all are read as above, or else the tag of the smallest
+    group that has the range's region, or else the most likely tag. Of tags that are read alike, it is the tag that look-up finds as it
+    is written."""
     lacking = [sum(variant not in variants(tags[index]) for variant in variants(wish)) for index in near]
     near = [index for index, lack in zip(near, lacking) if lack == min(lacking)]
+    near = [index for index in near if is_transformed(wish) or not is_transformed(tags[index])] or near
     read = [as_read(tags[index]).lower() for index in near]
     found = look_up(as_read(wish), read)
     if found is None:
-        return min(near, key=lambda index: unlikely(tags[index]))
+        return min(near, key=lambda index: (region_width(wish, tags[index]), unlikely(tags[index])))
     near = [index for index, text in zip(near, read) if text == read[found]]
     return near[look_up(wish, [tags[index] for index in near]) or 0]
 

@@ -16,10 +16,13 @@
 //!
 //! The tags are a slice, an array or a `Vec` of [`LangTag`], `LangTagBuf`, `&str` or `String`, or
 //! another [`TagList`]. An entry that is not a tag is never chosen.
-use crate::erased::choice;
 use crate::erased::choice::PreparedForm;
+use crate::erased::{choice, locale};
 #[cfg(feature = "alloc")]
 use crate::memory::or_abort;
+use crate::too_short::written_if_any;
+#[cfg(feature = "alloc")]
+use crate::LangTagBuf;
 use crate::{LangTag, TooShort};
 #[cfg(feature = "alloc")]
 use alloc::vec::Vec;
@@ -39,10 +42,12 @@ pub use crate::site::Site;
 /// `*` chooses nothing, so the program's default is used.
 ///
 /// Among tags at the same distance, the best has the most variants of the range. If several have as
-/// many, it is the tag for which lookup removes the fewest subtags from the range, where `eng` is
-/// read as `en`. Then it is the tag with the range's own code, then a tag with the most likely
-/// region of its language, then one of CLDR's paradigm locales, such as `es-419`, and then the
-/// first in the list. So list the tags in the order that you prefer.
+/// many, a tag without the extension t, which marks translations by a machine, is better, unless
+/// the range has it. Then it is the tag for which lookup removes the fewest subtags from the range,
+/// where `eng` is read as `en`. Then it is the tag with the range's own code, then the tag of the
+/// smallest group of regions that has the range's region, such as `es-419` for `es-MX`, then a tag
+/// with the most likely region of its language, then one of CLDR's paradigm locales, such as
+/// `en-GB`, and then the first in the list. So list the tags in the order that you prefer.
 ///
 /// A malformed element is read as far as possible: `de_CH` as `de-CH`. Time is at most proportional
 /// to the length of the header times the length of the tags. Limit the header to 8 KiB, as most
@@ -196,6 +201,59 @@ pub fn write_suitable<'a, 'f>(
         return Err(TooShort::of(tags.count()));
     }
     Ok(found)
+}
+
+/// Returns the locale to format dates and numbers with, next to text in a tag that was chosen for a
+/// range: the tag, with the region and the keywords of the range.
+///
+/// The range is the one that the tag serves, such as `range` of a [`BestMatch`]. Language, script,
+/// variants and private use are those of the tag. Its script is written if it would not be likely
+/// with the region: `zh-CN` for a reader in Hong Kong is `zh-Hans-HK`. All keywords of `u` come from
+/// the range, and other keywords of the tag stay, but `rg` and `sd` go if the range has a region.
+///
+/// The result is the tag itself if the range asks for nothing, as `*` and `en` do. Returns `None` if
+/// the tag is not a tag.
+///
+/// ```
+/// use langtag::choice::{match_for_header, resolved_locale};
+///
+/// let site = ["en", "zh-CN"];
+/// let found = match_for_header("en-GB-u-hc-h12", &site).unwrap();
+/// assert_eq!(resolved_locale(found.range, site[found.index]).unwrap(), "en-GB-u-hc-h12");
+/// assert_eq!(resolved_locale("zh-HK", "zh-CN").unwrap(), "zh-Hans-HK");
+/// ```
+#[cfg(feature = "alloc")]
+#[must_use]
+pub fn resolved_locale(range: impl AsRef<[u8]>, tag: impl TagEntry) -> Option<LangTagBuf> {
+    let tag = tag.tag()?;
+    Some(or_abort(locale::resolved_locale(range.as_ref(), tag)))
+}
+
+/// Writes the locale to format with to a buffer, as `resolved_locale` returns it, and returns what
+/// was written, or `None` if the tag is not a tag.
+///
+/// It does not allocate.
+///
+/// # Errors
+///
+/// Returns the length of the locale if the buffer is too short.
+///
+/// ```
+/// use langtag::choice::write_resolved_locale;
+///
+/// let mut buffer = [0; 16];
+/// assert_eq!(write_resolved_locale("de_AT", "de-DE", &mut buffer)?, Some("de-AT"));
+/// # Ok::<(), langtag::TooShort>(())
+/// ```
+pub fn write_resolved_locale(
+    range: impl AsRef<[u8]>,
+    tag: impl TagEntry,
+    buffer: &mut [u8],
+) -> Result<Option<&str>, TooShort> {
+    let len = tag
+        .tag()
+        .map(|tag| locale::write_resolved_locale(range.as_ref(), tag, buffer));
+    written_if_any(buffer, len)
 }
 
 /// The tags of a list that were not found yet. Those that were found cannot be chosen.

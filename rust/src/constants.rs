@@ -1,9 +1,7 @@
 //! Tags that rustc checks when it compiles a program.
-use crate::erased::scan::ends::Marks;
-use crate::erased::scan::state::{Ending, State};
 use crate::erased::scan::{is_primary, is_region, is_script};
-use crate::erased::tag::recognised::Recognised;
-use crate::{LangTag, PrimaryLanguage, Region, Script, GRANDFATHERED};
+use crate::erased::tag::recognise_text::recognise_bytes;
+use crate::{LangTag, PrimaryLanguage, Region, Script};
 
 /// Returns a [`LangTag`] that rustc has checked: a string that is not a tag is an error of rustc.
 ///
@@ -50,33 +48,9 @@ impl LangTag<'static> {
     /// ```
     #[must_use]
     pub const fn from_static(text: &'static str) -> LangTag<'static> {
-        match recognised(text.as_bytes()) {
+        match recognise_bytes(text.as_bytes()) {
             Some(found) => LangTag::with_found(text, found),
             None => panic!("not a language tag"),
-        }
-    }
-}
-
-/// Returns what the recogniser finds in bytes. rustc can call no method of a trait when it compiles,
-/// so this loop reads a slice. Each step is a call of the proved recogniser.
-const fn recognised(bytes: &[u8]) -> Option<Recognised> {
-    let (mut state, mut marks) = (State::start(), Marks::new());
-    let mut index = 0;
-    while index < bytes.len() {
-        let Some(next) = state.after(bytes[index]) else {
-            return None;
-        };
-        state = next;
-        marks.set(state.part_before(), index);
-        index += 1;
-    }
-    match state.ending() {
-        Ending::NoTag => None,
-        Ending::PrivateUse => Some(Recognised::PrivateUse),
-        Ending::Irregular(index) => Some(Recognised::Irregular(GRANDFATHERED[index])),
-        Ending::Normal(last) => {
-            marks.set(last, bytes.len());
-            Some(Recognised::Normal(marks.ends(bytes.len())))
         }
     }
 }

@@ -2,7 +2,7 @@
 use core::fmt;
 
 use crate::erased::likely::{suggested_language, suggested_region};
-use crate::erased::registry;
+use crate::erased::registry::{fault_at, InvalidSubtag as Found};
 use crate::LangTag;
 
 /// What makes a subtag invalid. It is displayed as one word, such as `second-extlang`.
@@ -34,14 +34,14 @@ impl Fault {
     /// Returns the word for the fault, and for a message the words before and after the subtag.
     fn words(self) -> [&'static str; 3] {
         match self {
-            Fault::Language => ["language", "language", "is not registered"],
-            Fault::Extlang => ["extlang", "extended language", "is not registered"],
-            Fault::SecondExtlang => ["second-extlang", "extended language", "is the second"],
-            Fault::Script => ["script", "script", "is not registered"],
-            Fault::Region => ["region", "region", "is not registered"],
-            Fault::Variant => ["variant", "variant", "is not registered"],
-            Fault::RepeatedVariant => ["repeated-variant", "variant", "is repeated"],
-            Fault::RepeatedSingleton => ["repeated-singleton", "singleton", "is repeated"],
+            Fault::Language => ["language", "language ", " is not registered"],
+            Fault::Extlang => ["extlang", "extended language ", " is not registered"],
+            Fault::SecondExtlang => ["second-extlang", "extended language ", " is the second"],
+            Fault::Script => ["script", "script ", " is not registered"],
+            Fault::Region => ["region", "region ", " is not registered"],
+            Fault::Variant => ["variant", "variant ", " is not registered"],
+            Fault::RepeatedVariant => ["repeated-variant", "variant ", " is repeated"],
+            Fault::RepeatedSingleton => ["repeated-singleton", "singleton ", " is repeated"],
         }
     }
 }
@@ -78,10 +78,17 @@ pub type InvalidSubtagBuf = InvalidSubtag<alloc::string::String>;
 
 impl<'a> InvalidSubtag<&'a str> {
     /// Returns the error for a tag, or `None` if the tag is valid.
+    #[inline]
     pub(crate) fn of(tag: LangTag<'a>) -> Option<Self> {
-        use registry::InvalidSubtag as Found;
+        let (found, index) = fault_at(tag)?;
+        InvalidSubtag::found_in(tag, found, index)
+    }
 
-        let (found, index) = registry::fault_at(tag)?;
+    /// Returns the error for a fault that was found. It is not inlined, so that a valid tag takes less
+    /// time.
+    #[cold]
+    #[inline(never)]
+    fn found_in(tag: LangTag<'a>, found: Found<'a>, index: usize) -> Option<Self> {
         let tag = tag.as_normal()?;
         let ends = tag.ends();
         let extlang = tag.language().primary().len() + 1;
@@ -193,10 +200,17 @@ from!([] InvalidSubtag<&str> => InvalidSubtagBuf: error => error.into_owned());
 
 impl<T: AsRef<str>> fmt::Display for InvalidSubtag<T> {
     fn fmt(&self, f: &mut fmt::Formatter<'_>) -> fmt::Result {
+        // The strings are written as they are: `write!` would take twice the time.
         let [_, what, how] = self.fault.words();
-        write!(f, "{what} {} {how}", self.subtag())?;
-        self.suggestion()
-            .map_or(Ok(()), |code| write!(f, ": did you mean {code}?"))
+        for words in [what, self.subtag(), how] {
+            f.write_str(words)?;
+        }
+        let Some(code) = self.suggestion() else {
+            return Ok(());
+        };
+        f.write_str(": did you mean ")?;
+        f.write_str(code)?;
+        f.write_str("?")
     }
 }
 

@@ -164,11 +164,11 @@ pub fn write_parent<'a, 'b>(
 
 /// An iterator over a tag and its parents, in the order in which a catalogue looks for a string.
 ///
-/// All of them are written in the same script if CLDR lists the language, so `zh-TW` is followed by
-/// `zh-Hant`, and never by `zh`. This does not hold for regions that CLDR replaces, such as `UK` and
-/// `SU`. A script that is likely anyway goes first, and comes back before the
-/// language alone. Extensions and private use go next, then each variant, the last one first, and
-/// then the region. The variants come back with each parent. Case is ignored.
+/// All of them are written in the same script if CLDR lists the language and does not replace the
+/// region, as it does `UK`. So `zh-TW` is followed by `zh-Hant`, and never by `zh`. A script that
+/// is likely anyway goes first, and comes back before the language alone. Extensions and private
+/// use go next, then each variant, the last one first, and then the region. The variants come back
+/// with each parent. Case is ignored.
 ///
 /// If a catalogue's folders name scripts, such as `zh-Hans`, ask for the parents of
 /// [`LangTag::maximized`], which names the script of `zh-CN`. CLDR does not list replaced codes such as `iw` and `cmn`, nor
@@ -207,9 +207,18 @@ impl Iterator for Parents<'_> {
 #[cfg(feature = "alloc")]
 impl core::iter::FusedIterator for Parents<'_> {}
 
+/// The room for most tags. A longer tag is written twice, first for its length.
+#[cfg(feature = "alloc")]
+const USUAL_ROOM: usize = 32;
+
 #[cfg(feature = "alloc")]
 pub(crate) fn to_tag(parent: erased_parent::ParentTag<'_>) -> LangTagBuf {
-    let mut bytes = vec![0; parent.write(&mut [])];
+    let mut buffer = [0; USUAL_ROOM];
+    let len = parent.write(&mut buffer);
+    if let Some(bytes) = buffer.get(..len) {
+        return tag_of(bytes.to_vec());
+    }
+    let mut bytes = vec![0; len];
     parent.write(&mut bytes);
     tag_of(bytes)
 }

@@ -22,8 +22,7 @@
 )]
 #![cfg_attr(not(feature = "data"), doc = "`choice::best_for_header`.")]
 use crate::erased::range::is_range;
-use crate::lists::Ranges;
-pub use crate::lists::TagEntry;
+use crate::lists::{Ranges, TagEntry};
 use crate::LangTag;
 
 #[cfg(feature = "alloc")]

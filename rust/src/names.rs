@@ -23,7 +23,7 @@ use crate::likely::from_posix;
 use crate::{LangTag, LangTagBuf, NormalLangTag, Script};
 
 /// Returns an English name of a tag, made of CLDR's names for the subtags of its
-/// [`LangTag::locale_form`], or of its canonical form if it has none.
+/// [`LangTag::locale_form`], or of its canonical form if it has none or has more than 262,144 bytes.
 ///
 /// If CLDR does not name the language, the name is the tag's own language as IANA's registry describes
 /// it. A subtag without a name is shown as it is. Extensions and private use are left out, but a tag
@@ -70,9 +70,16 @@ pub fn describe<'a>(tag: impl Into<LangTag<'a>>) -> String {
     String::from_utf8(name).unwrap_or_default()
 }
 
+/// The greatest length of a tag whose locale form is written for a name, because that takes
+/// quadratic time.
+const LONGEST: usize = 262_144;
+
 /// Returns the form of a tag whose subtags have the names: `de` for `ger`, as in [`LangTag::locale_form`],
 /// and `es-US` for `es-rUS`, as Android writes it, and as a choice reads it.
 fn form_of(tag: LangTag<'_>) -> LangTagBuf {
+    if tag.as_str().len() > LONGEST {
+        return tag.canonical();
+    }
     tag.locale_form()
         .or_else(|| from_posix(tag.as_str()).ok()?.locale_form())
         .unwrap_or_else(|| tag.canonical())

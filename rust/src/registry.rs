@@ -43,6 +43,7 @@ pub use crate::invalid_subtag::{Fault, InvalidSubtag};
 /// ```
 ///
 /// [RFC 5646 section 2.2.9]: https://www.rfc-editor.org/rfc/rfc5646#section-2.2.9
+#[inline]
 pub fn validate<'a>(tag: impl Into<LangTag<'a>>) -> Result<(), InvalidSubtag<&'a str>> {
     InvalidSubtag::of(tag.into()).map_or(Ok(()), Err)
 }

@@ -132,6 +132,8 @@ fn tags_in_another_form() {
         if locale::locale_form(tag).unwrap().is_some() {
             refuse_each("form as a locale", || is_memory(locale::locale_form(tag)));
         }
+        let call = || is_memory(locale::resolved_locale(b"de-AT-u-nu-latn", tag));
+        refuse_each("locale to format with", call);
         let call = || is_memory(tag.try_to_recommended_case());
         refuse_each("recommended case", call);
         if let Some(normal) = tag.as_normal() {

@@ -13,14 +13,14 @@ import sys
 
 from comments import compare_comments
 from compare import Difference, compare
-from forms import BY_HAND, CRATES, ELSEWHERE, MADE, SHOWING, path_of, with_errors, with_nested_chains, with_paths, with_short_forms
+from forms import BY_HAND, CRATES, ELSEWHERE, MADE, SHOWING, path_of, with_errors, with_nested_chains, with_paths, with_short_forms, with_tables
 from ghosts import without_ghosts
 from kinds import HERE, LIMIT, RUST, read_kinds
 from marks import without_derives, without_imports, without_marks
 from words import without_layout, words_of
 
 LAWS = "laws"
-OF_SOURCE = {"path", "error", "let chain", "short match", "lifetime", "shown elsewhere"}  # kinds that the source alone decides, so their number says nothing
+OF_SOURCE = {"path", "error", "let chain", "short match", "table", "lifetime", "shown elsewhere"}  # kinds that the source alone decides, so their number says nothing
 SOURCES = RUST.parent / "crates"
 
 
@@ -59,7 +59,8 @@ class Checker:
     def compare(self, crate, source, path, counts):
         old = without_ghosts(words_of(source.read_text(encoding="utf-8")), self.ghosts)
         old = with_nested_chains(with_errors(with_paths(old, crate, counts), counts), counts)
-        old = old if crate in ELSEWHERE else with_short_forms(old, counts)
+        if crate not in ELSEWHERE:
+            old = with_short_forms(with_tables(old, source.read_text(encoding="utf-8"), counts), counts)
         new = without_derives(without_marks(words_of(path.read_text(encoding="utf-8")), counts), old, counts)
         old, imported = without_imports(old)
         if source.name == "lib.rt" and crate in SHOWING:

@@ -150,6 +150,27 @@ def condition(words, at):
     return at, joints
 
 
+def with_tables(words, source, counts):
+    """Names a table where it is used, and leaves out the private function that returns it, if it has no documentation."""
+    tables, kept, at = {}, [], 0
+    while at < len(words):
+        end = group_end(words, skip_to(words, at, ("{", ";"))) if starts(words, at, "fn") and starts(words, at + 2, "(", ")", "-", ">") else at
+        body = words[skip_to(words, at, ("{", ";")) + 1 : end - 1] if end > at else []
+        is_private = end > at and not re.search(rf"(pub.*|///.*\n(?:#.*\n)*)fn {words[at + 1]}\(\)", source)
+        if is_private and body[:1] == ["&"] and body[-1].isupper() and all(re.fullmatch(r"[\w:]+", word) for word in body[1:]):
+            tables[words[at + 1]], at = body, end
+        else:
+            kept.append(words[at])
+            at += 1
+    counts["table"] += len(tables)
+    for at in range(len(kept) - 3, -1, -1):
+        if kept[at] in tables and starts(kept, at + 1, "(", ")"):
+            table = tables[kept[at]]
+            whole = words_of("[..]") if kept[at - 1] == "=" else []
+            kept[at : at + 3] = table[1:] if kept[at + 3] in (".", "[") else [*table, *whole]
+    return kept
+
+
 def with_short_forms(words, counts):
     """Writes a `match` on an option as a call of the option, and leaves out a lifetime that rustc adds itself."""
     for at in range(len(words) - 1, -1, -1):

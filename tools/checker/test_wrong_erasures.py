@@ -57,6 +57,8 @@ WRONG = {
     "an option without a value answers otherwise": ("erased/keyword/alphabet.rs", "rest.is_none_or(", "rest.is_some_and("),
     "the value of an option is not used": ("erased/keyword/alias.rs", ".unwrap_or(value)", ".and(Some(value)).unwrap_or(value)"),
     "a result is given to another function": ("erased/choice/rule_distance.rs", ".map_or(80, language_rule_distance)", ".map_or(80, script_rule_distance)"),
+    "a table is another": ("erased/cldr/rows.rs", "place(&tables::SCRIPT_KEYS", "place(&tables::REGION_KEYS"),
+    "a table is cut": ("erased/cldr/direction.rs", "&tables::RIGHT_TO_LEFT_KEYS", "&tables::RIGHT_TO_LEFT_KEYS[1..]"),
     "a result has another lifetime": ("erased/keyword/extension_form.rs", "-> &str {", "-> &'static str {"),
     "a closure has a statement": ("erased/locale/locale_fields.rs", "|regions| {\n        heir", "|regions| {\n        let fields = region_replaced(fields);\n        heir"),
     "an example is lost": (SCRIPT, 'assert!(Script::new("Latn").is_ok());\n', "\n"),

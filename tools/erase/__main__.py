@@ -19,13 +19,13 @@ from ghosts import erase_ghosts
 from memory import erase_allocators
 from paths import add_imports, erase_imports, erase_paths
 from rust import erase_forms, mark_inlined
-from short import shorten
+from short import name_tables, shorten
 from tokens import Code
 
 ROOT = pathlib.Path(__file__).resolve().parents[2]
 RUST, CRATES = ROOT / "rust", ROOT / "crates"
 LIST = "c/src/erased.rs"  # the modules that the C library shares with the Rust crate
-USED_BY_HAND = ["ends", "state", "recognised"]  # modules that src/constants.rs also uses
+USED_BY_HAND = ["recognise_text"]  # modules that src/constants.rs also uses
 LAWS = "laws"  # the module of a crate that has only contracts: its functions do nothing, and nothing calls them
 
 
@@ -37,6 +37,8 @@ def erase(source, module):
     erase_allocators(code)
     erase_forms(code)
     rename_calls(code)
+    if module.crate not in OF_C:
+        name_tables(code)
     mark_inlined(code, module, source.stem)
     if module.crate not in OF_C:
         add_attributes(code, source)

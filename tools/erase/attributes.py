@@ -20,16 +20,26 @@ DERIVED = {name: derived for derived, names in {
 # Those of the errors that contain only the refused text.
 REFUSING = "Clone, Copy, PartialEq, Eq, Hash"
 
-# Functions that rustc can also call when it compiles, by file: `from_static` of tags and parts rests on them. Of two functions of one name,
-# it is the first: that of the borrowed type, not of the owned type, since `String::as_str` is `const` only since Rust 1.87.
+# Functions that rustc can also call when it compiles, by file. Of two functions of one name, it is the first: that of the borrowed type, not of
+# the owned type, since `String::as_str` is `const` only since Rust 1.87.
+OF_TEXT = {"as_str", "as_bytes"}
+OF_KIND = {"is_normal", "is_private_use", "is_grandfathered"}
 CONST = {
+    **dict.fromkeys("extended_lang_tag extension extension_subtag extensions language language_extension private_use_subtag variant "
+                    "variants".split(), OF_TEXT),
+    **dict.fromkeys(("primary_language", "private_use", "region", "script"), {"from_checked", *OF_TEXT}),
     "class": {"is_letter", "is_digit", "are_letters", "are_digits", "is_primary", "is_script", "is_region"},
     "ends": {"new", "set", "ends", "later"},
-    "lang_tag": {"with_found", "as_str", "as_bytes"},
-    "primary_language": {"from_checked", "as_str", "as_bytes"},
-    "region": {"from_checked", "as_str", "as_bytes"},
-    "script": {"from_checked", "as_str", "as_bytes"},
+    "found": {"ends", "irregular", "is_normal", "is_private_use"},
+    "grandfathered": {"at", *OF_TEXT},
+    "kind": OF_KIND,
+    "lang_tag": {"with_found", "as_typed", "is_normal", "is_private_use", *OF_TEXT},
+    "normal_lang_tag": {"with_ends", "ends", *OF_TEXT},
+    "recognise_text": {"recognise_bytes"},
+    "recognised": {"is_normal", "is_private_use"},
+    "slice_reader": {"read_bytes"},
     "state": {"start", "after", "after_class", "part_before", "ending"},
+    "typed_lang_tag": {"kind", "as_normal", "as_private_use", "as_grandfathered", *OF_KIND},
 }
 
 # The types whose methods take `self`, since they are `Copy`: so `.map(Script::as_str)` is possible.

@@ -40,12 +40,12 @@ EXPORTED_BY = {
 REPLACED = set("""
     look_up tag_for_header write_canonical write_maximized write_minimized write_from_posix to_posix write_to_posix
     write_extensions_form write_locale_form write_with_keyword write_without_keyword Site suitable_for_header suitable_for_ranges
-    write_suitable SetKeywordError iter_extension Parents InvalidSubtag validate filter_basic filter_extended
+    write_suitable resolved_locale write_resolved_locale SetKeywordError iter_extension Parents InvalidSubtag validate filter_basic filter_extended
 """.split())
 HIDDEN = set("""
     put_part is_among_first Part Replacement Keys element_at is_empty_element listed_range locale_place split_wanted weight_of
     fault_at suggested_language suggested_region PreparedTag OwnedSite ParentTag Filtered PreparedForm RangeList
-    best_among match_among suitable_among best_for_accept_language distance parent nth_parent
+    best_among match_among suitable_among suitable_count best_for_accept_language distance parent nth_parent
     canonical extlang_form maximized minimized extensions_form locale_form
     keyword keywords attributes transform set_keyword remove_keyword
 """.split())

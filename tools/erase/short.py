@@ -1,8 +1,10 @@
-"""Writes what Rust programmers write shorter: a `match` on an option or a result as a call of it, and lifetimes that rustc adds itself."""
+"""Writes what Rust programmers write shorter: a `match` on an option or a result as a call of it, a table where it is used, and lifetimes that
+rustc adds itself."""
 import re
 
 LEAVES = {"return", "break", "continue", "?"}
 SIMPLE = re.compile(r'(\w+|"[^"]*"|b?\'[^\']*\')((::|\.)\w+)*')
+TABLE = re.compile(r"&(\w+::)*[A-Z][A-Z_0-9]*")
 CHAIN = re.compile(r"[A-Za-z_]\w*|[.:]")
 
 
@@ -12,6 +14,24 @@ def shorten(code):
             shorten_match(code, place)
         elif code[place] == "fn" and code.at(place + 2, "<") and code[place + 4] == ">":
             leave_lifetime_out(code, place)
+
+
+def name_tables(code):
+    """Names a table where it is used, instead of a private function without documentation that returns `&TABLE`."""
+    for place in range(len(code) - 1, -1, -1):
+        if code[place] != "fn" or not code.at(place + 2, "(", ")", "-", ">") or code[place - 1] in ("pub", ")"):
+            continue
+        body = code.next_of(("{",), place)
+        end = code.after(body)
+        table = code.text_of(body + 1, end - 1)
+        if not TABLE.fullmatch(table) or "///" in code.tokens[place].before:
+            continue
+        name = code[place + 1]
+        code.drop(place, end)
+        for at in range(len(code) - 1, -1, -1):
+            if code.at(at, name, "(", ")"):
+                # A walk shortens its slice, so it begins with a slice and not with an array.
+                code.replace(at, at + 3, table[1:] if code[at + 3] in (".", "[") else table + "[..]" * (code[at - 1] == "="))
 
 
 def shorten_match(code, place):

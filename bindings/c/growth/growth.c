@@ -86,8 +86,11 @@ FUNCTION(with_keyword, result = langtag_with_keyword(text, len, "zz", 2, "bbb", 
                                 langtag_with_keyword("de", 2, "zz", 2, text + 3, len - 3, buffer, sizeof buffer))
 FUNCTION(without_keyword, result = langtag_without_keyword(text, len, "zz", 2, buffer, sizeof buffer))
 
-/* The choice for a header that names one range again and again, among the first tags of a site: ten languages, each with many regions.
- * Every second tag has private use. */
+FUNCTION(resolved_locale, result = langtag_resolved_locale(text, len, "de-u-zz-bbb", 11, buffer, sizeof buffer) +
+                                   langtag_resolved_locale("de-AT-u-zz-bbb", 14, text, len, buffer, sizeof buffer))
+
+/* The choice for a header that names one range again and again, among the first tags of a site. The site has ten languages, each with many
+ * regions, and every second tag has private use. Other lists have languages of three letters, or tags that the registry replaces as a whole. */
 #define MOST_TAGS 1000
 #define TAG_SIZE 9
 static char site_text[TAG_SIZE * MOST_TAGS];
@@ -107,19 +110,41 @@ static void write_site(void) {
     }
 }
 
+static void write_list(const char *const *its, size_t count) {
+    for (size_t at = 0; at < MOST_TAGS; at++) {
+        site_spans[at] = (langtag_span){TAG_SIZE * at, strlen(its[at % count])};
+        memcpy(site_text + TAG_SIZE * at, its[at % count], site_spans[at].len);
+    }
+}
+
 static void best_of_list(void) { result = langtag_best_for_header(text, len, site_text, sizeof site_text, site_spans, site_count); }
 static void best_of_site(void) { result = langtag_site_best_for_header(text, len, site_text, sizeof site_text, site, site_count); }
 
+static void best_of_long_languages(void) { best_of_list(); }
+static void best_of_replaced(void) { best_of_list(); }
+
+static void write_header(const char *range) {
+    for (len = 0; len < 8192; len++) text[len] = ',';
+    for (size_t at = 0, size = strlen(range); at + size < len; at += size + 1) memcpy(text + at, range, size);
+}
+
+#define COUNT(name) count_call((struct function){#name, name}, ranges[range], site_count)
 static void count_choices(void) {
     static const char *const ranges[] = {"x", "und", "aaaa", "i", "xx", "cmn"};
-    write_site();
+    static const char *const long_languages[] = {"ast", "fil", "haw-US", "gsw", "ceb", "ckb-IQ", "dsb", "hsb", "kab", "kok-Deva"};
+    static const char *const replaced[] = {"sgn-BE-FR", "zh-hakka", "i-klingon", "no-bok", "sgn-BR", "zh-xiang", "i-lux", "zh-guoyu", "no-nyn", "i-hak"};
     for (size_t range = 0; range < sizeof ranges / sizeof *ranges; range++) {
-        for (len = 0; len < 8192; len++) text[len] = ',';
-        for (size_t at = 0, size = strlen(ranges[range]); at + size < len; at += size + 1) memcpy(text + at, ranges[range], size);
+        write_header(ranges[range]);
         for (site_count = 40; site_count <= MOST_TAGS; site_count *= 25) {
-            count_call((struct function){"best_of_list", best_of_list}, ranges[range], site_count);
-            count_call((struct function){"best_of_site", best_of_site}, ranges[range], site_count);
+            write_site();
+            COUNT(best_of_list);
+            COUNT(best_of_site);
+            write_list(long_languages, 10);
+            COUNT(best_of_long_languages);
         }
+        site_count = 40;
+        write_list(replaced, 10);
+        COUNT(best_of_replaced);
     }
 }
 

@@ -21,15 +21,16 @@ MOST = 2.2
 # The cases that are known and documented to be quadratic. They have more than 1,152 repeated variants, or variants, attributes of u or
 # variants of t, which are sorted. Or many ranges of a header would find a tag that a range of weight 0 excludes.
 SQUARES = {(name, shape): most for names, shapes, most in (
-    ("repeats repeated_variant is_locale", "variants", 3),
-    ("repeats repeated_variant is_locale", "many_variants", 4.4),
+    ("repeats repeated_variant is_locale resolved_locale", "variants", 3),
+    ("repeats repeated_variant is_locale resolved_locale", "many_variants", 4.4),
     ("locale_form", "few_variants variants many_variants", 4.4),
     ("extensions_form locale_form", "attributes transformed", 4.4),
-    ("is_locale", "transformed", 4.4),
+    ("is_locale resolved_locale", "transformed", 4.4),
     ("best_for_header", "refused", 4.4),
 ) for name in names.split() for shape in shapes.split()}
 # The millions of instructions of a choice for 8 kB of a header that names one range again and again, by the number of tags.
-CHOICES = {"best_of_list": {"40": 18, "1000": 340}, "best_of_site": {"40": 6, "1000": 60}}
+CHOICES = {"best_of_list": {"40": 18, "1000": 340}, "best_of_site": {"40": 6, "1000": 60}, "best_of_long_languages": {"40": 18, "1000": 340},
+           "best_of_replaced": {"40": 140}}
 # The functions that a header declares, and those that may take 16 KiB of the stack. Any other call may take 4 KiB.
 DECLARED = re.compile(r"(?m)^[A-Za-z].* \**langtag_(\w+)\(.*[,;]$")
 DEEP = re.compile(r"(?s)16 KiB for (.*?)\.\n")

@@ -214,6 +214,15 @@ OF_ONE(locale_form, a) {
     if (!has_form && langtag_is_locale(a.at, a.len)) put_word(to, " but langtag_is_locale accepts the tag");
 }
 
+static size_t write_resolved(const text *arguments, char *buffer, size_t room) {
+    text range = arguments[0], tag = arguments[1];
+    return langtag_resolved_locale(range.at, range.len, tag.at, tag.len, buffer, room);
+}
+
+static void answer_resolved_locale(text *to, const text *arguments) {
+    if (put_written(to, arguments, write_resolved, true) == 0) put_word(to, " -");
+}
+
 /* Writes the bytes of a span that a call found. A call that found nothing leaves the span {1, 2} as it was. */
 static bool put_found(text *to, text from, bool is_found, langtag_span span) {
     if (is_found) put_bytes(to, from.at + span.start, span.len);
@@ -605,7 +614,7 @@ static void put_tags(text *to, text words, size_t count, const size_t *found, si
         if (found[k] != SIZE_MAX) put_word(to, " and a changed array");
 }
 
-/* All suitable tags. An array that is too short has to get the first of them. */
+/* All suitable tags. An array that is too short has to get the first of them, and the number is that of all. */
 OF_TWO(suitable, header, words) {
     static size_t found[MOST_TAGS], some[MOST_TAGS];
     size_t count = find_tags(words, tags);
@@ -614,7 +623,7 @@ OF_TWO(suitable, header, words) {
     put_tags(to, words, count, found, found_len);
     for (size_t room = 0; room <= found_len; room++) {
         memset(some, 0xff, compared(count) * sizeof *some);
-        if (langtag_suitable_for_header(header.at, header.len, words.at, words.len, tags, count, some, room) != room) put_word(to, " but another number");
+        if (langtag_suitable_for_header(header.at, header.len, words.at, words.len, tags, count, some, room) != found_len) put_word(to, " but another number");
         if (memcmp(some, found, room * sizeof *some) || some[room] != SIZE_MAX) put_word(to, " but others in a short array");
     }
 }
@@ -625,6 +634,8 @@ OF_TWO(suitable_ranges, from, words) {
     memset(found, 0xff, compared(count) * sizeof *found);
     size_t found_len = langtag_suitable_for_ranges(from.at, from.len, ranges, wanted + 1, words.at, words.len, tags, count + 1, found, count + 1);
     put_tags(to, words, count, found, found_len);
+    if (langtag_suitable_for_ranges(from.at, from.len, ranges, wanted + 1, words.at, words.len, tags, count, found, 0) != found_len)
+        put_word(to, " but another number");
 }
 
 #define CALL(name, answer) {name, answer_##answer, 0, 0}
@@ -639,6 +650,6 @@ call calls[] = {
     CALL("suitable-ranges", suitable_ranges), CALL("keyword", keyword), CALL("keywords", keywords),
     CALL("attributes", attributes), CALL("transform", transform), CALL("best-match", best_match),
     CALL("with-keyword", with_keyword), CALL("extensions-form", extensions_form), CALL("base", base),
-    CALL("is-locale", is_locale), CALL("locale-form", locale_form), CALL("cldr-version", cldr_version),
+    CALL("is-locale", is_locale), CALL("locale-form", locale_form), CALL("resolved-locale", resolved_locale), CALL("cldr-version", cldr_version),
     {NULL, NULL, 0, 0},
 };

@@ -414,6 +414,10 @@ static const std::map<std::string, answer> answers = {
          const auto desired = tag::parse(asked[0]), supported = tag::parse(asked[1]);
          return desired && supported ? std::to_string(langtag::distance(*desired, *supported)) : "-";
      }},
+    {"resolved-locale", [](const strings &asked) {
+         const auto chosen = tag::parse(asked[1]);
+         return chosen ? langtag::resolved_locale(asked[0], *chosen) : "-";
+     }},
     {"suitable-ranges", of_list([](const std::string &ranges, const strings &texts) {
          return alike(langtag::suitable_for_ranges(split(ranges, " "), texts), langtag::suitable_for_ranges(split(ranges, " "), tags_of(texts)));
      })},

@@ -1,7 +1,7 @@
 #include <tuple>
 #include <vector>
 /* Tests what only langtag.hpp has: views, texts of which no view may be made, walks, and tags as keys. rows.cc runs the rows. */
-#include <langtag.hpp>
+#include <langtag_names.hpp>
 
 #include <cstdio>
 #include <iomanip>
@@ -182,6 +182,15 @@ static void check_lists() {
     CHECK(langtag::best_for_ranges(ranges, owners) == "de" && langtag::best_for_ranges(std::vector<std::string>{"de_CH"}, {"fr", "de"}) == "de");
 }
 
+/* The canonical form names a tag that is longer than the limit. */
+static void check_names() {
+    std::string text = "ger-x";
+    while (text.size() <= LANGTAG_NAME_LONGEST) text += "-abcdefgh";
+    const std::string named = text.substr(0, LANGTAG_NAME_LONGEST - 1) + "a", longer = text.substr(0, LANGTAG_NAME_LONGEST) + "a";
+    CHECK(langtag::describe(*tag::parse(named)) == "German" && langtag::autonym(*tag::parse(named)) == "Deutsch");
+    CHECK(langtag::describe(*tag::parse(longer)) == "ger" && !langtag::autonym(*tag::parse(longer)));
+}
+
 static void check_written() {
     std::ostringstream out;
     out << std::setw(7) << *tag::parse("de-CH") << std::setw(5) << *langtag::owned_tag::parse("x-a");
@@ -198,6 +207,7 @@ int main() {
     check_lookups();
     check_likely();
     check_lists();
+    check_names();
     check_written();
     return failures != 0;
 }

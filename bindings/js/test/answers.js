@@ -1,8 +1,8 @@
 /* Returns the package's answer to a row, in the form of the rows. It runs in Node and in a web page. */
 import {
     AcceptLanguage, AcceptLanguageError, autonym, bestForHeader, bestForRanges, CLDR_VERSION, describe, distance, EditError,
-    GRANDFATHERED, InvalidRange, InvalidTag, LanguageRange, LanguageTag, lookUp, matchForHeader, Site, stopLength,
-    suitableForHeader, suitableForRanges, tagForHeader, tagForHeaderLenient, unknownModifier, viableLength,
+    GRANDFATHERED, InvalidRange, InvalidTag, LanguageRange, LanguageTag, lookUp, matchForHeader, resolvedLocale, Site,
+    suitableForHeader, suitableForRanges, tagForHeader, tagForHeaderLenient, unknownModifier,
 } from "../index.js";
 import * as calls from "../calls.js";
 
@@ -76,14 +76,14 @@ function answerTag(text) {
         language: tag.language && languages.join(" "), script: tag.script, region: tag.region, variants: tag.variants.join(" ") || undefined,
         extensions: extensionsOf(tag).join(" ") || undefined, private_use: tag.privateUse?.replaceAll("-", " "),
         repeated_variant: tag.repeatedVariant, repeated_singleton: tag.repeatedSingleton,
-        recommended: tag.toRecommended(), folded: tag.toFolded(), hash: tag.fnv1a().toString(16).padStart(16, "0"),
+        recommended: tag.toRecommended(), folded: tag.toFolded(),
     };
     return [KINDS[tag.kind], ...Object.entries(found).filter(([, value]) => value !== undefined).map((pair) => `  ${pair.join(" ")}`)].join("\n");
 }
 
-/** Returns the answer as JavaScript gives it: without offsets of repeats, and with lowercase keys in a map. */
+/** Returns the answer as JavaScript gives it: without hashes, offsets of repeats and the number of bytes that are read, and with lowercase keys in a map. */
 export const adapted = ({ call, wanted }) =>
-    call === "keywords" || call === "transform" ? wanted.replace(/\w\w=/g, (key) => key.toLowerCase()) : wanted.replace(/\n  at_\w+ \d+/g, "");
+    call === "scan" ? wanted.slice(wanted.indexOf(" ") + 1) : call === "keywords" || call === "transform" ? wanted.replace(/\w\w=/g, (key) => key.toLowerCase()) : wanted.replace(/\n  (?:hash|at_\w+) \w+/g, "");
 
 function answerValidity(tag) {
     const wrong = tag.invalidSubtag;
@@ -107,12 +107,12 @@ function answerGrandfathered(text) {
     return `${found === undefined ? 26 : GRANDFATHERED.indexOf(found)} ${kindOf(text)}`;
 }
 
-/** Returns how many bytes have to be read, how many prefixes are tags, and the kind of the text with the ends of its parts. */
+/** Returns how many prefixes are tags, and the kind of the text with the ends of its parts. */
 function answerScan(text) {
     const tag = made(LanguageTag, text);
     let fronts = 0;
     for (let end = 0; end <= text.length; end++) fronts += LanguageTag.canParse(text.slice(0, end)) ? 1 : 0;
-    const what = [stopLength(text), fronts, kindOf(text)];
+    const what = [fronts, kindOf(text)];
     if (tag?.kind === "irregular") what.push(GRANDFATHERED.indexOf(tag.grandfathered));
     if (tag?.kind === "normal") {
         what.push(tag.language.length);
@@ -284,7 +284,6 @@ export const answers = {
     keywords: ofTag(answerKeywords), transform: ofTag(answerTransform),
     tag: answerTag, scan: answerScan, recommended: (text) => made(LanguageTag, text)?.toRecommended().text, validity: ofTag(answerValidity, "none"),
     suggestion: ofTag((tag) => tag.invalidSubtag?.suggestion), canonical: ofTag(answerCanonical), grandfathered: answerGrandfathered,
-    viable: (text) => `${viableLength(text)} ${stopLength(text)}`,
     range: (text) => ({ true: "basic", false: "extended", undefined: "none" })[made(LanguageRange, text)?.isBasic],
     match: answerMatch, order: answerOrder, refused: answerRefused,
     fault: ofTag((tag) => String(tag.invalidSubtag ?? "valid").split(": did")[0]),
@@ -292,6 +291,7 @@ export const answers = {
     posix: (name) => shown(LanguageTag.fromPosix(name)), "posix-name": ofTag((tag) => tag.toPosix()), "unknown-modifier": answerUnknownModifier,
     maximized: ofTag((tag) => tag.maximize()), minimized: ofTag((tag) => tag.minimize()),
     distance: (desired, supported) => shown(made(LanguageTag, desired) && made(LanguageTag, supported) && distance(LanguageTag.parse(desired), supported)),
+    "resolved-locale": (range, tag) => shown(made(LanguageTag, tag) && resolvedLocale(range, tag)),
     best: answerBest, "best-ranges": answerBestRanges, "best-match": answerBestMatch,
     "best-accepted": (header, list) => alike(...among((tags) => AcceptLanguage.lenient(header).best(tags), list)),
     suitable: (header, list) => alike(...among((tags) => suitableForHeader(header, tags), list), suitableForHeader(header, new Site(wordsOf(list)).tags)),

@@ -1,6 +1,6 @@
-/* Tests the examples. */
+/* Tests the example. */
 import assert from "node:assert/strict";
-import { execFileSync, spawn } from "node:child_process";
+import { spawn } from "node:child_process";
 import { once } from "node:events";
 import { get } from "node:http";
 import test from "node:test";
@@ -31,13 +31,5 @@ test("the site answers in the language that its user picked", async () => {
         assert.equal(bare.headers["content-language"], "en");
     } finally {
         server.kill();
-    }
-});
-
-test("the catalogue asks the parents of a tag", () => {
-    const program = fileURLToPath(new URL("../examples/catalogue.js", import.meta.url));
-    for (const [tag, key, wanted] of [["pt-AO", "bus", "autocarro"], ["de-ch-1996", "bike", "Velo"], ["de-CH", "hello", "Hallo"],
-        ["zh-CN", "bike", "自行车"], ["iw-IL", "bike", "אופניים"], ["zh-TW", "bike", "腳踏車"], ["zh-TW", "hello", "Hello"], ["fr", "train", "train"]]) {
-        assert.equal(execFileSync(process.execPath, [program, tag, key], { encoding: "utf8" }), `${wanted}\n`);
     }
 });

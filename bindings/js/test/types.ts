@@ -33,10 +33,10 @@ const kinds: "normal" | "private-use" | "irregular" = tag.kind;
 try {
     LanguageTag.parse(structuredClone(tag));
 } catch (error) {
-    if (error instanceof InvalidTag) console.log(error.text, error.offset, error.viableLength, error.message);
+    if (error instanceof InvalidTag) console.log(error.text, error.offset, error.message);
     if (error instanceof EditError) console.log(error.part === "script" || error.part === "key");
 }
-console.log(ofSite, ofBare, index, ofRanges, script, subtags, form, identifier, fault, found, none, best, absent, weights, sorted, kinds, either, REGISTRY_DATE.length, tag.fnv1a() > 0n, tag.equals("ZH"));
+console.log(ofSite, ofBare, index, ofRanges, script, subtags, form, identifier, fault, found, none, best, absent, weights, sorted, kinds, either, REGISTRY_DATE.length, tag.equals("ZH"));
 
 // @ts-expect-error a number is not a text
 LanguageTag.parse(5);

@@ -37,10 +37,10 @@ port_of() { sed -n 4p "$pg_folder/$1/postmaster.pid"; }
 begin() {
     local data=$pg_folder/$1 port
     mkdir "$data" && { [ "$(id -u)" != 0 ] || chown "$pg_user" "$data"; } || return 1
-    (cd "$data" && "${as_user[@]}" "$pg_bin/initdb" -D "$data" -U postgres -A trust --no-sync -E UTF8 --locale="${LOCALE:-C}") >/dev/null || return 1
+    (cd "$data" && "${as_user[@]}" "$pg_bin/initdb" -D "$data" -U postgres -A trust --no-sync -E UTF8 --locale=C) >/dev/null || return 1
     port=$(python3 -c 'import socket; s = socket.socket(); s.bind(("127.0.0.1", 0)); print(s.getsockname()[1])')
     (cd "$data" && exec "${as_user[@]}" "$pg_bin/postgres" -D "$data" -p "$port" -k "$data" -c listen_addresses=127.0.0.1 \
-        -c fsync=off -c max_connections=30 -c shared_buffers="${SHARED_BUFFERS:-64MB}" -c max_stack_depth=2MB \
+        -c fsync=off -c max_connections=30 -c shared_buffers=64MB -c max_stack_depth=2MB \
         >"$data/log" 2>&1) &
     started+=($!)
     PGPORT=$port python3 "$pg_tests/server.py" || { tail "$data/log"; return 1; }

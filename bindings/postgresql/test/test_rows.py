@@ -126,7 +126,6 @@ QUERIES = {
                              f"'another' END FROM (SELECT {text(tag)}::langtag AS t) s",
     "message": lambda given: f"SELECT message_of('langtag', {text(given)})",
     "range-message": lambda given: f"SELECT message_of('langtag_range', {text(given)})",
-    "viable": lambda given: f"SELECT langtag_viable_len({text(given)})::text",
     "range": lambda given: f"SELECT 'range ' || ({text(given)}::langtag_range::text = {text(given)})",
     "match": lambda range, tag: f"SELECT CASE WHEN (t <@ r, t ~ r) = ALL (VALUES (matches_basic(t, r), matches_extended(t, r)), (matches_basic(r, t), "
                                 f"matches_extended(r, t))) THEN concat_ws(' ', t <@ r, t ~ r) ELSE 'differ' END FROM (SELECT {text(tag)}::langtag AS t, {text(range)}::langtag_range AS r) s",
@@ -136,6 +135,7 @@ QUERIES = {
     "keywords": lambda tag: f"SELECT string_agg(k[n][1] || '=' || k[n][2], ' ' ORDER BY n) FROM (SELECT keywords({text(tag)}::langtag) AS k) s, "
                             f"generate_subscripts(k, 1) AS n",
     "distance": lambda desired, supported: f"SELECT distance({text(desired)}::langtag, {text(supported)}::langtag)::text",
+    "resolved-locale": lambda range, tag: f"SELECT resolved_locale({text(range)}, {text(tag)}::langtag)::text",
     "parents": lambda tag: f"SELECT CASE WHEN parent(t) IS NOT DISTINCT FROM (parents(t))[2] THEN array_to_string(parents(t), ' ') ELSE 'differs' END "
                            f"FROM (SELECT {text(tag)}::langtag AS t) s",
     "posix": lambda name: f"SELECT from_posix({text(name)})::text",
@@ -149,7 +149,7 @@ QUERIES = {
 }
 NO_TAG = "22P02"
 # What a row has for a string that is not a tag, and SQL's other answers that rows write in another way.
-REFUSED = {"tag": "none", "validity": "none", "range": "none", "match": "neither", "canonical": "-", "parents": "-"}
+REFUSED = {"tag": "none", "validity": "none", "range": "none", "match": "neither", "canonical": "-", "parents": "-", "resolved-locale": "-"}
 WRITTEN = {
     "range": {"range true": "range"},
     "match": {"t t": "both", "t f": "basic", "f t": "extended", "f f": "neither"},
@@ -159,7 +159,7 @@ WRITTEN = {
 }
 # The calls whose rows have the case of SQL's answers, and the calls whose answers are tags in their recommended case.
 EXACT = {"suggestion", "recommended", "message", "range-message", "describe", "autonym", "posix-name", "unknown-modifier", "cldr-version"}
-TAGS = {"tag", "validity", "canonical", "maximized", "minimized", "parents", "posix", "edit", "with-keyword", "extensions-form", "locale-form", "base", "header", "ranges",
+TAGS = {"tag", "validity", "canonical", "maximized", "minimized", "parents", "posix", "edit", "with-keyword", "extensions-form", "locale-form", "resolved-locale", "base", "header", "ranges",
         "best", "best-match", "suitable", "best-ranges", "suitable-ranges"}
 
 
@@ -186,8 +186,6 @@ def adapted(row):
         return " ".join(words[:2] if words[1] == "irregular" else words)
     if row.call == "validity":
         return f"invalid {wanted.split()[2].lower()}" if wanted not in ("none", "valid") else wanted
-    if row.call == "viable":
-        return wanted.split()[0]
     if row.call == "range":
         return wanted if wanted == "none" else "range"
     if row.call == "order":

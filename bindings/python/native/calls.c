@@ -53,32 +53,6 @@ static PyObject *base_len(PyObject *module, PyObject *text_from) {
     return answer;
 }
 
-static PyObject *viable_len(PyObject *module, PyObject *text_from) {
-    PyObject *answer = NULL;
-    Text text = {NULL};
-    if (!lt_text(text_from, &text)) {
-        LET_GO(text.len);
-        size_t result = langtag_viable_len(text.data, text.len);
-        TAKE_BACK();
-        answer = PyLong_FromSize_t(result);
-    }
-    Py_XDECREF(text.owner);
-    return answer;
-}
-
-static PyObject *stop_len(PyObject *module, PyObject *text_from) {
-    PyObject *answer = NULL;
-    Text text = {NULL};
-    if (!lt_text(text_from, &text)) {
-        LET_GO(text.len);
-        size_t result = langtag_stop_len(text.data, text.len);
-        TAKE_BACK();
-        answer = PyLong_FromSize_t(result);
-    }
-    Py_XDECREF(text.owner);
-    return answer;
-}
-
 static PyObject *refused(PyObject *module, PyObject *text_from) {
     PyObject *answer = NULL;
     Text text = {NULL};
@@ -123,21 +97,6 @@ static PyObject *cmp(PyObject *module, PyObject *arguments) {
     }
     Py_XDECREF(a.owner);
     Py_XDECREF(b.owner);
-    return answer;
-}
-
-static PyObject *hash(PyObject *module, PyObject *arguments) {
-    PyObject *text_from, *answer = NULL;
-    unsigned long long state;
-    Text text = {NULL};
-    if (!PyArg_ParseTuple(arguments, "KO", &state, &text_from)) return NULL;
-    if (!lt_text(text_from, &text)) {
-        LET_GO(text.len);
-        uint64_t result = langtag_hash(state, text.data, text.len);
-        TAKE_BACK();
-        answer = PyLong_FromUnsignedLongLong(result);
-    }
-    Py_XDECREF(text.owner);
     return answer;
 }
 
@@ -422,6 +381,29 @@ static PyObject *locale_form(PyObject *module, PyObject *text_from) {
     return answer;
 }
 
+static PyObject *resolved_locale(PyObject *module, PyObject *arguments) {
+    PyObject *range_from, *tag_from, *answer = NULL;
+    Text range = {NULL};
+    Text tag = {NULL};
+    if (!PyArg_ParseTuple(arguments, "OO", &range_from, &tag_from)) return NULL;
+    if (!lt_text(range_from, &range) && !lt_text(tag_from, &tag)) {
+        char room[192], *data = room;
+        LET_GO(range.len + tag.len);
+        size_t len = langtag_resolved_locale(range.data, range.len, tag.data, tag.len, room, sizeof room);
+        TAKE_BACK();
+        answer = PyBytes_FromStringAndSize(len <= sizeof room ? room : NULL, (Py_ssize_t)len);
+        if (answer && len > sizeof room) {
+            data = PyBytes_AsString(answer);
+            LET_GO(range.len + tag.len);
+            langtag_resolved_locale(range.data, range.len, tag.data, tag.len, data, len);
+            TAKE_BACK();
+        }
+    }
+    Py_XDECREF(range.owner);
+    Py_XDECREF(tag.owner);
+    return answer;
+}
+
 static PyObject *repeats(PyObject *module, PyObject *text_from) {
     PyObject *answer = NULL;
     Text text = {NULL};
@@ -702,7 +684,7 @@ static PyObject *suitable_for_header(PyObject *module, PyObject *arguments) {
             LET_GO(header.len + tags.len);
             size_t count = langtag_suitable_for_header(header.data, header.len, tags.text, tags.len, tags.spans, tags.count, found, room);
             TAKE_BACK();
-            answer = lt_numbers(found, count);
+            answer = lt_numbers(found, count < room ? count : room);
         } else PyErr_NoMemory();
         PyMem_Free(found);
     }
@@ -726,7 +708,7 @@ static PyObject *suitable_for_ranges(PyObject *module, PyObject *arguments) {
             LET_GO(ranges.len + tags.len);
             size_t count = langtag_suitable_for_ranges(ranges.text, ranges.len, ranges.spans, ranges.count, tags.text, tags.len, tags.spans, tags.count, found, room);
             TAKE_BACK();
-            answer = lt_numbers(found, count);
+            answer = lt_numbers(found, count < room ? count : room);
         } else PyErr_NoMemory();
         PyMem_Free(found);
     }
@@ -968,12 +950,9 @@ PyMethodDef lt_functions[] = {
     {"kind", kind, METH_O, NULL},
     {"parse", parse, METH_O, NULL},
     {"base_len", base_len, METH_O, NULL},
-    {"viable_len", viable_len, METH_O, NULL},
-    {"stop_len", stop_len, METH_O, NULL},
     {"refused", refused, METH_O, NULL},
     {"eq", eq, METH_VARARGS, NULL},
     {"cmp", cmp, METH_VARARGS, NULL},
-    {"hash", hash, METH_VARARGS, NULL},
     {"fold", fold, METH_O, NULL},
     {"recommend", recommend, METH_O, NULL},
     {"every_subtag", every_subtag, METH_O, NULL},
@@ -990,6 +969,7 @@ PyMethodDef lt_functions[] = {
     {"extensions_form", extensions_form, METH_O, NULL},
     {"is_locale", is_locale, METH_O, NULL},
     {"locale_form", locale_form, METH_O, NULL},
+    {"resolved_locale", resolved_locale, METH_VARARGS, NULL},
     {"repeats", repeats, METH_O, NULL},
     {"validity", validity, METH_O, NULL},
     {"suggestion", suggestion, METH_VARARGS, NULL},

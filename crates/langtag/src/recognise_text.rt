@@ -1,11 +1,11 @@
 //! The only file in which this crate calls a recogniser.
 ghost use Rattle.std.specs.Prelude.{MatchOption};
-ghost use Rattle.langtag_scan.specs.Grammar.{HasEnds, IsFoundOf, finding, IsNormal, IsTag};
+ghost use Rattle.langtag_scan.specs.Grammar.{HasEnds, IsFoundOf, IsNormal, IsTag};
 ghost use Rattle.langtag.specs.Recognised.{finding_of};
 
 use crate::grandfathered::GrandfatheredLangTag;
 use crate::recognised::Recognised;
-use langtag_scan::{Ends, Found, Metered, recognise};
+use langtag_scan::{Ends, read_bytes};
 
 /// Returns what the recogniser finds in bytes, or `None` if they are not a tag.
 ///
@@ -15,7 +15,9 @@ use langtag_scan::{Ends, Found, Metered, recognise};
 pub(crate) fn recognise_bytes(bytes: &[u8]) -> Option<Recognised>
     ensures { MatchOption result (IsTag bytes.now → ⊥) (λ found. IsFoundOf bytes.now (finding_of found)) }
 {
-    let found = found_in(bytes)?;
+    let Some(found) = read_bytes(bytes) else {
+        return None;
+    };
     if let Some(ends) = found.ends() {
         return Some(Recognised::Normal(ends));
     }
@@ -23,13 +25,6 @@ pub(crate) fn recognise_bytes(bytes: &[u8]) -> Option<Recognised>
         Some(index) => Some(Recognised::Irregular(GrandfatheredLangTag::at(index))),
         None => Some(Recognised::PrivateUse),
     }
-}
-
-/// Returns what the recogniser finds in bytes, as `langtag_scan` returns it.
-fn found_in(bytes: &[u8]) -> Option<Found>
-    ensures { MatchOption result (IsTag bytes.now → ⊥) (λ found. IsFoundOf bytes.now (finding found)) }
-{
-    recognise(&mut Metered::of_bytes(bytes))
 }
 
 /// Returns what the recogniser finds in a string, or `None` if it is not a tag.

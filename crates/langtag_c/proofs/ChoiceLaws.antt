@@ -1,8 +1,9 @@
 -- What is said of the best tag for a reader, of the range that it serves, and of tags that are prepared.
-use Rattle.langtag_scan.proofs.Prelude.{◌≡◌, ℕ, ◌<◌, ◌≤◌, List, length, Option, None, Some, unwrap_or, sym, subst, arith, true, false, [], get_or, common_steps, length-map, get_or-map, slice_get_within, and_parts, nat_tests, IfSome}
+use Rattle.langtag_scan.proofs.Prelude.{◌≡◌, ℕ, ◌<◌, ◌≤◌, List, length, Option, None, Some, unwrap_or, sym, subst, arith, true, false, [], get_or, common_steps, length-map, get_or-map, slice_get_within, and_parts, nat_tests, IfSome, ◌⊎◌, inl, inr, take, length-take, ◌∙◌}
 use Rattle.langtag_match.specs.Definitions.{Element, items, hyphened_element, wanted_elements, written_elements}
 use Rattle.langtag_choice.specs.Best.{IsChoice, IsMatchOf}
-use Rattle.langtag_choice.specs.Suitable.{AreSuitable}
+use Rattle.langtag_choice.specs.Suitable.{AreSuitable, suitable_count}
+use Rattle.langtag_choice.proofs.ServingLaws.{all_counted, rest_counted}
 use Rattle.langtag_c.specs.RangePlaces.{IsRangeAt, range_count}
 use Rattle.langtag_c.specs.Spans.{empty_at, HasBytes, has_bytes, span_text}
 use Rattle.langtag_c.specs.TagsAt.{tags_at, tag_at}
@@ -23,9 +24,29 @@ pub is_best :
 is_best elements text spans chosen answer choice is = record { tags = tags_at text spans; are = are_tags_at text spans; chosen = chosen; choice = choice; same = is }
 
 pub are_best :
-    (elements : List Element) (text : List ℕ) (spans : List Span) (room : ℕ) (indices : List ℕ) → AreSuitable elements (tags_at text spans) room indices →
-    AreBest elements text spans room indices
-are_best elements text spans room indices suitable = record { tags = tags_at text spans; are = are_tags_at text spans; suitable = suitable }
+    (elements : List Element) (text : List ℕ) (spans : List Span) (room number : ℕ) (indices : List ℕ) → number ≡ suitable_count elements (tags_at text spans) →
+    AreSuitable elements (tags_at text spans) room indices → AreBest elements text spans room number indices
+are_best elements text spans room number indices counted suitable =
+    record { tags = tags_at text spans; are = are_tags_at text spans; counted = counted; suitable = suitable }
+
+-- the tags whose indices were written are all suitable tags, if there is room for more, or as many were written as there are tags
+pub all_written :
+    (elements : List Element) (tags : List (Option (List ℕ))) (found : List ℕ) (room written : ℕ) → length found ≡ room → written ≤ room → AreSuitable elements tags room (take written found) →
+    (written < room) ⊎ (length tags ≤ written) → written ≡ suitable_count elements tags
+all_written elements tags found room written long within suitable which =
+    let same : length (take written found) ≡ written = omega (arith, length-take written found, long, within) in
+    let counted = all_counted elements tags room (take written found) suitable in
+    elim which [
+      | inl short ↦ sym same ∙ counted (inl (omega (arith, same, short)))
+      | inr all ↦ sym same ∙ counted (inr (omega (arith, same, all)))
+    ]
+
+-- if the array is full, there are at least as many suitable tags as it has entries
+pub full_counted :
+    (elements : List Element) (tags : List (Option (List ℕ))) (found : List ℕ) (room written : ℕ) → length found ≤ written → AreSuitable elements tags room (take written found) →
+    length found ≤ suitable_count elements tags
+full_counted elements tags found room written full suitable =
+    omega (arith, full, length-take written found, rest_counted elements tags room (take written found) suitable)
 
 -- an index of a tag, or the number of the tags, is not above that number
 pub choice_within :

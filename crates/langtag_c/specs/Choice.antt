@@ -2,7 +2,7 @@
 use Rattle.std.specs.Prelude.{◌≡◌, ◌-◌, ◌^◌, ℕ, List, Option, MatchOption, length, unwrap_or}
 use Rattle.langtag_match.specs.Definitions.{Element, wanted_elements}
 use Rattle.langtag_choice.specs.Best.{IsChoice, IsMatch}
-use Rattle.langtag_choice.specs.Suitable.{AreSuitable}
+use Rattle.langtag_choice.specs.Suitable.{AreSuitable, suitable_count}
 use Rattle.langtag_choice.specs.declared.best_match.BestMatch as choice
 use Rattle.langtag_c.specs.RangePlaces.{IsRangeAt}
 use Rattle.langtag_c.specs.Spanned.{AreTagsAt}
@@ -32,8 +32,9 @@ pub record IsMatchAt (header text : List ℕ) (spans : List Span) (answer : ℕ)
   pub same : MatchOption chosen ((answer ≡ length spans) × (found ≡ no_match header))
       (λ m. (answer ≡ m.index) × (found.distance ≡ m.distance) × IsRangeAt header m.place found.range)
 
--- the indices are those of the suitable tags for these elements, best first, as far as there is room
-pub record AreBest (elements : List Element) (text : List ℕ) (spans : List Span) (room : ℕ) (indices : List ℕ) : Type 0 where
+-- the number is that of all suitable tags for these elements, and the indices are theirs, best first, as far as there is room
+pub record AreBest (elements : List Element) (text : List ℕ) (spans : List Span) (room number : ℕ) (indices : List ℕ) : Type 0 where
   pub tags : List (Option (List ℕ))
   pub are : AreTagsAt text spans tags
+  pub counted : number ≡ suitable_count elements tags
   pub suitable : AreSuitable elements tags room indices

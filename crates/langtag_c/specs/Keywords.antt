@@ -1,8 +1,7 @@
 -- The keywords of `u` and the fields of `t` (RFC 6067 section 2.1, RFC 6497 section 2.2) that are left after a walk has
 -- passed some subtags, and where they are in the tag.
 use Rattle.std.specs.Prelude.{◌≡◌, ℕ, ◌+◌, ◌-◌, ◌==◌, ◌&&◌, Bool, IsTrue, List, [], ◌∷◌, if◌then◌else◌, drop, length, map, take}
-use Rattle.langtag_scan.specs.Grammar.{after_first, are_alike, fold_byte, AllByRecursion, Extension, Record, ends_of, join, subtags}
-use Rattle.langtag_scan.proofs.SubtagFacts.{IsSubtag}
+use Rattle.langtag_scan.specs.Grammar.{after_first, are_alike, fold_byte, AllByRecursion, Extension, IsSubtag, Record, ends_of, join, subtags}
 use Rattle.langtag_extension.specs.Spelling.{extension_spelling}
 use Rattle.langtag_keyword.specs.Keys.{length_with_hyphens}
 use Rattle.langtag_keyword.specs.Keywords.{Keyword, is_new_key, keywords_after, subtags_of}

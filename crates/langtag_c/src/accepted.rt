@@ -27,8 +27,8 @@ use langtag_range::trimmed_place;
 ///
 /// `range` (out) is where the range is, and `weight` (out) its weight in thousandths: 1000 if none is given, and 0 for
 /// "not acceptable". For a malformed element, `range` is everything between the commas without the spaces and tabs
-/// around it, and `weight` is 0. The next call continues after that element. So the loop above skips malformed elements. A strict program stops at a malformed
-/// element, and refuses the header.
+/// around it, and `weight` is 0. The next call continues after that element. So the loop above skips malformed elements.
+/// A strict program stops at a malformed element, and refuses the header.
 ///
 /// The elements are returned in the order of the header. A lookup tries the greatest weight first, and ranges of equal
 /// weight in the order of the header. So collect the ranges, and sort them by descending weight with a stable sort.

@@ -53,9 +53,11 @@ pub extern "C" fn langtag_distance(desired: &[u8], supported: &[u8]) -> u32
 /// program's default is used.
 ///
 /// Among tags at the same distance, the best has the most variants of the range. If several have
-/// as many, it is the tag for which lookup removes the fewest subtags from the range, where `eng` is read as `en`. Then it
-/// is the tag with the range's own code, then a tag with the most likely region of its language, then one of CLDR's
-/// paradigm locales, such as `es-419`, and then the first in the list. So list the tags in the order that you prefer.
+/// as many, a tag without the extension t, which marks translations by a machine, is better, unless the range has it. Then
+/// it is the tag for which lookup removes the fewest subtags from the range, where `eng` is read as `en`. Then it is the
+/// tag with the range's own code, then the tag of the smallest group of regions that has the range's region, such as
+/// `es-419` for `es-MX`, then a tag with the most likely region of its language, then one of CLDR's paradigm locales, such
+/// as `en-GB`, and then the first in the list. So list the tags in the order that you prefer.
 ///
 /// Malformed elements are read leniently: _ is read as a hyphen, everything after ., @ or _# is dropped, and a weight
 /// that is not a number counts as 1.

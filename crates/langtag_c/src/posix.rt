@@ -15,21 +15,21 @@ use langtag_posix::{unknown_modifier, write_from_posix, write_to_posix};
 /// as Java prints it, becomes zh-Hant-TW. As with `langtag_canonical`, nothing is written if the buffer is too short.
 /// Names as Android and .NET write them are read, too: zh-rTW becomes zh-TW, b+sr+Latn becomes sr-Latn, zh-CHT becomes
 /// zh-Hant, and sr-SP-Latn becomes sr-Latn-RS. An empty language or region is read as in Java and ICU: _US becomes und-US.
-/// Last fields of Java and Windows that are no subtags are read: no_NO_NY becomes nn-NO, ja_JP_JP becomes ja-JP-u-ca-japanese,
-/// and de-DE_phoneb becomes de-DE-u-co-phonebk.
+/// Last fields of Java and Windows that are no subtags are read: no_NO_NY becomes nn-NO, ja_JP_JP becomes
+/// ja-JP-u-ca-japanese, and de-DE_phoneb becomes de-DE-u-co-phonebk.
 ///
-/// The codeset is dropped. It consists of ASCII letters, digits, `-`, `_` and `.`. The modifiers latin, cyrillic, devanagari, iqtelif, valencia, tarask, polyton, ijekavian,
-/// ijekavianlatin and the codes of scripts are used, ignoring case. Extensions come from Java's names and from the keywords
-/// of ICU and Apple: de_DE_#u-co-phonebk and de_DE@collation=phonebook become de-DE-u-co-phonebk. Other modifiers are
-/// dropped, and so are keywords if one of them cannot be read. If the only variant is
-/// POSIX, ignoring case, and there are no extensions, it becomes the keyword va-posix: en_US_POSIX becomes
-/// en-US-u-va-posix.
+/// The codeset is dropped. It consists of ASCII letters, digits, `-`, `_` and `.`. The modifiers latin, cyrillic,
+/// devanagari, iqtelif, valencia, tarask, polyton, ijekavian, ijekavianlatin and the codes of scripts are used, ignoring
+/// case. Extensions come from Java's names and from the keywords of ICU and Apple: de_DE_#u-co-phonebk and
+/// de_DE@collation=phonebook become de-DE-u-co-phonebk. Other modifiers are dropped, and so are keywords if one of them
+/// cannot be read. If the only variant is POSIX, ignoring case, and there are no extensions, it becomes the keyword
+/// va-posix: en_US_POSIX becomes en-US-u-va-posix.
 ///
 /// Returns 0 and writes nothing if language and territory do not form a tag (C), or have more than 255 bytes, or 260 with
 /// extensions. Also if the language has more than three letters (POSIX, german, night), or if other qualifiers of an
 /// Android folder come after the region (en-rGB-land). Also if a variant is not registered and the tag is not grandfathered
-/// (nl_NL_formal), or if what follows the dot is no codeset (No. 5). Also if what follows # is no script and no extension, or if
-/// extensions would come after an extension or private use.
+/// (nl_NL_formal), or if what follows the dot is no codeset (No. 5). Also if what follows # is no script and no extension,
+/// or if extensions would come after an extension or private use.
 #[tactic(auto, using(crate::proofs::WrittenTexts::named_written))]
 #[unsafe(no_mangle)]
 pub extern "C" fn langtag_from_posix(name: &[u8], buffer: &mut [u8]) -> usize

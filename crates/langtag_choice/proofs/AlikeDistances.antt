@@ -39,7 +39,7 @@ distance_by-alike (rule ∷ rules) otherwise a b c d h k = grind (arith, common_
 pub both-alike : (a b c d : List ℕ) → Alike a b → Alike c d → are_alike a c ≡ are_alike b d
 both-alike a b c d h k = are_alike-left a b c h ∙ are_alike-right b c d k
 
-among-alike : (words : List (List ℕ)) (a b : List ℕ) → Alike a b → is_among words a ≡ is_among words b
+pub among-alike : (words : List (List ℕ)) (a b : List ℕ) → Alike a b → is_among words a ≡ is_among words b
 among-alike [] a b h = refl
 among-alike (word ∷ words) a b h = rw (are_alike-right word a b h, among-alike words a b h) refl
 

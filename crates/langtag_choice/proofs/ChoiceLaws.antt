@@ -16,6 +16,8 @@ use Rattle.langtag_choice.specs.ChoiceLaws.{IsOnlyChoice, AnswersLookUp, IsHeavi
 use Rattle.langtag_choice.specs.Nearness.{kept, is_fallback, lost}
 use Rattle.langtag_choice.specs.AsRead.{lost_as_read}
 use Rattle.langtag_choice.proofs.AsRead.{behind-fold, codes-alike, first-alike, one_code}
+use Rattle.langtag_choice.proofs.RegionWidths.{width-alike}
+use Rattle.langtag_choice.proofs.TransformedTexts.{transform-fold, transform-none}
 use Rattle.langtag_choice.proofs.VariantTexts.{lacking-fold, lacking-none}
 use Rattle.langtag_choice.proofs.AlikeDistances.{distance-none, unlikely-alike, distance-alike, both-alike}
 
@@ -32,7 +34,7 @@ module _ (elements : List Element) (tags : List (Option (List ℕ))) where
       (a b : Pair elements tags) → IsAtMost (rank_of_pair elements tags a) (rank_of_pair elements tags b) → IsAtMost (rank_of_pair elements tags b) (rank_of_pair elements tags a) →
       a.index ≡ b.index
   unfolding rank
-  same_index a b one other = ap (λ ranks. get_or ranks 8 0) (both_at_most (rank_of_pair elements tags a) (rank_of_pair elements tags b) one other)
+  same_index a b one other = ap (λ ranks. get_or ranks 10 0) (both_at_most (rank_of_pair elements tags a) (rank_of_pair elements tags b) one other)
 
   -- so there is only one choice
   pub only_choice : (answer : Option ℕ) → IsChoice elements tags answer → IsOnlyChoice elements tags answer
@@ -117,7 +119,7 @@ module _ (elements : List Element) (all : List (Option (List ℕ))) (place : ℕ
   leads : (other : Pair elements all) → IsAtMost (rank place element index first.tag) (rank_of_pair elements all other)
   unfolding rank
   leads other =
-      grind (arith, nat_tests, reach_none, lacking-none element.range first.tag first.alike, heaviest.first other.place, heaviest.most other.place, heaviest.there, lost_none, lost_as_read_none, alike_kept, unlikely-alike, ltb-false, eqb_tells)
+      grind (arith, nat_tests, reach_none, lacking-none element.range first.tag first.alike, heaviest.first other.place, heaviest.most other.place, heaviest.there, lost_none, lost_as_read_none, alike_kept, unlikely-alike, transform-none element.range first.tag first.alike, width-alike, ltb-false, eqb_tells)
 
   is_answer : (answer : Option ℕ) → IsChoice elements all answer → answer ≡ Some index
   unfolding own_pair
@@ -161,7 +163,7 @@ serves-fold element tag = rw (is_star-fold element.range, reach-fold element.ran
 
 rank-fold : (place : ℕ) (element : Element) (index : ℕ) (tag : List ℕ) → rank place (folded element) index (fold_text tag) ≡ rank place element index tag
 unfolding rank
-rank-fold place element index tag = grind (arith, common_steps, lacking-fold, reach-fold, lost-fold, lost_as_read-fold, unlikely-alike, fold_text-twice)
+rank-fold place element index tag = grind (arith, common_steps, lacking-fold, reach-fold, lost-fold, lost_as_read-fold, unlikely-alike, transform-fold, width-alike, fold_text-twice)
 
 -- ---- what is refused
 

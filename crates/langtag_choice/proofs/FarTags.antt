@@ -1,14 +1,14 @@
 -- Ranges as they are read, and tags that are far from a range, as their first letters and the numbers of languages show.
-use Rattle.langtag_scan.proofs.Prelude.{◌≡◌, ℕ, true, not, ◌==◌, List, [], ◌∷◌, length, length-drop, length-take, take, drop, filter, refl, sym, ap, ◌∙◌, arith, ◌&&◌, ◌||◌, codes, Bool, false, ◌<◌, ◌≤◌, ◌+◌, ◌-◌, ◌*◌, cond, get_or, Option, Some, None, option_map, nat_tests, eqb_tells, eqb-true, cases_lt, ◌++◌, common_steps, and_parts, both_ways, false_from_ne_true, or_cases, or_parts, not-true, ForSome, list_all, after_first, before_first, position_or_len, subst, unwrap_or}
+use Rattle.langtag_scan.proofs.Prelude.{◌≡◌, ◌⊎◌, inl, inr, ℕ, true, not, ◌==◌, List, [], ◌∷◌, length, length-drop, length-take, take, drop, filter, refl, sym, ap, ◌∙◌, arith, ◌&&◌, ◌||◌, codes, Bool, false, ◌<◌, ◌≤◌, ◌+◌, ◌-◌, ◌*◌, cond, get_or, Option, Some, None, option_map, nat_tests, eqb_tells, eqb-true, cases_lt, ◌++◌, common_steps, and_parts, both_ways, false_from_ne_true, or_cases, or_parts, not-true, ForSome, list_all, after_first, before_first, position_or_len, subst, unwrap_or}
 use Rattle.langtag_scan.specs.Grammar.{are_alike, fold_byte, are_alike-decides, subtags, are_letters, is_letter, is_primary}
 use Rattle.std.proofs.Common.{lit≤}
 use Rattle.langtag_range.proofs.AlikeTexts.{is_star-fold}
 use Rattle.langtag_range.proofs.BasicForms.{basic_form-basic, basic_of, is_plain, IsBasicOf, is_language_range-from_basic, hyphened_range}
 use Rattle.langtag_range.proofs.Among.{length-alike}
 use Rattle.langtag_range.specs.Definitions.{ends_subtag, ends_in_single, basic_text, basic_form, are_extended_range, is_basic_range, is_language_range, is_star, hyphened, is_separator}
-use Rattle.langtag_cldr.proofs.WholeTags.{cut, keeps_none, length_first, not_by_follow, rest_after}
+use Rattle.langtag_cldr.proofs.WholeTags.{cut, not_by_follow, not_by_three}
 use Rattle.langtag_fields.specs.Fields.{preferred_tag}
-use Rattle.langtag_cldr.proofs.CommonTexts.{unmarked, none_extends, nothing_read, read_byte, read_nothing, some_length, all_fields, next_part, no_fields}
+use Rattle.langtag_cldr.proofs.CommonTexts.{rest_of, unmarked, none_extends, nothing_read, read_byte, read_nothing, some_length, all_fields, next_part, no_fields}
 use Rattle.langtag_cldr.specs.Definitions.{KeepsLanguage, current_text, matching_form, language_replaced, matching_fields, after_common, BeginsPlain, counted, fields_of_subtags, text_fields, language_of, counted_parts, language_aliases, Likely, known, language_alone, likely_for}
 use Rattle.langtag_choice.specs.Nearness.{is_fallback, kept}
 use Rattle.langtag_cldr.proofs.AddedTwice.{either_way}
@@ -18,9 +18,8 @@ use Rattle.langtag_text.specs.Fields.{Fields}
 use Rattle.langtag_cldr.proofs.AlikeFields.{completed_language}
 use Rattle.langtag_text.proofs.Alike.{alike_length}
 use Rattle.langtag_choice.specs.Distance.{distance_of_texts, language_distance}
-use Rattle.langtag_choice.specs.FirstLetters.{IsLanguageOf, IsShort, first_two}
-use Rattle.langtag_choice.specs.NearLanguages.{AreFar, HasNumber, HasNumberOrNone, HaveOneLanguage, is_among_numbers}
-use Rattle.langtag_choice.specs.declared.matching_tables.TheConstants.{SHORT_ALIAS_KEYS}
+use Rattle.langtag_choice.specs.FirstLetters.{IsFirst, IsNumberOf, first_two, is_changed}
+use Rattle.langtag_choice.specs.NearLanguages.{AreFar, HasNumber, HasNumberOrNone, HaveOneLanguage}
 
 -- ---- a range of a header, and "*"
 
@@ -105,26 +104,45 @@ module _ (range tag left rest : List ℕ) (plain : BeginsPlain left) (is : (basi
   pub range_begins : (are_alike (basic_text range) (take (length (basic_text range)) tag) && ends_subtag (drop (length (basic_text range)) tag)) ≡ ((length left == 0) && ends_subtag rest)
   range_begins = grind (arith, nat_tests, range_left, nothing_read, range_dropped)
 
--- ---- a language of two letters that is not replaced
+-- ---- a language that does not change
 
--- a row for a language of two letters has its number among the short keys
+-- the bit of each language that is replaced is set
 abbrev is_listed : Likely → Bool
-is_listed row = are_letters row.from.language && (not (length row.from.language == 2) || is_among_numbers SHORT_ALIAS_KEYS (letter_number row.from.language))
+is_listed row = are_letters row.from.language && is_changed (letter_number row.from.language)
 
 aliases_listed : list_all is_listed language_aliases ≡ true
-unfolding language_aliases letter_number is_letter fold_byte
+unfolding language_aliases is_changed letter_number is_letter fold_byte
 aliases_listed = refl
 
-module _ (key : Fields) (two : length key.language ≡ 2) (letters : are_letters key.language ≡ true) (absent : is_among_numbers SHORT_ALIAS_KEYS (letter_number key.language) ≡ false) where
-  same_number : (word : List ℕ) → are_letters word ≡ true → are_alike word key.language ≡ true → letter_number key.language ≡ letter_number word
-  same_number word plain alike = grind (arith, nat_tests, eqb_tells (letter_number key.language) (letter_number word), both_ways, letter_number-tells word key.language plain letters)
+-- and so are those of `und`, and of the languages with which whole tags begin
+abbrev is_set : List ℕ → Bool
+is_set text = are_letters text && is_changed (letter_number text)
 
-  apart : (row : Likely) → is_listed row ≡ true → are_alike row.from.language key.language ≡ false
-  apart row listed = grind (arith, common_steps, false_from_ne_true, and_parts, same_number, or_cases)
+und_set : is_set (codes "und") ≡ true
+unfolding is_changed letter_number is_letter fold_byte
+und_set = refl
 
+sgn_set : is_set (codes "sgn") ≡ true
+unfolding is_changed letter_number is_letter fold_byte
+sgn_set = refl
+
+art_set : is_set (codes "art") ≡ true
+unfolding is_changed letter_number is_letter fold_byte
+art_set = refl
+
+-- a language whose bit is not set is none of those whose bits are set
+module _ (language word : List ℕ) (letters : are_letters language ≡ true) (absent : is_changed (letter_number language) ≡ false) (is : is_set word ≡ true) where
+  apart : are_alike word language ≡ false
+  apart = grind (arith, nat_tests, common_steps, false_from_ne_true, and_parts, eqb_tells (letter_number language) (letter_number word), both_ways, letter_number-tells word language)
+
+  apart_from : are_alike language word ≡ false
+  apart_from = grind (arith, nat_tests, common_steps, false_from_ne_true, and_parts, eqb_tells (letter_number word) (letter_number language), both_ways, letter_number-tells language word)
+
+module _ (key : Fields) (letters : are_letters key.language ≡ true) (absent : is_changed (letter_number key.language) ≡ false) where
   no_alias : (rows : List Likely) → list_all is_listed rows ≡ true → likely_for rows (language_alone key) ≡ None
   no_alias [] all = refl
-  no_alias (row ∷ rows) all = grind (arith, nat_tests, and_parts (is_listed row) (list_all is_listed rows) all, apart row, no_alias rows)
+  no_alias (row ∷ rows) all =
+      grind (arith, nat_tests, and_parts (is_listed row) (list_all is_listed rows) all, apart key.language row.from.language letters absent, no_alias rows)
 
   not_replaced : language_replaced key ≡ key
   unfolding language_replaced
@@ -154,80 +172,129 @@ begins_with_one [] (a ∷ range) some alike = absurd cc
 begins_with_one (b ∷ []) (a ∷ range) some alike = grind (arith, nat_tests, and_parts, eqb-true)
 begins_with_one (b ∷ c ∷ basic) (a ∷ range) some alike = let long = alike_length (b ∷ c ∷ basic) (a ∷ []) alike in absurd (omega (arith, long))
 
--- ---- what a text begins with
+-- what holds of a value holds of each value of it as an option
+pub for_some : {A : Type 0} (P : A → Type 0) (a x : A) → Some a ≡ Some x → P a → P x
+for_some P a x is holds = let same : a ≡ x = cc in subst P same holds
 
--- a text of at most two bytes, and one with a separator after two
-pub short_of_two : (text : List ℕ) → length text < 3 → IsShort text
-short_of_two text most =
-    let n = position_or_len is_separator text in
-    (omega (arith, length_first text, most), λ two. keeps_none (after_first is_separator text) (omega (arith, most, two, length-take n text, length-drop (n + 1) text)))
+-- ---- the numbers of letters
 
-marked_short : (a b m : ℕ) (rest : List ℕ) → is_separator m ≡ true → KeepsLanguage rest → IsShort (a ∷ b ∷ m ∷ rest)
-marked_short a b m rest mark keeps =
-    (grind (arith, common_steps, cut a (b ∷ m ∷ rest), cut b (m ∷ rest), cut m rest), λ two. subst KeepsLanguage (sym (rest_after a b m rest two)) keeps)
+pub letter_of : (b small number : ℕ) → small ≡ fold_byte b → 97 ≤ small → small ≤ 122 → number ≡ small - 97 + 1 → IsNumberOf (b ∷ []) number
+unfolding letter_number is_letter fold_byte
+letter_of b small number is from to number_is = grind (arith, nat_tests)
 
-pub short_of_more : (text : List ℕ) → 3 ≤ length text → is_separator (get_or text 2 0) ≡ true → KeepsLanguage (drop 3 text) → IsShort text
-short_of_more text least mark keeps =
-    let is : text ≡ get_or text 0 0 ∷ get_or text 1 0 ∷ get_or text 2 0 ∷ drop 3 text = grind (arith, common_steps) in
-    subst IsShort (sym is) (marked_short (get_or text 0 0) (get_or text 1 0) (get_or text 2 0) (drop 3 text) mark keeps)
+pub number_of_pair : (a b x y : ℕ) → IsNumberOf (a ∷ []) x → IsNumberOf (b ∷ []) y → IsNumberOf (a ∷ b ∷ []) (x * 26 + y)
+unfolding letter_number
+number_of_pair a b x y first second = grind (arith, nat_tests, common_steps, and_parts, first.letters, first.value, second.letters, second.value)
+
+pub number_of_triple : (a b c x y : ℕ) → IsNumberOf (a ∷ b ∷ []) x → IsNumberOf (c ∷ []) y → IsNumberOf (a ∷ b ∷ c ∷ []) (x * 26 + y)
+unfolding letter_number
+number_of_triple a b c x y first second = grind (arith, nat_tests, common_steps, and_parts, first.letters, first.value, second.letters, second.value)
+
+-- ---- letters at the start of a text are its first subtag
+
+letter_unmarked : (x : ℕ) → is_letter x ≡ true → is_separator x ≡ false
+unfolding is_letter
+letter_unmarked x letter = grind (arith, nat_tests)
+
+module _ (a b n : ℕ) (is : IsNumberOf (a ∷ b ∷ []) n) where
+  two_free : (is_separator a ≡ false) × (is_separator b ≡ false)
+  two_free = grind (arith, nat_tests, and_parts, letter_unmarked, is.letters)
+
+  two_whole : IsFirst (a ∷ b ∷ []) n []
+  two_whole = grind (arith, common_steps, is.letters, is.value, two_free, unmarked a (b ∷ []), unmarked b [])
+
+  two_marked : (m : ℕ) (rest : List ℕ) → is_separator m ≡ true → IsFirst (a ∷ b ∷ m ∷ rest) n rest
+  two_marked m rest mark = grind (arith, common_steps, is.letters, is.value, two_free, unmarked a (b ∷ m ∷ rest), unmarked b (m ∷ rest), cut m rest)
+
+module _ (a b c n : ℕ) (is : IsNumberOf (a ∷ b ∷ c ∷ []) n) where
+  three_free : (is_separator a ≡ false) × (is_separator b ≡ false) × (is_separator c ≡ false)
+  three_free = grind (arith, nat_tests, and_parts, letter_unmarked, is.letters)
+
+  three_whole : IsFirst (a ∷ b ∷ c ∷ []) n []
+  three_whole = grind (arith, common_steps, is.letters, is.value, three_free, unmarked a (b ∷ c ∷ []), unmarked b (c ∷ []), unmarked c [])
+
+  three_marked : (m : ℕ) (rest : List ℕ) → is_separator m ≡ true → IsFirst (a ∷ b ∷ c ∷ m ∷ rest) n rest
+  three_marked m rest mark =
+      grind (arith, common_steps, is.letters, is.value, three_free, unmarked a (b ∷ c ∷ m ∷ rest), unmarked b (c ∷ m ∷ rest), unmarked c (m ∷ rest), cut m rest)
+
+pub first_two_alone : (text : List ℕ) (n : ℕ) → 2 ≤ length text → length text < 3 → IsNumberOf (get_or text 0 0 ∷ get_or text 1 0 ∷ []) n → IsFirst text n []
+first_two_alone [] n some few is = absurd (omega (arith, some))
+first_two_alone (a ∷ []) n some few is = absurd (omega (arith, some))
+first_two_alone (a ∷ b ∷ []) n some few is = two_whole a b n is
+first_two_alone (a ∷ b ∷ c ∷ text) n some few is = absurd (omega (arith, few))
+
+pub first_two_marked :
+    (text : List ℕ) (n : ℕ) → 3 ≤ length text → is_separator (get_or text 2 0) ≡ true → IsNumberOf (get_or text 0 0 ∷ get_or text 1 0 ∷ []) n → IsFirst text n (take (length text - 3) (drop 3 text))
+first_two_marked [] n some mark is = absurd (omega (arith, some))
+first_two_marked (a ∷ []) n some mark is = absurd (omega (arith, some))
+first_two_marked (a ∷ b ∷ []) n some mark is = absurd (omega (arith, some))
+first_two_marked (a ∷ b ∷ m ∷ text) n some mark is = subst (IsFirst (a ∷ b ∷ m ∷ text) n) (sym (rest_of 3 (a ∷ b ∷ m ∷ text))) (two_marked a b n is m text mark)
+
+pub first_three_alone :
+    (text : List ℕ) (n : ℕ) → 3 ≤ length text → length text < 4 → IsNumberOf (get_or text 0 0 ∷ get_or text 1 0 ∷ get_or text 2 0 ∷ []) n → IsFirst text n []
+first_three_alone [] n some few is = absurd (omega (arith, some))
+first_three_alone (a ∷ []) n some few is = absurd (omega (arith, some))
+first_three_alone (a ∷ b ∷ []) n some few is = absurd (omega (arith, some))
+first_three_alone (a ∷ b ∷ c ∷ []) n some few is = three_whole a b c n is
+first_three_alone (a ∷ b ∷ c ∷ d ∷ text) n some few is = absurd (omega (arith, few))
+
+pub first_three_marked :
+    (text : List ℕ) (n : ℕ) → 4 ≤ length text → is_separator (get_or text 3 0) ≡ true → IsNumberOf (get_or text 0 0 ∷ get_or text 1 0 ∷ get_or text 2 0 ∷ []) n →
+    IsFirst text n (take (length text - 4) (drop 4 text))
+first_three_marked [] n some mark is = absurd (omega (arith, some))
+first_three_marked (a ∷ []) n some mark is = absurd (omega (arith, some))
+first_three_marked (a ∷ b ∷ []) n some mark is = absurd (omega (arith, some))
+first_three_marked (a ∷ b ∷ c ∷ []) n some mark is = absurd (omega (arith, some))
+first_three_marked (a ∷ b ∷ c ∷ m ∷ text) n some mark is =
+    subst (IsFirst (a ∷ b ∷ c ∷ m ∷ text) n) (sym (rest_of 4 (a ∷ b ∷ c ∷ m ∷ text))) (three_marked a b c n is m text mark)
 
 -- ---- the language of a text
 
-known_two : (text : List ℕ) → length text ≡ 2 → known (codes "und") text ≡ text
-known_two text two = rw (false_from_ne_true (are_alike (codes "und") text) (λ yes. let same = alike_length (codes "und") text yes in omega (arith, same, two))) refl
+module _ (text rest : List ℕ) (number : ℕ) (begins : IsFirst text number rest) (keeps : KeepsLanguage rest) (absent : is_changed number ≡ false) where
+  abbrev first : List ℕ
+  first = before_first is_separator text
 
-module _ (text : List ℕ) (short : IsShort text) where
-  primary_two : is_primary (before_first is_separator text) ≡ true → length (before_first is_separator text) ≡ 2
-  primary_two primary = let long = primary_length (before_first is_separator text) primary in let few = short.0 in omega (arith, long, few)
+  first_absent : is_changed (letter_number first) ≡ false
+  first_absent = ap is_changed (sym begins.first.value) ∙ absent
 
-  language_first : is_primary (before_first is_separator text) ≡ true → language_of (before_first is_separator text) (counted_parts (after_first is_separator text)) ≡ before_first is_separator text
-  language_first primary =
-      let keeps = short.1 (primary_two primary) in
-      grind (arith, known_two, nat_tests, next_part, or_parts, not-true, unmarked, some_length, none_extends, primary_two, keeps.counted, keeps.extended)
+  not_und : are_alike (codes "und") first ≡ false
+  not_und = apart first (codes "und") begins.first.letters first_absent und_set
 
   -- the language is the text before the first separator
-  text_language : (f : Fields) → text_fields (hyphened text) ≡ Some f → (is_primary f.language ≡ true) × (length f.language ≡ 2) × (first_two f.language ≡ first_two text)
-  text_language f is = grind (arith, either_way, all_fields, language_first, head-take, primary_two, no_fields)
+  language_first : is_primary first ≡ true → language_of first (counted_parts (after_first is_separator text)) ≡ first
+  language_first primary = grind (arith, nat_tests, not_und, begins.follows, next_part, or_parts, not-true, unmarked, some_length, none_extends, keeps.counted, keeps.extended)
 
-letter_free : (x : ℕ) → 97 ≤ fold_byte x → is_separator x ≡ false
-unfolding fold_byte
-letter_free x letter = grind (arith, nat_tests)
+  text_language : (f : Fields) → text_fields (hyphened text) ≡ Some f → f.language ≡ first
+  text_language f is = grind (arith, either_way, all_fields, language_first, no_fields)
 
-two_letters : (text : List ℕ) (letters : ℕ × ℕ) → first_two text ≡ Some letters → 97 ≤ letters.0 → 97 ≤ letters.1 → 2 ≤ length (before_first is_separator text)
-two_letters text letters begins a b = grind (arith, common_steps, letter_free, unmarked)
+  -- the text is not replaced as a whole
+  not_whole : preferred_tag (basic_text text) ≡ None
+  not_whole = by_length (cases_lt 2 (length first))
+    where
+      by_length : (2 < length first) ⊎ (length first ≤ 2) → preferred_tag (basic_text text) ≡ None
+      by_length (inl more) =
+          let letters = begins.first.letters in
+          not_by_three text (omega (arith, more, begins.few)) (apart_from first (codes "sgn") letters first_absent sgn_set) (apart_from first (codes "art") letters first_absent art_set)
+      by_length (inr few) = not_by_follow text (omega (arith, few, begins.some)) (subst KeepsLanguage begins.follows keeps)
 
--- a short text that begins with two letters is not replaced as a whole
-not_whole : (text : List ℕ) (letters : ℕ × ℕ) → IsShort text → first_two text ≡ Some letters → 97 ≤ letters.0 → 97 ≤ letters.1 → preferred_tag (basic_text text) ≡ None
-not_whole text letters short begins a b =
-    let long = two_letters text letters begins a b in
-    let few = short.0 in
-    let two : length (before_first is_separator text) ≡ 2 = omega (arith, long, few) in
-    not_by_follow text two (short.1 two)
+  pub language_of_first : ForSome (matching_form text) (HasNumber number)
+  unfolding matching_form
+  language_of_first = by_und (are_alike (basic_text text) (codes "und"))
+    where
+      by_fields : (o : Option Fields) → text_fields (hyphened text) ≡ o → ForSome (option_map matching_fields o) (HasNumber number)
+      by_fields None is form made = absurd cc
+      by_fields (Some f) is form made =
+          let there = text_language f is in
+          let letters = ap are_letters there ∙ begins.first.letters in
+          let is_number : letter_number f.language ≡ number = ap letter_number there ∙ sym begins.first.value in
+          let same = not_replaced f letters (ap is_changed is_number ∙ absent) in
+          grind (arith, same, there, begins.few, completed_language (language_replaced f))
 
--- the number of two letters
-number_of_letters : (language : List ℕ) (letters : ℕ × ℕ) → length language ≡ 2 → first_two language ≡ Some letters → letter_number language ≡ (letters.0 - 96) * 26 + (letters.1 - 96)
-number_of_letters language letters two is = grind (arith, nat_tests, number_of_two)
+      own : text_fields (current_text text) ≡ text_fields (hyphened text)
+      own = ap (λ o. text_fields (unwrap_or o (hyphened text))) not_whole
 
-pub language_of_letters :
-    (letters : ℕ × ℕ) (number : ℕ) → number ≡ (letters.0 - 96) * 26 + (letters.1 - 96) → 97 ≤ letters.0 → 97 ≤ letters.1 →
-    is_among_numbers SHORT_ALIAS_KEYS number ≡ false → IsLanguageOf letters number
-unfolding matching_form
-language_of_letters letters number number_is a b absent text short begins = by_und (are_alike (basic_text text) (codes "und"))
-  where
-    by_fields : (o : Option Fields) → text_fields (hyphened text) ≡ o → ForSome (option_map matching_fields o) (HasNumber number)
-    by_fields None is form made = absurd cc
-    by_fields (Some f) is form made =
-        let there = text_language text short f is in
-        let plain = primary_letters f.language there.0 in
-        let is_number : letter_number f.language ≡ number = number_of_letters f.language letters there.1 (there.2 ∙ begins) ∙ sym number_is in
-        let same = not_replaced f there.1 plain (ap (is_among_numbers SHORT_ALIAS_KEYS) is_number ∙ absent) in
-        grind (arith, same, completed_language (language_replaced f))
-
-    own : text_fields (current_text text) ≡ text_fields (hyphened text)
-    own = ap (λ o. text_fields (unwrap_or o (hyphened text))) (not_whole text letters short begins a b)
-
-    by_und : (b : Bool) → ForSome (cond b None (option_map matching_fields (text_fields (current_text text)))) (HasNumber number)
-    by_und b form made = grind (arith, own, by_fields (text_fields (hyphened text)) refl form)
+      by_und : (b : Bool) → ForSome (cond b None (option_map matching_fields (text_fields (current_text text)))) (HasNumber number)
+      by_und b form made = grind (arith, own, by_fields (text_fields (hyphened text)) refl form)
 
 -- ---- how far it is
 

@@ -8,6 +8,9 @@ pub mod PreparedForms
 pub mod PutLaws
 pub mod RankLaws
 pub mod Refusals
+pub mod RegionWidths
+pub mod ServingLaws
 pub mod SuitableTags
+pub mod TransformedTexts
 pub mod TurnLaws
 pub mod VariantTexts

@@ -9,6 +9,7 @@ use Rattle.langtag_choice.specs.Remaining.{without_all}
 use Rattle.langtag_choice.specs.Found.{IsBestFound, IsFirst, IsListed, IsPairOf, IsShortlist, IsWorst, ListTries, TakesFirst, is_unrefused_at}
 use Rattle.langtag_choice.specs.declared.candidate.Candidate.{Candidate}
 use Rattle.langtag_choice.proofs.FoundLaws.{best_of, found_chosen, pair_left, unrefused_entry}
+use Rattle.langtag_choice.proofs.RankLaws.{at_most_itself}
 use Rattle.langtag_choice.proofs.SuitableTags.{remains, stays, stays_all, without_count, without_one_more}
 
 -- ---- what is found is a shortlist
@@ -99,9 +100,6 @@ module _ (elements : List Element) (tags : List (Option (List ℕ))) (chosen : L
   pub turn_none : TakesFirst entries None left → bar ≡ None → IsChoice elements (without_all tags chosen) None
   turn_none takes none =
       first_best elements (without_all tags chosen) bar entries list takes.place takes.first_is None takes.there (λ same. none)
-
-at_most_itself : (a : List ℕ) → IsAtMost a a
-at_most_itself a = grind (arith, common_steps, nat_list_cmp_total.antisymm a a)
 
 -- a shortlist whose best entry is empty has none
 pub turn_empty : (entries left : List (Option Candidate)) → TakesFirst entries None left → (k : ℕ) (c : Candidate) → get_or entries k None ≡ Some c → ⊥

@@ -2,12 +2,14 @@
 use Rattle.std.specs.Prelude.{◌≡◌, ◌⊎◌, ℕ, true, List, ◌∷◌, [], Option, Some, None, option_map}
 use Rattle.langtag_scan.specs.Prelude.{ForSome}
 use Rattle.langtag_range.specs.Definitions.{basic_text}
-use Rattle.langtag_cldr.specs.Definitions.{field_texts}
+use Rattle.langtag_cldr.specs.Definitions.{field_texts, matching_form}
 use Rattle.langtag_choice.specs.AsRead.{lost_as_read}
 use Rattle.langtag_choice.specs.KnownTexts.{is_known, known_text}
 use Rattle.langtag_choice.specs.Near.{wish_element}
 use Rattle.langtag_choice.specs.Nearness.{lost, unlikely_kept}
+use Rattle.langtag_choice.specs.RegionWidth.{width_of_forms}
 use Rattle.langtag_choice.specs.Serves.{IsAtMost, rank, serves}
+use Rattle.langtag_choice.specs.Transformed.{unasked_transform}
 use Rattle.langtag_choice.specs.Variants.{lacking}
 use Rattle.langtag_choice.specs.declared.candidate.Candidate.{Candidate}
 use Rattle.langtag_choice.specs.declared.candidate.Service.{Service}
@@ -20,10 +22,15 @@ service_number Near = 0
 service_number Acceptable = 1
 service_number LookUp = 2
 
+-- what decides between the candidate and others at its distance
+unfoldable pub ties_of : Candidate → List ℕ
+ties_of c =
+    lacking (basic_text c.range.now) c.tag.now ∷ unasked_transform (basic_text c.range.now) c.tag.now ∷ lost_as_read (basic_text c.range.now) c.tag.now ∷
+    lost (basic_text c.range.now) c.tag.now ∷ width_of_forms (matching_form (basic_text c.range.now)) (option_map field_texts c.form) ∷
+    unlikely_kept c.unlikely (option_map field_texts c.form) ∷ c.index ∷ []
+
 abbrev pub rank_of : Candidate → List ℕ
-rank_of c =
-    service_number c.rank.service ∷ c.rank.lack ∷ c.rank.place ∷ c.rank.distance ∷ lacking (basic_text c.range.now) c.tag.now ∷
-    lost_as_read (basic_text c.range.now) c.tag.now ∷ lost (basic_text c.range.now) c.tag.now ∷ unlikely_kept c.unlikely (option_map field_texts c.form) ∷ c.index ∷ []
+rank_of c = service_number c.rank.service ∷ c.rank.lack ∷ c.rank.place ∷ c.rank.distance ∷ ties_of c
 
 -- a candidate was found, and its rank is at most this one
 abbrev pub IsNotAfter : Option Candidate → List ℕ → Type 0

@@ -14,10 +14,13 @@ pub mod Nearness
 pub mod Pairs
 pub mod Prepared
 pub mod Refusals
+pub mod RegionGroup
+pub mod RegionWidth
 pub mod Remaining
 pub mod Rules
 pub mod Serves
 pub mod Sets
 pub mod Sites
 pub mod Suitable
+pub mod Transformed
 pub mod Variants

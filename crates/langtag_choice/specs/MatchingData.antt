@@ -3,6 +3,7 @@ use Rattle.std.specs.Prelude.{ℕ, [], ◌∷◌, List, codes}
 use Rattle.std.specs.List.{flat_map}
 use Rattle.langtag_text.specs.Words.{words}
 use Rattle.langtag_choice.specs.Rules.{Rule, rules_of_languages, rules_of_scripts}
+use Rattle.langtag_choice.specs.RegionGroup.{RegionGroup, groups_of_words}
 
 -- the rules for languages: a desired language, a supported language, and their distance. A rule that holds in both directions is listed twice
 unfoldable pub language_rules : List Rule
@@ -31,6 +32,46 @@ script_rules =
     (codes "am Ethi en Latn 10 ar Latn ar Arab 20 az Latn ru Cyrl 10 bn Beng en Latn 10 bn Latn bn Beng 20 bo Tibt zh Hans 10 gu Latn gu Gujr 20 hi Latn hi Deva 20 hy Armn ru Cyrl 10 ja Hani ja Jpan 5 ja Hira ja Hrkt 5 ja Hira ja Jpan 5 ja Hrkt ja Jpan 5 ja Kana ja Hrkt 5 ja Kana ja Jpan 5 ja Latn ja Jpan 5 ka Geor en Latn 10 km Khmr en Latn 10 kn Knda en Latn 10 kn Latn kn Knda 20 ko Hang ko Kore 5 ko Hani ko Kore 5 ko Jamo ko Hang 5 ko Jamo ko Kore 5"
     ∷ codes "lo Laoo en Latn 10 ml Latn ml Mlym 20 ml Mlym en Latn 10 mr Latn mr Deva 20 my Mymr en Latn 10 ne Deva en Latn 10 or Orya en Latn 10 pa Guru en Latn 10 ps Arab en Latn 10 sd Arab en Latn 10 si Sinh en Latn 10 sr Cyrl sr Latn 5 sr Latn sr Cyrl 5 ta Latn ta Taml 20 ta Taml en Latn 10 te Latn te Telu 20 te Telu en Latn 10 ti Ethi en Latn 10 tk Latn ru Cyrl 10 ur Arab en Latn 10 uz Latn ru Cyrl 10 yi Hebr en Latn 10 za Latn zh Hans 10 zh Hani zh Hans 20"
     ∷ codes "zh Hani zh Hant 20 zh Latn zh Hans 20"
+    ∷ [])
+
+-- the groups of regions other than the world, each before its regions: countries, and smaller groups
+unfoldable pub region_groups : List RegionGroup
+region_groups =
+    flat_map (λ text. groups_of_words (words text))
+    (codes "EU AT BE BG CY CZ DE DK EE ES EZ FI FR GR HR HU IE IT LT LU LV MT NL PL PT RO SE SI SK"
+    ∷ codes "EZ AT BE CY DE EE ES FI FR GR IE IT LT LU LV MT NL PT SI SK"
+    ∷ codes "QO AC AQ CP DG TA"
+    ∷ codes "UN AD AE AF AG AL AM AO AR AT AU AZ BA BB BD BE BF BG BH BI BJ BN BO BR BS BT BW BY BZ CA CD CF CG CH CI CL CM CN CO CR CU CV CY CZ DE DJ DK DM DO DZ EC EE EG ER ES ET EU EZ FI FJ FM FR GA GB GD GE GH GM GN GQ GR GT GW GY HN HR HT HU ID IE IL IN IQ IR IS IT JM JO JP KE KG KH KI KM KN KP KR KW KZ LA LB LC LI LK LR LS LT LU LV LY MA MC MD ME MG MH MK ML MM MN MR MT MU MV MW MX MY MZ NA NE NG NI NL NO NP NR NZ OM PA PE PG PH PK PL PT PW PY QA RO RS RU RW SA SB SC SD SE SG SI SK SL SM SN SO SR SS ST SV SY SZ TD TG TH TJ TL TM TN TO TR TT TV TZ UA UG US UY UZ VC VE VN VU WS YE ZA ZM ZW 013 017 018 034 035 143 151 155"
+    ∷ codes "002 AO BF BI BJ BW CD CF CG CI CM CV DJ DZ EA EG EH ER ET GA GH GM GN GQ GW IC IO KE KM LR LS LY MA MG ML MR MU MW MZ NA NE NG RE RW SC SD SH SL SN SO SS ST SZ TD TF TG TN TZ UG YT ZA ZM ZW 011 014 015 017 018 202"
+    ∷ codes "003 AG AI AW BB BL BM BQ BS BZ CA CR CU CW DM DO GD GL GP GT HN HT JM KN KY LC MF MQ MS MX NI PA PM PR SV SX TC TT US VC VG VI 013 021 029"
+    ∷ codes "005 AR BO BR BV CL CO EC FK GF GS GY PE PY SR UY VE"
+    ∷ codes "009 AC AQ AS AU CC CK CP CX DG FJ FM GU HM KI MH MP NC NF NR NU NZ PF PG PN PW QO SB TA TK TO TV UM VU WF WS 053 054 057 061"
+    ∷ codes "011 BF BJ CI CV GH GM GN GW LR ML MR NE NG SH SL SN TG"
+    ∷ codes "013 BZ CR GT HN MX NI PA SV"
+    ∷ codes "014 BI DJ ER ET IO KE KM MG MU MW MZ RE RW SC SO SS TF TZ UG YT ZM ZW"
+    ∷ codes "015 DZ EA EG EH IC LY MA SD TN"
+    ∷ codes "017 AO CD CF CG CM GA GQ ST TD"
+    ∷ codes "018 BW LS NA SZ ZA"
+    ∷ codes "019 AG AI AR AW BB BL BM BO BQ BR BS BV BZ CA CL CO CR CU CW DM DO EC FK GD GF GL GP GS GT GY HN HT JM KN KY LC MF MQ MS MX NI PA PE PM PR PY SR SV SX TC TT US UY VC VE VG VI 003 005 013 021 029 419"
+    ∷ codes "021 BM CA GL PM US"
+    ∷ codes "029 AG AI AW BB BL BQ BS CU CW DM DO GD GP HT JM KN KY LC MF MQ MS PR SX TC TT VC VG VI"
+    ∷ codes "030 CN HK JP KP KR MN MO TW"
+    ∷ codes "034 AF BD BT IN IR LK MV NP PK"
+    ∷ codes "035 BN ID KH LA MM MY PH SG TH TL VN"
+    ∷ codes "039 AD AL BA ES GI GR HR IT ME MK MT PT RS SI SM VA XK"
+    ∷ codes "053 AU CC CX HM NF NZ"
+    ∷ codes "054 FJ NC PG SB VU"
+    ∷ codes "057 FM GU KI MH MP NR PW UM"
+    ∷ codes "061 AS CK NU PF PN TK TO TV WF WS"
+    ∷ codes "142 AE AF AM AZ BD BH BN BT CN CY GE HK ID IL IN IQ IR JO JP KG KH KP KR KW KZ LA LB LK MM MN MO MV MY NP OM PH PK PS QA SA SG SY TH TJ TL TM TR TW UZ VN YE 030 034 035 143 145"
+    ∷ codes "143 KG KZ TJ TM UZ"
+    ∷ codes "145 AE AM AZ BH CY GE IL IQ JO KW LB OM PS QA SA SY TR YE"
+    ∷ codes "150 AD AL AT AX BA BE BG BY CH CQ CZ DE DK EE ES FI FO FR GB GG GI GR HR HU IE IM IS IT JE LI LT LU LV MC MD ME MK MT NL NO PL PT RO RS RU SE SI SJ SK SM UA VA XK 039 151 154 155"
+    ∷ codes "151 BG BY CZ HU MD PL RO RU SK UA"
+    ∷ codes "154 AX CQ DK EE FI FO GB GG IE IM IS JE LT LV NO SE SJ"
+    ∷ codes "155 AT BE CH DE FR LI LU MC NL"
+    ∷ codes "202 AO BF BI BJ BW CD CF CG CI CM CV DJ ER ET GA GH GM GN GQ GW IO KE KM LR LS MG ML MR MU MW MZ NA NE NG RE RW SC SH SL SN SO SS ST SZ TD TF TG TZ UG YT ZA ZM ZW 011 014 017 018"
+    ∷ codes "419 AG AI AR AW BB BL BO BQ BR BS BV BZ CL CO CR CU CW DM DO EC FK GD GF GP GS GT GY HN HT JM KN KY LC MF MQ MS MX NI PA PE PR PY SR SV SX TC TT UY VC VE VG VI 005 013 029"
     ∷ [])
 
 -- the regions of $maghreb: countries, and groups of countries that are all in it

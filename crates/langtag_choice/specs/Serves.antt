@@ -4,6 +4,8 @@ use Rattle.langtag_scan.specs.Prelude.{slice_cmp, is_gt, nat_cmp}
 use Rattle.langtag_choice.specs.AsRead.{lost_as_read}
 use Rattle.langtag_choice.specs.Distance.{distance_of_texts}
 use Rattle.langtag_choice.specs.Nearness.{kept, lost, unlikely}
+use Rattle.langtag_choice.specs.RegionWidth.{region_width}
+use Rattle.langtag_choice.specs.Transformed.{unasked_transform}
 use Rattle.langtag_choice.specs.Variants.{lacking}
 use Rattle.langtag_range.specs.Definitions.{Element, is_star}
 
@@ -33,15 +35,19 @@ serves element tag = is_wish element && (not (is_star element.range) && may_serv
 abbrev pub service : ℕ → ℕ
 service distance = if nat_lt distance 16 then 0 else if nat_lt distance 50 then 1 else 2
 
--- the rank of a tag for a range, as a list of numbers. The first four are how well the tag serves the range, 1 minus
--- the weight of the range in thousandths, the number of ranges before the range, and the distance. The last five are how
--- many of the variants of the range the tag lacks, how many bytes lookup removes from the range (all if it does not find the
--- tag), first if it reads the languages as CLDR replaces them and then as they are written, how unlikely the region of the tag
--- is, and the index of the tag
+-- what decides among tags at one distance from a range: how many variants of the range the tag lacks, whether it is a
+-- translation for which the range does not ask, how many bytes lookup removes from the range (all if it does not find the tag),
+-- first if it reads the languages as CLDR replaces them and then as they are written, how wide the tag's group of regions is if it
+-- has the region of the range, how unlikely the region of the tag is, and the index of the tag
+abbrev pub ties : List ℕ → List ℕ → ℕ → List ℕ
+ties range tag index =
+    lacking range tag ∷ unasked_transform range tag ∷ lost_as_read range tag ∷ lost range tag ∷ region_width range tag ∷ unlikely tag ∷ index ∷ []
+
+-- the rank of a tag for a range, as a list of numbers: how well the tag serves the range, 1 minus the weight of the range in
+-- thousandths, the number of ranges before the range, the distance, and what decides among tags at this distance
 unfoldable pub rank : ℕ → Element → ℕ → List ℕ → List ℕ
 rank place element index tag =
-    service (reach element.range tag) ∷ (1000 - element.weight) ∷ place ∷ reach element.range tag ∷ lacking element.range tag ∷
-    lost_as_read element.range tag ∷ lost element.range tag ∷ unlikely tag ∷ index ∷ []
+    service (reach element.range tag) ∷ (1000 - element.weight) ∷ place ∷ reach element.range tag ∷ ties element.range tag index
 
 -- a rank is at most another rank: the first number in which they differ decides
 abbrev pub IsAtMost : List ℕ → List ℕ → Type 0

@@ -1,7 +1,9 @@
 -- All tags that suit a reader, best first.
-use Rattle.std.specs.Prelude.{◌≡◌, ◌≢◌, ◌⊎◌, ℕ, ◌<◌, ◌≤◌, ◌-◌, List, [], ◌∷◌, Option, Some, None, length, slice_get, slice_set, AllPairs, Contains}
+use Rattle.std.specs.Prelude.{◌≡◌, ◌≢◌, ◌⊎◌, ℕ, ◌<◌, ◌≤◌, ◌-◌, List, [], ◌∷◌, Option, Some, None, length, slice_get, slice_set, AllPairs, Contains, Bool, false, not, ◌&&◌, count_by}
+use Rattle.langtag_scan.specs.Prelude.{list_any, option_map_or}
 use Rattle.langtag_range.specs.Definitions.{Element}
-use Rattle.langtag_choice.specs.Best.{IsChoice, Pair}
+use Rattle.langtag_choice.specs.Best.{IsChoice, Pair, is_refused}
+use Rattle.langtag_choice.specs.Serves.{serves}
 
 -- ---- the definition
 
@@ -29,6 +31,15 @@ AreDistinct indices = AllPairs (λ index later. index ≢ later) indices
 -- a tag that may serve a range and is not refused stands at this index
 abbrev pub IsServing : List Element → List (Option (List ℕ)) → ℕ → Type 0
 IsServing elements tags index = (pair : Pair elements tags) × (pair.index ≡ index)
+
+-- whether an entry is a tag that may serve a range and is not refused
+abbrev pub is_suitable : List Element → Option (List ℕ) → Bool
+is_suitable elements entry =
+    option_map_or (λ tag. list_any (λ element. serves element tag) elements && not (is_refused elements tag)) entry false
+
+-- the number of these tags
+abbrev pub suitable_count : List Element → List (Option (List ℕ)) → ℕ
+suitable_count elements tags = count_by (is_suitable elements) tags
 
 -- if there is room for more, or for all tags, no tag is left out
 abbrev pub LeavesNoneOut : List Element → List (Option (List ℕ)) → ℕ → List ℕ → Type 0

@@ -1,5 +1,5 @@
 //! A tag that may serve a range.
-ghost use Rattle.std.specs.Prelude.{◌≡◌, IsTrue, option_map, ◌≤◌, ℕ, ◌==◌, ◌&&◌, ◌||◌, nat_lt, ◌-◌, drop, length};
+ghost use Rattle.std.specs.Prelude.{◌≡◌, IsTrue, option_map, ◌≤◌, ℕ, ◌==◌, ◌&&◌, ◌||◌, nat_lt, ◌-◌, drop, length, if◌then◌else◌};
 ghost use Rattle.langtag_scan.specs.Prelude.{slice_cmp, is_lt, nat_cmp};
 ghost use Rattle.langtag_range.specs.Definitions.{is_language_range, hyphened, basic_text};
 ghost use Rattle.langtag_choice.specs.Variants.{lacking, variants_of};
@@ -7,6 +7,8 @@ ghost use Rattle.langtag_choice.specs.Variants.{lacking, variants_of};
 use crate::as_read::lost_as_read;
 use crate::likely_region::unlikely;
 use crate::nearness::kept;
+use crate::region_group::region_width;
+use crate::transformed::is_transformed;
 use crate::variants::{has_variants, lacking_variants};
 use langtag_cldr::{TagFields, basic_len};
 use std::cmp::Ordering;
@@ -96,9 +98,11 @@ pub(crate) struct Candidate<'a, 't> {
 }
 
 impl Candidate<'_, '_> {
-    ghost use Rattle.langtag_choice.specs.Candidates.{rank_of};
+    ghost use Rattle.langtag_choice.specs.Candidates.{rank_of, ties_of};
     ghost use Rattle.langtag_choice.specs.Nearness.{lost, unlikely_kept};
-    ghost use Rattle.langtag_cldr.specs.Definitions.{field_texts};
+    ghost use Rattle.langtag_choice.specs.RegionWidth.{width_of_forms};
+    ghost use Rattle.langtag_choice.specs.Transformed.{unasked_transform};
+    ghost use Rattle.langtag_cldr.specs.Definitions.{field_texts, matching_form};
 
     /// Returns whether this candidate is better than another.
     pub(crate) fn goes_before(&self, other: &Candidate<'_, '_>) -> bool
@@ -112,16 +116,31 @@ impl Candidate<'_, '_> {
     }
 
     /// Returns whether this candidate is better than another of the same rank. It compares how many of the variants of the
-    /// range the tags lack, then how much lookup removes from the range, then how likely the region is, and then the index.
-    /// Lookup first reads the languages as CLDR replaces them, and then as they are written.
+    /// range the tags lack, then whether they are translations for which the range does not ask, and then how much lookup
+    /// removes from the range.
+    #[tactic(auto, unfolding(crate::specs::Candidates::ties_of))]
     #[inline(never)]
     fn breaks_tie(&self, other: &Candidate<'_, '_>) -> bool
-        ensures { result ≡ is_lt (slice_cmp nat_cmp (drop 4 (rank_of self.now)) (drop 4 (rank_of other.now))) }
+        ensures { result ≡ is_lt (slice_cmp nat_cmp (ties_of self.now) (ties_of other.now)) }
     {
         let (lacking, others_lacking) = (self.lacking(), other.lacking());
         if lacking != others_lacking {
             return lacking < others_lacking;
         }
+        let (transformed, others_transformed) = (self.is_unasked(), other.is_unasked());
+        if transformed != others_transformed {
+            return others_transformed;
+        }
+        self.breaks_tie_by_lookup(other)
+    }
+
+    /// Returns whether this candidate is better than another, if they differ only in what is compared last: how much lookup
+    /// removes from the range, then how wide the group of regions is, then how likely the region is, and then the index. Lookup
+    /// first reads the languages as CLDR replaces them, and then as they are written.
+    #[tactic(auto, unfolding(crate::specs::Candidates::ties_of))]
+    fn breaks_tie_by_lookup(&self, other: &Candidate<'_, '_>) -> bool
+        ensures { result ≡ is_lt (slice_cmp nat_cmp (drop 2 (ties_of self.now)) (drop 2 (ties_of other.now))) }
+    {
         let (lost, others_lost) = (self.lost(), other.lost());
         let read = lost_as_read(self.range, self.tag, lost);
         let others_read = lost_as_read(other.range, other.tag, others_lost);
@@ -131,11 +150,38 @@ impl Candidate<'_, '_> {
         if lost != others_lost {
             return lost < others_lost;
         }
+        self.breaks_tie_by_region(other)
+    }
+
+    /// Returns whether this candidate is better than another, if lookup removes as much from the range for each.
+    #[tactic(auto, unfolding(crate::specs::Candidates::ties_of))]
+    fn breaks_tie_by_region(&self, other: &Candidate<'_, '_>) -> bool
+        ensures { result ≡ is_lt (slice_cmp nat_cmp (drop 4 (ties_of self.now)) (drop 4 (ties_of other.now))) }
+    {
+        let (width, others_width) = (self.width(), other.width());
+        if width != others_width {
+            return width < others_width;
+        }
         let (unlikely, others) = (self.unlikely(), other.unlikely());
         if unlikely != others {
             return unlikely < others;
         }
         self.index < other.index
+    }
+
+    /// Returns whether the tag is a translation for which the range does not ask.
+    #[tactic(auto, unfolding(crate::specs::Transformed::unasked_transform))]
+    fn is_unasked(&self) -> bool
+        ensures { unasked_transform (basic_text self.now.range.now) self.now.tag.now ≡ if result then 1 else 0 }
+    {
+        is_transformed(self.tag) && !is_transformed(self.range)
+    }
+
+    /// Returns how many regions the tag's group of regions has, if the region of the range is in it.
+    fn width(&self) -> usize
+        ensures { result ≡ width_of_forms (matching_form (basic_text self.now.range.now)) (option_map field_texts self.now.form) }
+    {
+        region_width(self.range, self.form)
     }
 
     /// Returns how many of the variants of the range the tag lacks.

@@ -79,7 +79,7 @@ fn is_first(next: &Candidate<'_, '_>, found: &Option<Candidate<'_, '_>>) -> bool
 
 /// Returns the string at an index as a candidate for a range, if the string may serve the range and is nearer than a
 /// limit.
-#[tactic(auto, unfolding(crate::specs::Serves::rank, crate::specs::Serves::serves), using(crate::proofs::PreparedForms::unlikely_either))]
+#[tactic(auto, unfolding(crate::specs::Serves::rank, crate::specs::Serves::serves, crate::specs::Candidates::ties_of, crate::specs::RegionWidth::region_width), using(crate::proofs::PreparedForms::unlikely_either))]
 fn as_candidate<'a, 't>(
     limit: u8,
     wish: &Wish<'a>,

@@ -8,7 +8,7 @@ ghost use Rattle.langtag_choice.specs.NearLanguages.{HasNumber, HasNumberOrNone}
 ghost use Rattle.langtag_cldr.specs.Definitions.{matching_form, field_texts};
 ghost use Rattle.langtag_range.specs.Definitions.{basic_text, is_language_range, is_star, hyphened, listed_element};
 
-use crate::first_letters::{first_two, is_short, language_of};
+use crate::first_letters::{first_two, language_of};
 use crate::range_language::RangeLanguage;
 use crate::read_range::is_star;
 use crate::variants::variant_count;
@@ -62,9 +62,9 @@ impl<'a> Wish<'a> {
         })
     }
 
-    /// Returns whether the first letters of a tag show that it cannot serve the range: the tag has a two-letter language
-    /// with which the range does not begin, and which is not near the language of the range. If the range has no matching
-    /// form, it is enough that the range does not begin with these letters.
+    /// Returns whether the first letters of a tag show that it cannot serve the range: the tag has a language of two or three
+    /// letters with which the range does not begin, and which is not near the language of the range. If the range has no
+    /// matching form, it is enough that the range does not begin with these letters.
     pub(crate) fn is_far_from(&self, tag: &[u8]) -> bool
         ensures far { IsTrue result → 50 ≤ distance_of_texts (basic_text self.now.range.now) tag.now }
         ensures kept { IsTrue result → kept (basic_text self.now.range.now) tag.now ≡ 0 }
@@ -75,11 +75,9 @@ impl<'a> Wish<'a> {
         if self.form.is_none() {
             return self.is_far_without_form(letters);
         }
-        match language_of(letters) {
-            Some(number) if is_short(tag) => {
-                self.is_far_from_language(&self.language, letters, number)
-            }
-            _ => false,
+        match language_of(tag) {
+            Some(number) => self.is_far_from_language(&self.language, letters, number),
+            None => false,
         }
     }
 

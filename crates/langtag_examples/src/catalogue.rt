@@ -1,6 +1,6 @@
 //! Strings by language tag.
-ghost use Rattle.std.specs.Prelude.{◌≡◌, ℕ, List, Some, None, OnOk, OnErr, IfOk, IsTrue, false, is_some};
-ghost use Rattle.std.specs.Option.{option_map, option_or};
+ghost use Rattle.std.specs.Prelude.{◌≡◌, ℕ, List, Some, None, OnOk, OnErr, IfOk, IsTrue, false};
+ghost use Rattle.std.specs.Option.{option_map};
 ghost use Rattle.std.specs.String.{string_bytes};
 ghost use Rattle.langtag.specs.Definitions.{are_alike, IsTag, lang_tag_buf_text};
 ghost use Rattle.langtag.specs.declared.lang_tag_buf.LangTagBuf.{LangTagBuf};
@@ -43,38 +43,6 @@ impl Catalogue {
     {
         self.texts.insert(tag, text)?;
         Ok(())
-    }
-
-    /// Moves the string of a tag to another tag, whose text it replaces. After `rename(&iw, he)`, the tag `he` has the
-    /// string that `iw` had. Returns whether the first tag had a string.
-    ///
-    /// It allocates before it removes the string, which would otherwise be lost if allocation failed.
-    ///
-    /// # Errors
-    ///
-    /// Returns an error if allocation fails. The catalogue is then unchanged.
-    pub fn rename(&mut self, tag: &LangTagBuf, new: LangTagBuf) -> Result<bool, AllocError>
-        ensures found { IfOk result (λ found. found ≡ is_some (text_for self.old (lang_tag_buf_text tag.now))) }
-        ensures moved { OnOk result ((other : LangTagBuf) → IsTrue (are_alike (lang_tag_buf_text new) (lang_tag_buf_text other)) →
-            text_for self.new (lang_tag_buf_text other)
-            ≡ option_or (text_for self.old (lang_tag_buf_text tag.now)) (text_for self.old (lang_tag_buf_text other))) }
-        ensures gone { OnOk result ((other : LangTagBuf) → IsTrue (are_alike (lang_tag_buf_text tag.now) (lang_tag_buf_text other)) →
-            are_alike (lang_tag_buf_text new) (lang_tag_buf_text other) ≡ false
-            → text_for self.new (lang_tag_buf_text other) ≡ None) }
-        ensures others { OnOk result ((other : LangTagBuf) → are_alike (lang_tag_buf_text tag.now) (lang_tag_buf_text other) ≡ false →
-            are_alike (lang_tag_buf_text new) (lang_tag_buf_text other) ≡ false →
-            text_for self.new (lang_tag_buf_text other) ≡ text_for self.old (lang_tag_buf_text other)) }
-        ensures unchanged { OnErr result ((other : LangTagBuf)
-            → text_for self.new (lang_tag_buf_text other) ≡ text_for self.old (lang_tag_buf_text other)) }
-    {
-        self.texts.reserve(1)?;
-        let Some(text) = self.texts.remove(tag) else {
-            return Ok(false);
-        };
-        let Ok(_) = self.texts.insert(new, text) else {
-            unreachable!()
-        };
-        Ok(true)
     }
 
     /// Returns the string of a tag: the tag `FR` finds the string of `fr`, but `fr-CH` does not.

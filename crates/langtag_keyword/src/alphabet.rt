@@ -61,7 +61,7 @@ fn offer_each<const ROOM: usize>(least: &mut LeastNumbers<ROOM>, rest: Option<&s
 }
 
 /// Returns whether a string comes before another in alphabetical order, ignoring case: `foo` comes before `foobar`.
-pub(crate) fn is_before(a: &[u8], b: &[u8]) -> bool
+pub fn is_before(a: &[u8], b: &[u8]) -> bool
     ensures { result ≡ spec.is_before (fold_text a.now) (fold_text b.now) }
 {
     let mut a = a;

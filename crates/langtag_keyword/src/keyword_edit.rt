@@ -25,7 +25,7 @@ pub struct KeywordEdit<'a> {
 
 /// Where the edited `u` goes among the extensions of a tag.
 #[derive(Clone, Copy, Drop)]
-pub(crate) enum Place {
+pub enum Place {
     /// In place of the first `u`.
     OfFirstUnicode,
     /// Before the first extension with a greater singleton or, if there is none, to the end: the tag has no `u`.
@@ -50,7 +50,7 @@ pub fn push_edited(out: &mut Output<'_>, extensions: Extensions<'_>, edit: Keywo
 }
 
 /// Returns where the edited `u` goes.
-fn place_of_unicode(extensions: Extensions<'_>) -> Place
+pub fn place_of_unicode(extensions: Extensions<'_>) -> Place
     ensures { (es : List model.Extension) → SpellsExtensions es (extensions_text extensions.entry)
         → replaces result ≡ is_some (find_extension 117 es) }
 {
@@ -61,7 +61,7 @@ fn place_of_unicode(extensions: Extensions<'_>) -> Place
 }
 
 /// Returns whether the place is at this extension.
-fn is_at(place: Place, extension: Extension<'_>) -> bool
+pub fn is_at(place: Place, extension: Extension<'_>) -> bool
     ensures { (e : model.Extension) → SpellsExtension e (extension_text extension.entry)
         → result ≡ spec.is_place_of_u (replaces place) e }
 {
@@ -90,7 +90,7 @@ fn push_at(out: &mut Output<'_>, place: Place, extension: Extension<'_>, edit: K
 }
 
 /// Appends the remaining extensions of an iterator.
-fn push_rest(out: &mut Output<'_>, rest: ExtensionsIter<'_>)
+pub fn push_rest(out: &mut Output<'_>, rest: ExtensionsIter<'_>)
     ensures { (es : List model.Extension) → AllByRecursion IsWellFormedExtension es → extensions_left rest.entry ≡ map extension_spelling es
         → Pushes (flat_map model.extension_flat es) out.old out.new }
 {

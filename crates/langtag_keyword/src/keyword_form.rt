@@ -50,7 +50,7 @@ fn push_with_room<const ROOM: usize>(out: &mut Output<'_>, text: &str, keys: Key
 }
 
 /// Offers the number of each key among the subtags of a string.
-fn offer_keys<const ROOM: usize>(least: &mut LeastNumbers<ROOM>, text: &str, keys: Keys)
+pub fn offer_keys<const ROOM: usize>(least: &mut LeastNumbers<ROOM>, text: &str, keys: Keys)
     requires { AllByRecursion IsSubtag (subtags text.now) }
     ensures { IsOffered (map order_number (filter (opens_keyword keys) (subtags text.now))) least.old least.new }
 {
@@ -105,7 +105,7 @@ fn push_each_of_many(out: &mut Output<'_>, text: &str, keys: Keys, numbers: &[u6
 }
 
 /// Returns the key that has a number.
-fn key_of(number: u64) -> [u8; 2]
+pub fn key_of(number: u64) -> [u8; 2]
     ensures { result ≡ key_of number }
 {
     let [first, second, ..] = number.to_be_bytes();
@@ -113,7 +113,7 @@ fn key_of(number: u64) -> [u8; 2]
 }
 
 /// Appends a key with its canonical value, if there is a value.
-fn push_keyword(out: &mut Output<'_>, keys: Keys, key: [u8; 2], value: Option<&str>)
+pub fn push_keyword(out: &mut Output<'_>, keys: Keys, key: [u8; 2], value: Option<&str>)
     ensures { (ss : List (List ℕ)) → option_map (λ v. v.now) value.entry ≡ option_map join (value_of (opens_keyword keys) key ss)
         → Pushes (spec.keyword_form (opens_keyword keys) (canonical_value_of keys) ss key) out.old out.new }
 {

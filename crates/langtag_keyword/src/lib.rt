@@ -26,12 +26,12 @@ pub use keys::Keys;
 pub use keyword_error::KeywordError;
 
 // For this repository.
-pub use alphabet::are_few;
+pub use alphabet::{are_few, is_before};
 pub use extension_form::{is_of, push_extensions, push_unicode, subtags_of};
 pub use key_set::KeySet;
 pub use keyword_check::{invalid_type, is_unicode_key};
-pub use keyword_edit::{KeywordEdit, push_edited};
-pub use keyword_form::push_keywords;
+pub use keyword_edit::{KeywordEdit, Place, is_at, place_of_unicode, push_edited, push_rest};
+pub use keyword_form::{key_of, offer_keys, push_keyword, push_keywords};
 pub use language_id::{is_among, is_unicode_language, take_region, take_script};
 pub use least_numbers::{FEW, LeastNumbers, MANY, order_number, push_numbers};
 pub use subtags::{before_key, is_earlier_subtag, nonempty, preceding, split_first, value_in};

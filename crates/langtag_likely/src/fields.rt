@@ -24,7 +24,7 @@ pub fn fields_of(tag: NormalLangTag<'_>) -> TagFields<'_>
 
 /// Returns whether the last extended language of a tag, if it has any, is registered for the language before it.
 #[inline(always)]
-pub(crate) fn is_read(tag: NormalLangTag<'_>) -> bool
+pub fn is_read(tag: NormalLangTag<'_>) -> bool
     ensures { EachRecord (normal_lang_tag_text tag.entry) (λ r. result ≡ is_read r.primary r.extended) }
 {
     // There is no room for an extended language.

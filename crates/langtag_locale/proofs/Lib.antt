@@ -6,3 +6,6 @@ pub mod LocaleTwice
 pub mod KeptVariants
 pub mod LocaleCase
 pub mod IdentifierTwice
+pub mod ResolvedLaws
+pub mod RangeLaws
+pub mod ResolvedRecords

@@ -2,3 +2,5 @@ pub mod Locale
 pub mod LocaleAliases
 pub mod LocaleForm
 pub mod Allowed
+pub mod Resolved
+pub mod WishTexts

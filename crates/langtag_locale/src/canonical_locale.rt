@@ -153,7 +153,7 @@ fn put_parts(tag: NormalLangTag<'_>, buffer: &mut [u8]) -> usize
 }
 
 /// Returns the primary language, the script and the region of a tag.
-fn fields_of<'a>(tag: NormalLangTag<'a>) -> TagFields<'a>
+pub(crate) fn fields_of<'a>(tag: NormalLangTag<'a>) -> TagFields<'a>
     ensures { model.EachRecord (normal_lang_tag_text tag.entry) (λ r. field_texts result ≡ spec.record_fields r) }
 {
     TagFields {

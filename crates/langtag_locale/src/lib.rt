@@ -18,6 +18,13 @@ mod locale_fields;
 mod locale_for;
 mod locale_tables;
 mod locale_variants;
+mod range_locale;
+mod resolved;
+mod resolved_extensions;
+mod resolved_fields;
+mod resolved_keywords;
+mod wish;
 
 pub use canonical_locale::{locale_form, write_locale_form};
 pub use locale::is_locale;
+pub use resolved::{resolved_locale, write_resolved_locale};

@@ -135,7 +135,7 @@ pub(crate) fn push_identifier(out: &mut Output<'_>, fields: TagFields<'_>, varia
 }
 
 /// Appends a field, unless it is empty.
-fn push_field(out: &mut Output<'_>, field: &[u8])
+pub(crate) fn push_field(out: &mut Output<'_>, field: &[u8])
     ensures { Pushes (model.one_flat (subtag_of field.now)) out.old out.new }
 {
     if !field.is_empty() {

@@ -128,7 +128,7 @@ fn variants_region(variants: Option<&str>) -> &'static [u8]
     b""
 }
 
-fn other_region<'a>(fields: TagFields<'a>, region: &'a [u8]) -> TagFields<'a>
+pub(crate) fn other_region<'a>(fields: TagFields<'a>, region: &'a [u8]) -> TagFields<'a>
     requires { IsTrue (is_region_field region.now) }
     ensures { field_texts result ≡ spec.other_region (field_texts fields.entry) region.now }
 {

@@ -5,7 +5,7 @@ use Rattle.langtag_scan.proofs.Laws.{drop-join, hyphenated, hyphenated-append, j
 use Rattle.langtag_range.specs.Wanted.{hyphened, hyphened_byte}
 use Rattle.langtag_range.specs.Definitions.{ends_locale}
 use Rattle.langtag_posix.specs.PlatformNames.{android_region, has_marked_region, is_short_language}
-use Rattle.langtag_posix.proofs.Definitions.{is_of_language, is_empty, is_script_code, after_variants, marked, is_plus, without_gap, marked_region, platform_behind, platform_read, read_place, region_now, last_fields}
+use Rattle.langtag_posix.proofs.Definitions.{is_of_language, is_empty, is_script_code, after_variants, marked, is_plus, without_gap, region_after_mark, platform_behind, platform_read, read_place, region_now, last_fields}
 use Rattle.langtag_text.proofs.Alike.{alike_is, alike_length}
 use Rattle.langtag_text.specs.Alias.{alias_for}
 use Rattle.langtag_posix.proofs.LastFields.{other_field}
@@ -126,9 +126,9 @@ marked_by text language behind region short found language_is behind_is region_i
 record IsOrdinary (behind : List ℕ) : Type 0 where
   simplified : are_alike (codes "CHS") behind ≡ false
   traditional : are_alike (codes "CHT") behind ≡ false
-  unmarked : marked_region behind ≡ None
+  unmarked : region_after_mark behind ≡ None
   field : (after_first is_hyphen behind ≡ []) ⊎ (after_first is_hyphen behind ≡ codes "POSIX")
-  first_unmarked : marked_region (before_first is_hyphen behind) ≡ None
+  first_unmarked : region_after_mark (before_first is_hyphen behind) ≡ None
   in_order : is_script_code (after_first is_hyphen behind) ≡ false
   gapless : without_gap behind ≡ None
 

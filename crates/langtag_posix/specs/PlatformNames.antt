@@ -29,14 +29,14 @@ abbrev pub hyphened_at : ℕ → List ℕ → List ℕ
 hyphened_at mark text = map (λ b. if b == mark then 45 else b) text
 
 -- the region after `r`, in either case: TW of rTW
-abbrev pub marked_region : List ℕ → Option (List ℕ)
-marked_region [] = None
-marked_region (b ∷ region) = if (b == 114 || b == 82) && is_region region then Some region else None
+abbrev pub region_after_mark : List ℕ → Option (List ℕ)
+region_after_mark [] = None
+region_after_mark (b ∷ region) = if (b == 114 || b == 82) && is_region region then Some region else None
 
 -- the region after a language and `r`. After `sgn` there is none, since its extended languages are sign languages, and the
 -- codes of some begin with `r`: sgn-rsl
 abbrev pub android_region : List ℕ → List ℕ → Option (List ℕ)
-android_region language behind = if are_alike (codes "sgn") language then None else marked_region behind
+android_region language behind = if are_alike (codes "sgn") language then None else region_after_mark behind
 
 -- ---- .NET: zh-CHS, zh-CHT, az-AZ-Latn and sr-SP-Latn
 

@@ -28,6 +28,7 @@ mod grandfathered;
 mod metered;
 mod recogniser;
 mod segment;
+mod slice_reader;
 mod source;
 mod state;
 mod states;
@@ -51,3 +52,6 @@ pub use segment::{segment_end, segment_start};
 pub use source::ByteSource;
 pub use subtags::Subtags;
 pub use viable::{viable_len, viable_len_with_hyphen};
+
+// For this repository.
+pub use slice_reader::read_bytes;

@@ -14,6 +14,8 @@ mod forms;
 #[cfg(test)]
 mod keywords;
 #[cfg(test)]
+mod resolved;
+#[cfg(test)]
 mod scan;
 #[cfg(test)]
 mod support;

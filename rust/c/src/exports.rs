@@ -213,6 +213,11 @@ pub unsafe extern "C" fn langtag_locale_form(bytes: *const u8, len: usize, buffe
 }
 
 #[no_mangle]
+pub unsafe extern "C" fn langtag_resolved_locale(range: *const u8, range_len: usize, tag: *const u8, tag_len: usize, buffer: *mut u8, buffer_len: usize) -> usize {
+    calls::locale_form::langtag_resolved_locale(lent(range, range_len), lent(tag, tag_len), taken(buffer, buffer_len))
+}
+
+#[no_mangle]
 pub unsafe extern "C" fn langtag_repeats(bytes: *const u8, len: usize, repeated: *mut Repeated) -> u32 {
     let mut new_repeated: Repeated = zeroed();
     let answer = calls::repeats::langtag_repeats(lent(bytes, len), &mut new_repeated);

@@ -90,3 +90,37 @@ fn constant_parts() {
         same!(PrimaryLanguage, Script, Region: text);
     }
 }
+
+/// rustc knows the kind of a constant tag, its bytes and where its parts end.
+#[test]
+fn constant_tags() {
+    const TAGS: [LangTag; 3] = [
+        langtag!("sl-Latn-IT-rozaj-x-a"),
+        langtag!("X-A"),
+        langtag!("i-LUX"),
+    ];
+    const TYPED: [TypedLangTag; 3] = [TAGS[0].as_typed(), TAGS[1].as_typed(), TAGS[2].as_typed()];
+    const KINDS: [Kind; 3] = [TYPED[0].kind(), TYPED[1].kind(), TYPED[2].kind()];
+    const ENDS: Option<Ends> = match TYPED[0].as_normal() {
+        Some(tag) => Some(tag.ends()),
+        None => None,
+    };
+    const PRIVATE: &[u8] = match TYPED[1].as_private_use() {
+        Some(tag) => tag.as_bytes(),
+        None => &[],
+    };
+    const LUXEMBOURGISH: Option<GrandfatheredLangTag> = TYPED[2].as_grandfathered();
+    const { assert!(TAGS[0].is_normal() && TAGS[1].is_private_use() && !TAGS[2].is_normal()) };
+    assert_eq!(KINDS, tags(["sl", "x-a", "i-lux"]).map(|tag| tag.kind()));
+    assert_eq!(
+        ENDS,
+        tags(["sl-Latn-IT-rozaj-x-a"])[0]
+            .as_normal()
+            .map(|tag| tag.ends())
+    );
+    assert_eq!(PRIVATE, b"X-A");
+    assert_eq!(
+        LUXEMBOURGISH.map(GrandfatheredLangTag::as_str),
+        Some("i-lux")
+    );
+}

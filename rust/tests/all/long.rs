@@ -1,7 +1,7 @@
 //! Long texts and long lists, of which owned forms are made.
 #![cfg(all(feature = "alloc", feature = "data"))]
 use langtag::matching::AcceptLanguage;
-use langtag::{LangTag, LangTagBuf};
+use langtag::LangTag;
 
 #[test]
 fn ranges_of_one_weight_keep_their_order() {
@@ -18,16 +18,18 @@ fn ranges_of_one_weight_keep_their_order() {
 }
 
 #[test]
-fn forms_of_long_tags() {
-    let tail = "abcdefgh-".repeat(1000) + "a";
-    let text = format!("iw-u-kn-true-x-{tail}");
-    let tag = LangTag::new(&text).unwrap();
-    assert_eq!(tag.canonical(), format!("he-u-kn-true-x-{tail}"));
-    assert_eq!(tag.extensions_form(), format!("iw-u-kn-x-{tail}"));
-    assert_eq!(tag.locale_form().unwrap(), format!("he-u-kn-x-{tail}"));
-    let mut owned: LangTagBuf = text.parse().unwrap();
-    owned.set_keyword("ca", "buddhist").unwrap();
-    assert_eq!(owned, format!("iw-u-ca-buddhist-kn-true-x-{tail}"));
+#[cfg(feature = "names")]
+fn a_tag_beyond_the_limit_is_named_by_its_canonical_form() {
+    use langtag::names::{autonym, describe};
+    use langtag::LangTagBuf;
+    let long = format!("ger-x{}", "-abcdefgh".repeat(30_000));
+    let cut = |count: usize| LangTagBuf::new(format!("{}a", &long[..count - 1])).unwrap();
+    let (named, longer) = (cut(262_144), cut(262_145));
+    assert_eq!(
+        (describe(&named), autonym(&named)),
+        ("German".into(), Some("Deutsch"))
+    );
+    assert_eq!((describe(&longer), autonym(&longer)), ("ger".into(), None));
 }
 
 /// Returns an extension with each key once, and then with each key again, in the other order and with another value; and its form.

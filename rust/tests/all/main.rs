@@ -12,7 +12,6 @@ mod owned;
 mod oxilangtag;
 mod parts;
 mod program;
-mod random;
 mod repeats;
 mod scan;
 mod serde;

@@ -7,7 +7,7 @@ use langtag::matching::{wanted_ranges, AcceptLanguage, LanguageRange};
 use langtag::*;
 
 use crate::matching::{ranges_of, tags_of};
-use crate::reader::{check_buffer, length, list, word};
+use crate::reader::{check_buffer, check_written, length, list, word};
 
 pub fn maximal(tag: LangTag<'_>) -> String {
     check_buffer(tag.maximized(), |buffer| {
@@ -104,6 +104,23 @@ pub fn best_match(header: &[u8], tags: &str) -> String {
         assert!(wanted_ranges(header).nth(found.place).unwrap().bytes == found.range);
         format!("{} {} {range}", found.index, found.distance)
     }))
+}
+
+/// Returns the locale to format with, which must be the same for each kind of tag, and the result for itself.
+pub fn resolved(range: &[u8], tag: LangTag<'_>) -> String {
+    let locale = resolved_locale(range, tag).unwrap();
+    assert_eq!(
+        resolved_locale(range, tag.as_str()).unwrap().as_str(),
+        locale.as_str()
+    );
+    assert_eq!(
+        resolved_locale(range, &locale).unwrap().as_str(),
+        locale.as_str()
+    );
+    check_written(&locale, |buffer| {
+        length(write_resolved_locale(range, tag, buffer).map(Option::unwrap))
+    });
+    locale.into_string()
 }
 
 pub fn best_accepted(header: &str, tags: &str) -> String {

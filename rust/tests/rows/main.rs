@@ -18,7 +18,7 @@ use langtag::likely::{unknown_modifier, CLDR_VERSION};
 use langtag::names::{autonym, describe};
 use langtag::registry::misplaced_extlang;
 use langtag::unicode::is_locale;
-use literals::Object;
+use literals::Literal;
 #[cfg(feature = "names")]
 use reader::escaped_text;
 use reader::{ask, escaped, list, word, yes, Row};
@@ -54,7 +54,7 @@ fn answer(row: &Row) -> String {
         "range" => matching::range(row.text(0)),
         "match" => matching::matches(row.text(0), row.tag(1)),
         "same-term" => {
-            let [one, other] = [0, 1].map(|index| Object::read(row.str(index)).unwrap().0);
+            let [one, other] = [0, 1].map(|index| Literal::read(row.str(index)).unwrap());
             yes(one == other)
         }
         "header" => matching::header(row.str(0), row.str(1)),
@@ -93,6 +93,10 @@ fn answer(row: &Row) -> String {
         "base" => row.of_tag(tags::base),
         "is-locale" => row.tag(0).map_or("no".into(), |tag| yes(is_locale(tag))),
         "locale-form" => row.of_tag(unicode::whole_form),
+        "resolved-locale" => word(
+            row.tag(1)
+                .map(|tag| likely::resolved(&row.arguments[0], tag)),
+        ),
         "cldr-version" => CLDR_VERSION.into(),
         call => panic!("no call: {call}"),
     }

@@ -1,9 +1,10 @@
 // Generated from crates/langtag_c/src/locale_form.rt. Do not edit.
 
-//! Unicode locale identifiers, and their canonical form in the caller's buffer (UTS #35, part 1).
+//! Unicode locale identifiers, their canonical form, and the locale to format with, in the caller's
+//! buffer (UTS #35, part 1).
 
 use crate::calls::tag::tag_of;
-use crate::erased::locale::{is_locale, write_locale_form};
+use crate::erased::locale::{is_locale, write_locale_form, write_resolved_locale};
 
 /// Returns whether a string is a Unicode locale identifier (UTS #35, part 1, section "Unicode
 /// Locale Identifier"), as Intl of JavaScript requires: true for de-1996-u-co-phonebk, false for
@@ -52,6 +53,40 @@ pub fn langtag_is_locale(bytes: &[u8]) -> bool {
 pub fn langtag_locale_form(bytes: &[u8], buffer: &mut [u8]) -> usize {
     match tag_of(bytes) {
         Some(tag) => write_locale_form(tag, buffer).unwrap_or(0),
+        None => 0,
+    }
+}
+
+/// Writes the locale to format dates and numbers with, next to text in a tag that was chosen for a
+/// range, to `buffer`, and returns its length: en-GB-u-hc-h12 for the range en-GB-u-hc-h12 and the
+/// tag en.
+///
+/// ```c
+/// char buffer[64];
+/// size_t len = langtag_resolved_locale("zh-HK", 5, "zh-CN", 5, buffer, sizeof buffer);
+/// if (len > 0 && len <= sizeof buffer) printf("%.*s\n", (int)len, buffer); // zh-Hans-HK
+/// ```
+///
+/// The region comes from the range, and so do all keywords of u, in the form of
+/// `langtag_locale_form`. All other bytes are those of the tag, with these exceptions:
+///
+/// 1. If the script of the tag would not be likely with the new region, it is written: zh-Hans-HK,
+/// not zh-HK. 2. If the range has a region or the keyword rg, the keywords rg and sd of the tag are
+/// removed.
+///
+/// If the range has no region, or ZZ, or if the language of the tag is und, the region of the tag
+/// stays. Each keyword of the range stands before the first greater key. A range such as de_AT is
+/// read as the name of a POSIX locale, and es-rUS as Android writes it. The tag is written
+/// unchanged if it is for private use or grandfathered, or if the range has no form, such as *.
+///
+/// If the buffer is too short, its bytes are unspecified, and the result is the size that is
+/// needed. Time grows with the product of the lengths of both extensions u.
+///
+/// Returns 0 and writes nothing if the second string is not a tag.
+#[inline]
+pub fn langtag_resolved_locale(range: &[u8], tag: &[u8], buffer: &mut [u8]) -> usize {
+    match tag_of(tag) {
+        Some(tag) => write_resolved_locale(range, tag, buffer),
         None => 0,
     }
 }

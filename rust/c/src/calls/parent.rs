@@ -29,11 +29,12 @@ pub fn langtag_parent(bytes: &[u8], buffer: &mut [u8]) -> usize {
 ///     printf("%.*s ", (int)len, tag); // pt-Latn-AO pt-AO pt-PT pt-Latn pt
 /// ```
 ///
-/// All tags of a chain are written in the same script if CLDR lists the language, so zh-Hant has no
-/// parent: zh is Simplified. A script that is likely anyway goes first, and comes back before the
-/// language alone: zh-Hans-CN, zh-CN, zh-Hans, zh. Extensions and private use are removed next,
-/// then each variant, the last one first, and then the region. The variants come back with each
-/// parent: ca-ES-valencia, ca-ES, ca-valencia, ca. Case is ignored.
+/// All tags of a chain are written in the same script if CLDR lists the language and does not
+/// replace the region, as it does UK. So zh-Hant has no parent: zh is Simplified. A script that is
+/// likely anyway goes first, and comes back before the language alone: zh-Hans-CN, zh-CN, zh-Hans,
+/// zh. Extensions and private use are removed next, then each variant, the last one first, and then
+/// the region. The variants come back with each parent: ca-ES-valencia, ca-ES, ca-valencia, ca.
+/// Case is ignored.
 ///
 /// If the folders of a catalogue name scripts, such as zh-Hans, call this function with the result
 /// of `langtag_maximized`, which names the script of zh-CN. CLDR does not list replaced codes such

@@ -5,12 +5,13 @@
 use crate::calls::span::Span;
 use crate::calls::spanned_ranges::SpannedRanges;
 use crate::calls::spanned_tags::SpannedTags;
-use crate::erased::choice::write_suitable;
+use crate::erased::choice::{suitable_count, write_suitable, RangeList};
 
 /// Writes the indices of the suitable tags for an Accept-Language header to `found` (out), best
-/// first, and returns how many it wrote, at most `found_len`. The first is the tag that
-/// `langtag_best_for_header` chooses, the next is the tag that it chooses among the others, and so
-/// on, as long as one is suitable. `tags_len` entries are always enough.
+/// first, and returns their number. The first is the tag that `langtag_best_for_header` chooses,
+/// the next is the tag that it chooses among the others, and so on, as long as one is suitable. If
+/// the number is greater than `found_len`, only the best are written. `tags_len` entries are always
+/// enough.
 ///
 /// ```c
 /// const char *header = "de-CH,fr;q=0.7", *have = "en fr de de-AT";
@@ -20,7 +21,8 @@ use crate::erased::choice::write_suitable;
 /// ```
 ///
 /// The rest of the array stays unchanged. For every 64 indices, each range of the header is
-/// compared with each tag, and each tag with each earlier index, so `found_len` limits the time.
+/// compared with each tag, and each tag with each earlier index, so `found_len` limits the time. A
+/// full array costs one more comparison of each range with each tag, for the number.
 #[inline]
 pub fn langtag_suitable_for_header(
     header: &[u8],
@@ -32,7 +34,7 @@ pub fn langtag_suitable_for_header(
         text: bytes,
         spans: tags,
     };
-    write_suitable(header, &spanned, found)
+    write_and_count(header, &spanned, found)
 }
 
 /// Writes the indices of the suitable tags for a list of language ranges, as
@@ -54,5 +56,19 @@ pub fn langtag_suitable_for_ranges(
         text: bytes,
         spans: tags,
     };
-    write_suitable(wanted, &spanned, found)
+    write_and_count(wanted, &spanned, found)
+}
+
+/// Writes the indices of the suitable tags to an array, best first, and returns their number. If
+/// the array is full and shorter than the list of the tags, they are counted.
+fn write_and_count<'a, R: RangeList<'a>>(
+    ranges: R,
+    tags: &SpannedTags<'_>,
+    found: &mut [usize],
+) -> usize {
+    let written = write_suitable(ranges, tags, found);
+    if written < found.len() || written == tags.spans.len() {
+        return written;
+    }
+    suitable_count(ranges, tags)
 }

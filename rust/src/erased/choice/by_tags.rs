@@ -13,7 +13,7 @@ use crate::erased::choice::wish::Wish;
 use crate::erased::range::WantedRange;
 
 /// The number of tags for which each range is read once.
-const BLOCK: usize = 64;
+pub(crate) const BLOCK: usize = 64;
 
 /// Returns the best candidate among the tags that are not refused.
 #[inline]
@@ -45,7 +45,7 @@ pub(crate) fn best_by_tags<'a, 't, R: RangeList<'a>, T: TagList>(
 }
 
 /// Returns whether a range has the weight 0, or `None` if there is no range.
-fn has_zero<'a, R: RangeList<'a>>(ranges: R) -> Option<bool> {
+pub(crate) fn has_zero<'a, R: RangeList<'a>>(ranges: R) -> Option<bool> {
     let mut found = None;
     let mut left = ranges;
     while let Some((wanted, rest)) = left.split_range() {
@@ -60,7 +60,7 @@ fn has_zero<'a, R: RangeList<'a>>(ranges: R) -> Option<bool> {
 
 /// Returns which entries from an index on are tags that are neither refused nor chosen, up to
 /// [`BLOCK`] entries.
-fn free_from<'a, R: RangeList<'a>, T: TagList>(
+pub(crate) fn free_from<'a, R: RangeList<'a>, T: TagList>(
     ranges: R,
     tags: &T,
     chosen: &[usize],

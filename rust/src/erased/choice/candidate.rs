@@ -5,6 +5,8 @@
 use crate::erased::choice::as_read::lost_as_read;
 use crate::erased::choice::likely_region::unlikely;
 use crate::erased::choice::nearness::kept;
+use crate::erased::choice::region_group::region_width;
+use crate::erased::choice::transformed::is_transformed;
 use crate::erased::choice::variants::{has_variants, lacking_variants};
 use crate::erased::cldr::{basic_len, TagFields};
 use core::cmp::Ordering;
@@ -96,15 +98,26 @@ impl Candidate<'_, '_> {
     }
 
     /// Returns whether this candidate is better than another of the same rank. It compares how many
-    /// of the variants of the range the tags lack, then how much lookup removes from the range,
-    /// then how likely the region is, and then the index. Lookup first reads the languages as CLDR
-    /// replaces them, and then as they are written.
+    /// of the variants of the range the tags lack, then whether they are translations for which the
+    /// range does not ask, and then how much lookup removes from the range.
     #[inline(never)]
     fn breaks_tie(&self, other: &Candidate<'_, '_>) -> bool {
         let (lacking, others_lacking) = (self.lacking(), other.lacking());
         if lacking != others_lacking {
             return lacking < others_lacking;
         }
+        let (transformed, others_transformed) = (self.is_unasked(), other.is_unasked());
+        if transformed != others_transformed {
+            return others_transformed;
+        }
+        self.breaks_tie_by_lookup(other)
+    }
+
+    /// Returns whether this candidate is better than another, if they differ only in what is
+    /// compared last: how much lookup removes from the range, then how wide the group of regions
+    /// is, then how likely the region is, and then the index. Lookup first reads the languages as
+    /// CLDR replaces them, and then as they are written.
+    fn breaks_tie_by_lookup(&self, other: &Candidate<'_, '_>) -> bool {
         let (lost, others_lost) = (self.lost(), other.lost());
         let read = lost_as_read(self.range, self.tag, lost);
         let others_read = lost_as_read(other.range, other.tag, others_lost);
@@ -114,11 +127,34 @@ impl Candidate<'_, '_> {
         if lost != others_lost {
             return lost < others_lost;
         }
+        self.breaks_tie_by_region(other)
+    }
+
+    /// Returns whether this candidate is better than another, if lookup removes as much from the
+    /// range for each.
+    fn breaks_tie_by_region(&self, other: &Candidate<'_, '_>) -> bool {
+        let (width, others_width) = (self.width(), other.width());
+        if width != others_width {
+            return width < others_width;
+        }
         let (unlikely, others) = (self.unlikely(), other.unlikely());
         if unlikely != others {
             return unlikely < others;
         }
         self.index < other.index
+    }
+
+    /// Returns whether the tag is a translation for which the range does not ask.
+    #[inline]
+    fn is_unasked(&self) -> bool {
+        is_transformed(self.tag) && !is_transformed(self.range)
+    }
+
+    /// Returns how many regions the tag's group of regions has, if the region of the range is in
+    /// it.
+    #[inline]
+    fn width(&self) -> usize {
+        region_width(self.range, self.form)
     }
 
     /// Returns how many of the variants of the range the tag lacks.

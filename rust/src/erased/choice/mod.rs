@@ -38,12 +38,15 @@ mod range_list;
 mod read_range;
 mod refused;
 mod region_distance;
+mod region_group;
 mod rule_distance;
+mod serving;
 mod shortlist;
 mod site;
 mod suitable;
 mod tag_distance;
 mod tag_list;
+mod transformed;
 mod variants;
 mod wish;
 
@@ -56,6 +59,7 @@ pub use owned_site::OwnedSite;
 pub use prepared_form::PreparedForm;
 pub use prepared_tag::PreparedTag;
 pub use range_list::RangeList;
+pub use serving::suitable_count;
 pub use site::Site;
 pub use suitable::write_suitable;
 #[cfg(feature = "alloc")]

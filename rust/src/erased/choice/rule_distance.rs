@@ -27,7 +27,7 @@ pub(crate) fn script_distance(desired: TagFields<'_>, supported: TagFields<'_>) 
     if desired.language.len().max(supported.language.len()) > 3 {
         return 50;
     }
-    script_rule_keys()
+    tables::SCRIPT_RULE_KEYS
         .binary_search(&script_pair(desired, supported))
         .map_or(50, script_rule_distance)
 }
@@ -48,11 +48,6 @@ fn script_pair(desired: TagFields<'_>, supported: TagFields<'_>) -> u64 {
 #[inline]
 pub(crate) fn language_rule_keys() -> &'static [u32] {
     &tables::LANGUAGE_RULE_KEYS
-}
-
-#[inline]
-fn script_rule_keys() -> &'static [u64] {
-    &tables::SCRIPT_RULE_KEYS
 }
 
 /// Returns the distance of the rule at an index. The distance is never 0.

@@ -2,7 +2,7 @@
 
 //! A range that a tag can serve.
 
-use crate::erased::choice::first_letters::{first_two, is_short, language_of};
+use crate::erased::choice::first_letters::{first_two, language_of};
 use crate::erased::choice::range_language::RangeLanguage;
 use crate::erased::choice::read_range::is_star;
 use crate::erased::choice::variants::variant_count;
@@ -41,9 +41,9 @@ impl<'a> Wish<'a> {
     }
 
     /// Returns whether the first letters of a tag show that it cannot serve the range: the tag has
-    /// a two-letter language with which the range does not begin, and which is not near the
-    /// language of the range. If the range has no matching form, it is enough that the range does
-    /// not begin with these letters.
+    /// a language of two or three letters with which the range does not begin, and which is not
+    /// near the language of the range. If the range has no matching form, it is enough that the
+    /// range does not begin with these letters.
     pub(crate) fn is_far_from(&self, tag: &[u8]) -> bool {
         let Some(letters) = first_two(tag) else {
             return false;
@@ -51,12 +51,8 @@ impl<'a> Wish<'a> {
         if self.form.is_none() {
             return self.is_far_without_form(letters);
         }
-        match language_of(letters) {
-            Some(number) if is_short(tag) => {
-                self.is_far_from_language(&self.language, letters, number)
-            }
-            _ => false,
-        }
+        language_of(tag)
+            .is_some_and(|number| self.is_far_from_language(&self.language, letters, number))
     }
 
     /// Returns whether the range, which has no matching form, does not begin with these letters.

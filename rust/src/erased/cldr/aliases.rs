@@ -45,7 +45,7 @@ pub(crate) fn language_alias(fields: TagFields<'_>) -> Option<TagFields<'static>
         return None;
     }
     let number = language_number(fields.language) as u16;
-    let index = alias_keys().binary_search(&number).ok()?;
+    let index = tables::ALIAS_KEYS.binary_search(&number).ok()?;
     Some(TagFields {
         language: name_at(&tables::ALIAS_LANGUAGES, index),
         script: name_in(&tables::ALIAS_SCRIPT_NAMES, &tables::ALIAS_SCRIPTS, index),
@@ -61,22 +61,12 @@ pub(crate) fn is_current_region(fields: TagFields<'_>) -> bool {
 
 /// Returns the replacement of the region, if there is one.
 fn region_alias(fields: TagFields<'_>) -> Option<TagFields<'static>> {
-    let index = index_of(region_alias_keys(), fields.region)?;
+    let index = index_of(&tables::REGION_ALIAS_KEYS, fields.region)?;
     Some(TagFields {
         language: b"",
         script: b"",
         region: name_at(&tables::REGION_ALIAS_NAMES, index),
     })
-}
-
-#[inline]
-fn alias_keys() -> &'static [u16] {
-    &tables::ALIAS_KEYS
-}
-
-#[inline]
-fn region_alias_keys() -> &'static [u32] {
-    &tables::REGION_ALIAS_KEYS
 }
 
 impl<'a> TagFields<'a> {

@@ -9,10 +9,5 @@ use crate::erased::cldr::tables;
 #[inline]
 #[must_use]
 pub fn is_right_to_left_script(script: &[u8]) -> bool {
-    index_of(right_to_left_keys(), script).is_some()
-}
-
-#[inline]
-fn right_to_left_keys() -> &'static [u32] {
-    &tables::RIGHT_TO_LEFT_KEYS
+    index_of(&tables::RIGHT_TO_LEFT_KEYS, script).is_some()
 }

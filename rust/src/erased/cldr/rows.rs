@@ -54,15 +54,15 @@ fn language_index(number: usize) -> Option<usize> {
 /// Returns the right side of a row whose left side is not only a language.
 #[inline]
 fn other_row(key: TagFields<'_>) -> Option<TagFields<'static>> {
-    let index = other_keys().binary_search(&key_number(key)).ok()?;
+    let index = tables::OTHER_KEYS.binary_search(&key_number(key)).ok()?;
     Some(other_fields(index))
 }
 
 /// Returns the number that stands for three fields, which is never 0.
 #[must_use]
 pub fn key_number(key: TagFields<'_>) -> u32 {
-    let script = place(script_keys(), key.script) * REGIONS;
-    let region = place(region_keys(), key.region) + 1;
+    let script = place(&tables::SCRIPT_KEYS, key.script) * REGIONS;
+    let region = place(&tables::REGION_KEYS, key.region) + 1;
     language_number(key.language) * (SCRIPTS * REGIONS) + (script + region)
 }
 
@@ -75,21 +75,6 @@ pub fn language_number(language: &[u8]) -> u32 {
         return 0;
     }
     letter_number(language) as u32
-}
-
-#[inline]
-fn script_keys() -> &'static [u32] {
-    &tables::SCRIPT_KEYS
-}
-
-#[inline]
-fn region_keys() -> &'static [u32] {
-    &tables::REGION_KEYS
-}
-
-#[inline]
-fn other_keys() -> &'static [u32] {
-    &tables::OTHER_KEYS
 }
 
 /// Returns the script and the region of the language at an index.

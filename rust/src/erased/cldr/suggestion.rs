@@ -71,7 +71,7 @@ pub fn suggested_region(code: &str) -> Option<&'static str> {
 #[inline]
 #[must_use]
 pub fn region_replacement(fields: TagFields<'_>) -> Option<&'static [u8]> {
-    let index = index_of(replacement_keys(), fields.region)?;
+    let index = index_of(&tables::REPLACEMENT_KEYS, fields.region)?;
     Some(name_at(&tables::REPLACEMENT_NAMES, index))
 }
 
@@ -82,9 +82,4 @@ fn text_of(name: &'static [u8]) -> &'static str {
         unreachable!()
     };
     text
-}
-
-#[inline]
-fn replacement_keys() -> &'static [u32] {
-    &tables::REPLACEMENT_KEYS
 }

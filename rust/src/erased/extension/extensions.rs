@@ -112,7 +112,7 @@ impl<'a> Extensions<'a> {
     /// ```
     #[inline]
     #[must_use]
-    pub fn as_str(self) -> &'a str {
+    pub const fn as_str(self) -> &'a str {
         self.text.0
     }
 
@@ -128,7 +128,7 @@ impl<'a> Extensions<'a> {
     /// ```
     #[inline]
     #[must_use]
-    pub fn as_bytes(self) -> &'a [u8] {
+    pub const fn as_bytes(self) -> &'a [u8] {
         self.as_str().as_bytes()
     }
 

@@ -45,17 +45,17 @@ fn without_true(value: &str) -> &str {
 
 #[inline]
 fn subdivision(value: &str) -> &str {
-    alias_for(subdivision_aliases(), value.as_bytes()).unwrap_or(value)
+    alias_for(&tables::SUBDIVISION_ALIASES, value.as_bytes()).unwrap_or(value)
 }
 
 #[inline]
 fn unicode_type<'a>(key: &[u8], value: &'a str) -> &'a str {
-    key_alias_for(unicode_type_aliases(), key, value.as_bytes()).unwrap_or(value)
+    key_alias_for(&tables::UNICODE_TYPE_ALIASES, key, value.as_bytes()).unwrap_or(value)
 }
 
 #[inline]
 fn transform_value<'a>(key: &[u8], value: &'a str) -> &'a str {
-    key_alias_for(transform_type_aliases(), key, value.as_bytes()).unwrap_or(value)
+    key_alias_for(&tables::TRANSFORM_TYPE_ALIASES, key, value.as_bytes()).unwrap_or(value)
 }
 
 /// Returns the replacement of a type of a key, if there is one.
@@ -71,19 +71,4 @@ fn key_alias_for(rows: &'static [KeyAliases], key: &[u8], text: &[u8]) -> Option
         rows = others;
     }
     None
-}
-
-#[inline]
-fn unicode_type_aliases() -> &'static [KeyAliases] {
-    &tables::UNICODE_TYPE_ALIASES
-}
-
-#[inline]
-fn transform_type_aliases() -> &'static [KeyAliases] {
-    &tables::TRANSFORM_TYPE_ALIASES
-}
-
-#[inline]
-fn subdivision_aliases() -> &'static [(&'static str, &'static str)] {
-    &tables::SUBDIVISION_ALIASES
 }

@@ -50,7 +50,8 @@ fn offer_each<const ROOM: usize>(least: &mut LeastNumbers<ROOM>, rest: Option<&s
 
 /// Returns whether a string comes before another in alphabetical order, ignoring case: `foo` comes
 /// before `foobar`.
-pub(crate) fn is_before(a: &[u8], b: &[u8]) -> bool {
+#[must_use]
+pub fn is_before(a: &[u8], b: &[u8]) -> bool {
     let mut a = a;
     let mut b = b;
     while let ([x, others_a @ ..], [y, others_b @ ..]) = (a, b) {

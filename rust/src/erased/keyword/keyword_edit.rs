@@ -20,7 +20,7 @@ pub struct KeywordEdit<'a> {
 
 /// Where the edited `u` goes among the extensions of a tag.
 #[derive(Clone, Copy)]
-pub(crate) enum Place {
+pub enum Place {
     /// In place of the first `u`.
     OfFirstUnicode,
     /// Before the first extension with a greater singleton or, if there is none, to the end: the
@@ -43,7 +43,8 @@ pub fn push_edited(out: &mut Output<'_>, extensions: Extensions<'_>, edit: Keywo
 }
 
 /// Returns where the edited `u` goes.
-fn place_of_unicode(extensions: Extensions<'_>) -> Place {
+#[must_use]
+pub fn place_of_unicode(extensions: Extensions<'_>) -> Place {
     match Singleton::new(b'u') {
         Ok(singleton) if extensions.get_singleton(singleton).is_some() => Place::OfFirstUnicode,
         _ => Place::BeforeGreater,
@@ -51,7 +52,8 @@ fn place_of_unicode(extensions: Extensions<'_>) -> Place {
 }
 
 /// Returns whether the place is at this extension.
-fn is_at(place: Place, extension: Extension<'_>) -> bool {
+#[must_use]
+pub fn is_at(place: Place, extension: Extension<'_>) -> bool {
     let singleton = into_smallcase(extension.singleton().unwrap());
     match place {
         Place::OfFirstUnicode => singleton == b'u',
@@ -75,7 +77,7 @@ fn push_at(out: &mut Output<'_>, place: Place, extension: Extension<'_>, edit: K
 
 /// Appends the remaining extensions of an iterator.
 #[inline]
-fn push_rest(out: &mut Output<'_>, rest: ExtensionsIter<'_>) {
+pub fn push_rest(out: &mut Output<'_>, rest: ExtensionsIter<'_>) {
     for extension in rest {
         out.push_subtag(extension.as_bytes());
     }

@@ -43,7 +43,7 @@ fn push_with_room<const ROOM: usize>(out: &mut Output<'_>, text: &str, keys: Key
 
 /// Offers the number of each key among the subtags of a string.
 #[inline]
-fn offer_keys<const ROOM: usize>(least: &mut LeastNumbers<ROOM>, text: &str, keys: Keys) {
+pub fn offer_keys<const ROOM: usize>(least: &mut LeastNumbers<ROOM>, text: &str, keys: Keys) {
     for subtag in Subtags::new(text) {
         if keys.has(subtag.as_bytes()) {
             least.offer(order_number(subtag.as_bytes()));
@@ -85,13 +85,14 @@ fn push_each_of_many(out: &mut Output<'_>, text: &str, keys: Keys, numbers: &[u6
 }
 
 /// Returns the key that has a number.
-fn key_of(number: u64) -> [u8; 2] {
+#[must_use]
+pub fn key_of(number: u64) -> [u8; 2] {
     let [first, second, ..] = number.to_be_bytes();
     [first, second]
 }
 
 /// Appends a key with its canonical value, if there is a value.
-fn push_keyword(out: &mut Output<'_>, keys: Keys, key: [u8; 2], value: Option<&str>) {
+pub fn push_keyword(out: &mut Output<'_>, keys: Keys, key: [u8; 2], value: Option<&str>) {
     if let Some(value) = value {
         out.push_subtag(&key);
         push_each_lowercase(out, canonical_value(keys, &key, value));

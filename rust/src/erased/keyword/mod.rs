@@ -27,12 +27,14 @@ pub use keys::Keys;
 pub use keyword_error::KeywordError;
 
 // For this repository.
-pub(crate) use alphabet::are_few;
+pub(crate) use alphabet::{are_few, is_before};
 pub(crate) use extension_form::{is_of, push_extensions, push_unicode, subtags_of};
 pub(crate) use key_set::KeySet;
 pub(crate) use keyword_check::{invalid_type, is_unicode_key};
-pub(crate) use keyword_edit::{push_edited, KeywordEdit};
-pub(crate) use keyword_form::push_keywords;
+pub(crate) use keyword_edit::{
+    is_at, place_of_unicode, push_edited, push_rest, KeywordEdit, Place,
+};
+pub(crate) use keyword_form::{key_of, offer_keys, push_keyword, push_keywords};
 pub(crate) use language_id::{is_among, is_unicode_language, take_region, take_script};
 pub(crate) use least_numbers::{order_number, push_numbers, LeastNumbers, FEW, MANY};
 pub(crate) use subtags::{

@@ -99,7 +99,7 @@ impl<'a> LanguageExtension<'a> {
     /// ```
     #[inline]
     #[must_use]
-    pub fn as_str(self) -> &'a str {
+    pub const fn as_str(self) -> &'a str {
         self.text.0
     }
 
@@ -115,7 +115,7 @@ impl<'a> LanguageExtension<'a> {
     /// ```
     #[inline]
     #[must_use]
-    pub fn as_bytes(self) -> &'a [u8] {
+    pub const fn as_bytes(self) -> &'a [u8] {
         self.as_str().as_bytes()
     }
 

@@ -20,7 +20,8 @@ pub fn fields_of(tag: NormalLangTag<'_>) -> TagFields<'_> {
 /// Returns whether the last extended language of a tag, if it has any, is registered for the
 /// language before it.
 #[inline(always)]
-pub(crate) fn is_read(tag: NormalLangTag<'_>) -> bool {
+#[must_use]
+pub fn is_read(tag: NormalLangTag<'_>) -> bool {
     // There is no room for an extended language.
     if tag.ends().language <= 3 {
         return true;

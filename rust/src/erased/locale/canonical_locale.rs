@@ -144,7 +144,7 @@ fn put_parts(tag: NormalLangTag<'_>, buffer: &mut [u8]) -> usize {
 
 /// Returns the primary language, the script and the region of a tag.
 #[inline]
-fn fields_of(tag: NormalLangTag<'_>) -> TagFields<'_> {
+pub(crate) fn fields_of(tag: NormalLangTag<'_>) -> TagFields<'_> {
     TagFields {
         language: primary_field(tag.language()),
         script: script_field(tag.script()),

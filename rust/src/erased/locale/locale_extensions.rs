@@ -98,7 +98,7 @@ pub(crate) fn push_identifier(out: &mut Output<'_>, fields: TagFields<'_>, varia
 
 /// Appends a field, unless it is empty.
 #[inline]
-fn push_field(out: &mut Output<'_>, field: &[u8]) {
+pub(crate) fn push_field(out: &mut Output<'_>, field: &[u8]) {
     if !field.is_empty() {
         out.push_subtag(field);
     }

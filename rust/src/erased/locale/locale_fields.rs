@@ -61,7 +61,7 @@ fn sign_for(fields: TagFields<'_>) -> Option<&[u8]> {
     if !case_insensitive_eq(fields.language, b"sgn") {
         return None;
     }
-    Some(alias_for(sign_languages(), fields.region)?.as_bytes())
+    Some(alias_for(&tables::SIGN_LANGUAGES, fields.region)?.as_bytes())
 }
 
 /// Returns the fields with another language and without a region.
@@ -92,7 +92,7 @@ fn brought_region<'a>(fields: TagFields<'a>, variants: Option<&str>) -> &'a [u8]
 
 /// Returns the region for which one of the variants stands, or the empty string.
 fn variants_region(variants: Option<&str>) -> &'static [u8] {
-    let mut rows = variant_regions();
+    let mut rows = &tables::VARIANT_REGIONS[..];
     while let [(variant, region), others @ ..] = rows {
         if is_among(variants, variant.as_bytes()) {
             return region.as_bytes();
@@ -103,7 +103,7 @@ fn variants_region(variants: Option<&str>) -> &'static [u8] {
 }
 
 #[inline]
-fn other_region<'a>(fields: TagFields<'a>, region: &'a [u8]) -> TagFields<'a> {
+pub(crate) fn other_region<'a>(fields: TagFields<'a>, region: &'a [u8]) -> TagFields<'a> {
     TagFields {
         language: fields.language,
         script: fields.script,
@@ -122,7 +122,7 @@ fn new_region(fields: TagFields<'_>) -> &[u8] {
     if let Some(region) = region_replacement(fields) {
         return region;
     }
-    alias_for(region_heirs(), fields.region).map_or(fields.region, |regions| {
+    alias_for(&tables::REGION_HEIRS, fields.region).map_or(fields.region, |regions| {
         heir(likely_region(fields), regions)
     })
 }
@@ -171,25 +171,6 @@ fn with_new_script(fields: TagFields<'_>) -> TagFields<'_> {
 /// Returns the script that replaces the script of the fields, or their script.
 #[inline]
 fn new_script(fields: TagFields<'_>) -> &[u8] {
-    alias_for(script_aliases(), fields.script).map_or(fields.script, |script| script.as_bytes())
-}
-
-#[inline]
-fn sign_languages() -> &'static [(&'static str, &'static str)] {
-    &tables::SIGN_LANGUAGES
-}
-
-#[inline]
-fn variant_regions() -> &'static [(&'static str, &'static str)] {
-    &tables::VARIANT_REGIONS
-}
-
-#[inline]
-fn region_heirs() -> &'static [(&'static str, &'static str)] {
-    &tables::REGION_HEIRS
-}
-
-#[inline]
-fn script_aliases() -> &'static [(&'static str, &'static str)] {
-    &tables::SCRIPT_ALIASES
+    alias_for(&tables::SCRIPT_ALIASES, fields.script)
+        .map_or(fields.script, |script| script.as_bytes())
 }

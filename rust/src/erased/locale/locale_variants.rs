@@ -91,12 +91,12 @@ fn variant_form<'a>(language: &[u8], variants: Option<&str>, variant: &'a str) -
     if let Some(new) = replaced_pair(variant, variants) {
         return new;
     }
-    alias_for(variant_aliases(), variant.as_bytes()).unwrap_or(variant)
+    alias_for(&tables::VARIANT_ALIASES, variant.as_bytes()).unwrap_or(variant)
 }
 
 /// Returns the variant that replaces a variant together with another variant.
 fn replaced_pair(variant: &str, variants: Option<&str>) -> Option<&'static str> {
-    let mut rows = variant_pairs();
+    let mut rows = &tables::VARIANT_PAIRS[..];
     while let [(first, second, new), others @ ..] = rows {
         if case_insensitive_eq(first.as_bytes(), variant.as_bytes())
             && is_among(variants, second.as_bytes())
@@ -110,7 +110,7 @@ fn replaced_pair(variant: &str, variants: Option<&str>) -> Option<&'static str> 
 
 /// Returns whether a variant is left out of the form.
 fn is_dropped(variant: &str) -> bool {
-    let mut rows = dropped_variants();
+    let mut rows = &tables::DROPPED_VARIANTS[..];
     while let [dropped, others @ ..] = rows {
         if case_insensitive_eq(variant.as_bytes(), dropped.as_bytes()) {
             return true;
@@ -123,19 +123,4 @@ fn is_dropped(variant: &str) -> bool {
 #[inline]
 pub(crate) fn variant_languages() -> &'static [(&'static str, &'static str, &'static str)] {
     &tables::VARIANT_LANGUAGES
-}
-
-#[inline]
-fn variant_pairs() -> &'static [(&'static str, &'static str, &'static str)] {
-    &tables::VARIANT_PAIRS
-}
-
-#[inline]
-fn variant_aliases() -> &'static [(&'static str, &'static str)] {
-    &tables::VARIANT_ALIASES
-}
-
-#[inline]
-fn dropped_variants() -> &'static [&'static str] {
-    &tables::DROPPED_VARIANTS
 }

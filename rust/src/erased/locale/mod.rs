@@ -22,8 +22,17 @@ mod locale_fields;
 mod locale_for;
 mod locale_tables;
 mod locale_variants;
+mod range_locale;
+mod resolved;
+mod resolved_extensions;
+mod resolved_fields;
+mod resolved_keywords;
+mod wish;
 
 #[cfg(feature = "alloc")]
 pub use canonical_locale::locale_form;
 pub use canonical_locale::write_locale_form;
 pub use locale::is_locale;
+#[cfg(feature = "alloc")]
+pub use resolved::resolved_locale;
+pub use resolved::write_resolved_locale;

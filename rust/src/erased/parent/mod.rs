@@ -1,10 +1,10 @@
 // Generated from crates/langtag_parent/src/lib.rt. Do not edit.
 
 //! The parents of a tag, from Unicode's CLDR. If a catalogue has no string for `pt-AO`, look for
-//! the string of its parent `pt-PT`, and then for that of `pt`. If CLDR lists the language, a
-//! parent is written in the same script as the tag, so `zh-TW` leads to `zh-Hant` and never to
-//! `zh`. A script that the tag names is named again before the language alone: `zh-Hans-CN` leads
-//! to `zh-CN`, `zh-Hans` and `zh`.
+//! the string of its parent `pt-PT`, and then for that of `pt`. If CLDR lists the language and does
+//! not replace the region, as it does `UK`, a parent is written in the same script as the tag. So
+//! `zh-TW` leads to `zh-Hant` and never to `zh`. A script that the tag names is named again before
+//! the language alone: `zh-Hans-CN` leads to `zh-CN`, `zh-Hans` and `zh`.
 //!
 //! ```
 //! # fn main() -> Result<(), Box<dyn std::error::Error>> {

@@ -21,7 +21,9 @@ pub(crate) fn stated_parent(base: Base<'_>) -> Option<Option<Base<'static>>> {
 /// Returns the right side of the row with this left side.
 #[inline]
 fn row_for(fields: TagFields<'_>) -> Option<TagFields<'static>> {
-    let index = parent_keys().binary_search(&key_number(fields)).ok()?;
+    let index = tables::PARENT_KEYS
+        .binary_search(&key_number(fields))
+        .ok()?;
     Some(parent_at(index))
 }
 
@@ -33,18 +35,13 @@ fn key_number(fields: TagFields<'_>) -> u128 {
     language * 72057594037927936 + (script * 16777216 + region)
 }
 
-#[inline]
-fn parent_keys() -> &'static [u128] {
-    &tables::PARENT_KEYS
-}
-
 /// Returns the right side of the row at an index.
 fn parent_at(index: usize) -> TagFields<'static> {
     let parent = usize::from(tables::PARENT_INDICES[index]);
     TagFields {
-        language: named(parent_languages(), parent),
-        script: named(parent_scripts(), parent),
-        region: named(parent_regions(), parent),
+        language: named(&tables::PARENT_LANGUAGES, parent),
+        script: named(&tables::PARENT_SCRIPTS, parent),
+        region: named(&tables::PARENT_REGIONS, parent),
     }
 }
 
@@ -52,19 +49,4 @@ fn parent_at(index: usize) -> TagFields<'static> {
 #[inline]
 fn named(names: &'static [&'static [u8]], index: usize) -> &'static [u8] {
     names[index]
-}
-
-#[inline]
-fn parent_languages() -> &'static [&'static [u8]] {
-    &tables::PARENT_LANGUAGES
-}
-
-#[inline]
-fn parent_scripts() -> &'static [&'static [u8]] {
-    &tables::PARENT_SCRIPTS
-}
-
-#[inline]
-fn parent_regions() -> &'static [&'static [u8]] {
-    &tables::PARENT_REGIONS
 }

@@ -98,20 +98,10 @@ fn key_and_type(keyword: &[u8]) -> (&[u8], &[u8]) {
 
 #[inline]
 fn key_named(name: &[u8]) -> &[u8] {
-    alias_for(key_names(), name).map_or(name, |key| key.as_bytes())
+    alias_for(&KEY_NAMES, name).map_or(name, |key| key.as_bytes())
 }
 
 #[inline]
 fn type_named<'a>(key: &[u8], name: &'a [u8]) -> &'a [u8] {
-    type_alias_for(type_names(), key, name).map_or(name, |value| value.as_bytes())
-}
-
-#[inline]
-fn key_names() -> &'static [(&'static str, &'static str)] {
-    &KEY_NAMES
-}
-
-#[inline]
-fn type_names() -> &'static [(&'static str, &'static str, &'static str)] {
-    &TYPE_NAMES
+    type_alias_for(&TYPE_NAMES, key, name).map_or(name, |value| value.as_bytes())
 }

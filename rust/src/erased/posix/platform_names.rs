@@ -163,12 +163,7 @@ fn last_field(text: &[u8]) -> Option<&'static [u8]> {
     if text.len() < SHORTEST_LAST {
         return None;
     }
-    alias_for(last_fields(), text).map(|tag| tag.as_bytes())
-}
-
-#[inline]
-fn last_fields() -> &'static [(&'static str, &'static str)] {
-    &LAST_FIELDS
+    alias_for(&LAST_FIELDS, text).map(|tag| tag.as_bytes())
 }
 
 /// Returns the string behind a language in a name with an empty field, in one or two parts: `POSIX`

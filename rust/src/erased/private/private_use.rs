@@ -80,7 +80,7 @@ impl<'a> PrivateUse<'a> {
     /// Wraps a string that is known to be a private use part, without checking it.
     /// `PrivateUse::from_checked(private_use.as_str())` is equal to `private_use`.
     #[inline]
-    pub(crate) fn from_checked(text: &'a str) -> PrivateUse<'a> {
+    pub(crate) const fn from_checked(text: &'a str) -> PrivateUse<'a> {
         PrivateUse {
             text: Caseless(text),
         }
@@ -98,7 +98,7 @@ impl<'a> PrivateUse<'a> {
     /// ```
     #[inline]
     #[must_use]
-    pub fn as_str(self) -> &'a str {
+    pub const fn as_str(self) -> &'a str {
         self.text.0
     }
 
@@ -114,7 +114,7 @@ impl<'a> PrivateUse<'a> {
     /// ```
     #[inline]
     #[must_use]
-    pub fn as_bytes(self) -> &'a [u8] {
+    pub const fn as_bytes(self) -> &'a [u8] {
         self.as_str().as_bytes()
     }
 

@@ -97,7 +97,7 @@ impl<'a> PrivateUseSubtag<'a> {
     /// ```
     #[inline]
     #[must_use]
-    pub fn as_str(self) -> &'a str {
+    pub const fn as_str(self) -> &'a str {
         self.text.0
     }
 
@@ -113,7 +113,7 @@ impl<'a> PrivateUseSubtag<'a> {
     /// ```
     #[inline]
     #[must_use]
-    pub fn as_bytes(self) -> &'a [u8] {
+    pub const fn as_bytes(self) -> &'a [u8] {
         self.as_str().as_bytes()
     }
 

@@ -35,7 +35,7 @@ impl Found {
     /// ```
     #[inline]
     #[must_use]
-    pub fn is_normal(self) -> bool {
+    pub const fn is_normal(self) -> bool {
         matches!(self.finding, Finding::Normal(_))
     }
 
@@ -50,7 +50,7 @@ impl Found {
     /// ```
     #[inline]
     #[must_use]
-    pub fn is_private_use(self) -> bool {
+    pub const fn is_private_use(self) -> bool {
         matches!(self.finding, Finding::PrivateUse)
     }
 
@@ -66,7 +66,7 @@ impl Found {
     /// ```
     #[inline]
     #[must_use]
-    pub fn irregular(self) -> Option<usize> {
+    pub const fn irregular(self) -> Option<usize> {
         match self.finding {
             Finding::Irregular(index) => Some(index),
             _ => None,
@@ -86,7 +86,7 @@ impl Found {
     /// ```
     #[inline]
     #[must_use]
-    pub fn ends(self) -> Option<Ends> {
+    pub const fn ends(self) -> Option<Ends> {
         match self.finding {
             Finding::Normal(ends) => Some(ends),
             _ => None,

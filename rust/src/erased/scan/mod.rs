@@ -29,15 +29,16 @@
 mod case;
 mod caseless;
 mod class;
-pub(crate) mod ends;
+mod ends;
 mod finding;
 mod found;
 mod grandfathered;
 mod metered;
 mod recogniser;
 mod segment;
+mod slice_reader;
 mod source;
-pub(crate) mod state;
+mod state;
 mod states;
 mod subtags;
 mod viable;
@@ -58,3 +59,6 @@ pub(crate) use segment::{segment_end, segment_start};
 pub use source::ByteSource;
 pub use subtags::Subtags;
 pub use viable::{viable_len, viable_len_with_hyphen};
+
+// For this repository.
+pub(crate) use slice_reader::read_bytes;

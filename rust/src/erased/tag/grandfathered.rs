@@ -161,7 +161,7 @@ impl GrandfatheredLangTag {
 
     /// Returns the tag at an index of [`GRANDFATHERED`].
     #[inline]
-    pub(crate) fn at(index: usize) -> Self {
+    pub(crate) const fn at(index: usize) -> Self {
         GRANDFATHERED[index]
     }
 
@@ -205,7 +205,7 @@ impl GrandfatheredLangTag {
     /// ```
     #[inline]
     #[must_use]
-    pub fn as_str(self) -> &'static str {
+    pub const fn as_str(self) -> &'static str {
         GRANDFATHERED_TEXTS[self as usize]
     }
 
@@ -231,7 +231,7 @@ impl GrandfatheredLangTag {
     /// ```
     #[inline]
     #[must_use]
-    pub fn as_bytes(self) -> &'static [u8] {
+    pub const fn as_bytes(self) -> &'static [u8] {
         self.as_str().as_bytes()
     }
 }

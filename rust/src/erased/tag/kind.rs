@@ -34,7 +34,7 @@ impl Kind {
     /// ```
     #[inline]
     #[must_use]
-    pub fn is_normal(self) -> bool {
+    pub const fn is_normal(self) -> bool {
         matches!(self, Kind::Normal)
     }
 
@@ -47,7 +47,7 @@ impl Kind {
     /// ```
     #[inline]
     #[must_use]
-    pub fn is_private_use(self) -> bool {
+    pub const fn is_private_use(self) -> bool {
         matches!(self, Kind::PrivateUse)
     }
 
@@ -60,7 +60,7 @@ impl Kind {
     /// ```
     #[inline]
     #[must_use]
-    pub fn is_grandfathered(self) -> bool {
+    pub const fn is_grandfathered(self) -> bool {
         matches!(self, Kind::Grandfathered)
     }
 }

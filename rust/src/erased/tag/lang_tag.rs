@@ -249,7 +249,7 @@ impl<'a> LangTag<'a> {
     /// ```
     #[inline]
     #[must_use]
-    pub fn as_typed(self) -> TypedLangTag<'a> {
+    pub const fn as_typed(self) -> TypedLangTag<'a> {
         match self.found {
             Recognised::Normal(ends) => {
                 TypedLangTag::Normal(NormalLangTag::with_ends(self.text.0, ends))
@@ -275,7 +275,7 @@ impl<'a> LangTag<'a> {
     /// ```
     #[inline]
     #[must_use]
-    pub fn is_normal(self) -> bool {
+    pub const fn is_normal(self) -> bool {
         self.found.is_normal()
     }
 
@@ -292,7 +292,7 @@ impl<'a> LangTag<'a> {
     /// ```
     #[inline]
     #[must_use]
-    pub fn is_private_use(self) -> bool {
+    pub const fn is_private_use(self) -> bool {
         self.found.is_private_use()
     }
 

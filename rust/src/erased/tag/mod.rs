@@ -58,8 +58,8 @@ mod normal_lang_tag_buf;
 mod part;
 mod private_use_lang_tag;
 mod push;
-mod recognise_text;
-pub(crate) mod recognised;
+pub(crate) mod recognise_text;
+mod recognised;
 #[cfg(feature = "alloc")]
 mod recommended_case;
 mod refusal;

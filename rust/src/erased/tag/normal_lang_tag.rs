@@ -105,7 +105,7 @@ impl<'a> NormalLangTag<'a> {
     /// Makes a normal tag from a string whose parts are known to end at these offsets, without
     /// parsing the string again.
     #[inline]
-    pub(crate) fn with_ends(text: &'a str, ends: Ends) -> NormalLangTag<'a> {
+    pub(crate) const fn with_ends(text: &'a str, ends: Ends) -> NormalLangTag<'a> {
         NormalLangTag {
             text: Caseless(text),
             ends,
@@ -124,7 +124,7 @@ impl<'a> NormalLangTag<'a> {
     /// ```
     #[inline]
     #[must_use]
-    pub fn as_str(self) -> &'a str {
+    pub const fn as_str(self) -> &'a str {
         self.text.0
     }
 
@@ -140,7 +140,7 @@ impl<'a> NormalLangTag<'a> {
     /// ```
     #[inline]
     #[must_use]
-    pub fn as_bytes(self) -> &'a [u8] {
+    pub const fn as_bytes(self) -> &'a [u8] {
         self.as_str().as_bytes()
     }
 
@@ -216,7 +216,7 @@ impl<'a> NormalLangTag<'a> {
     /// ```
     #[inline]
     #[must_use]
-    pub fn ends(self) -> Ends {
+    pub const fn ends(self) -> Ends {
         self.ends
     }
 

@@ -2,7 +2,7 @@
 
 //! The only file in which this crate calls a recogniser.
 
-use crate::erased::scan::{recognise, Ends, Found, Metered};
+use crate::erased::scan::{read_bytes, Ends};
 use crate::erased::tag::grandfathered::GrandfatheredLangTag;
 use crate::erased::tag::recognised::Recognised;
 
@@ -11,8 +11,10 @@ use crate::erased::tag::recognised::Recognised;
 /// Every constructor that parses a tag calls this function. It is inlined, since the recogniser is
 /// only one short loop.
 #[inline(always)]
-pub(crate) fn recognise_bytes(bytes: &[u8]) -> Option<Recognised> {
-    let found = found_in(bytes)?;
+pub(crate) const fn recognise_bytes(bytes: &[u8]) -> Option<Recognised> {
+    let Some(found) = read_bytes(bytes) else {
+        return None;
+    };
     if let Some(ends) = found.ends() {
         return Some(Recognised::Normal(ends));
     }
@@ -20,12 +22,6 @@ pub(crate) fn recognise_bytes(bytes: &[u8]) -> Option<Recognised> {
         Some(index) => Some(Recognised::Irregular(GrandfatheredLangTag::at(index))),
         None => Some(Recognised::PrivateUse),
     }
-}
-
-/// Returns what the recogniser finds in bytes, as `langtag_scan` returns it.
-#[inline]
-fn found_in(bytes: &[u8]) -> Option<Found> {
-    recognise(&mut Metered::of_bytes(bytes))
 }
 
 /// Returns what the recogniser finds in a string, or `None` if it is not a tag.

@@ -22,13 +22,13 @@ pub(crate) enum Recognised {
 impl Recognised {
     /// Returns whether this is a normal tag.
     #[inline]
-    pub(crate) fn is_normal(&self) -> bool {
+    pub(crate) const fn is_normal(&self) -> bool {
         matches!(self, Recognised::Normal(_))
     }
 
     /// Returns whether this is a private-use tag.
     #[inline]
-    pub(crate) fn is_private_use(&self) -> bool {
+    pub(crate) const fn is_private_use(&self) -> bool {
         matches!(self, Recognised::PrivateUse)
     }
 

@@ -70,7 +70,7 @@ impl<'a> TypedLangTag<'a> {
     /// ```
     #[inline]
     #[must_use]
-    pub fn kind(self) -> Kind {
+    pub const fn kind(self) -> Kind {
         match self {
             TypedLangTag::Normal(_) => Kind::Normal,
             TypedLangTag::PrivateUse(_) => Kind::PrivateUse,
@@ -92,7 +92,7 @@ impl<'a> TypedLangTag<'a> {
     /// ```
     #[inline]
     #[must_use]
-    pub fn is_normal(self) -> bool {
+    pub const fn is_normal(self) -> bool {
         self.kind().is_normal()
     }
 
@@ -109,7 +109,7 @@ impl<'a> TypedLangTag<'a> {
     /// ```
     #[inline]
     #[must_use]
-    pub fn is_private_use(self) -> bool {
+    pub const fn is_private_use(self) -> bool {
         self.kind().is_private_use()
     }
 
@@ -131,7 +131,7 @@ impl<'a> TypedLangTag<'a> {
     /// ```
     #[inline]
     #[must_use]
-    pub fn is_grandfathered(self) -> bool {
+    pub const fn is_grandfathered(self) -> bool {
         self.kind().is_grandfathered()
     }
 
@@ -148,7 +148,7 @@ impl<'a> TypedLangTag<'a> {
     /// ```
     #[inline]
     #[must_use]
-    pub fn as_normal(self) -> Option<NormalLangTag<'a>> {
+    pub const fn as_normal(self) -> Option<NormalLangTag<'a>> {
         match self {
             TypedLangTag::Normal(tag) => Some(tag),
             _ => None,
@@ -169,7 +169,7 @@ impl<'a> TypedLangTag<'a> {
     /// ```
     #[inline]
     #[must_use]
-    pub fn as_private_use(self) -> Option<PrivateUseLangTag<'a>> {
+    pub const fn as_private_use(self) -> Option<PrivateUseLangTag<'a>> {
         match self {
             TypedLangTag::PrivateUse(tag) => Some(tag),
             _ => None,
@@ -190,7 +190,7 @@ impl<'a> TypedLangTag<'a> {
     /// ```
     #[inline]
     #[must_use]
-    pub fn as_grandfathered(self) -> Option<GrandfatheredLangTag> {
+    pub const fn as_grandfathered(self) -> Option<GrandfatheredLangTag> {
         match self {
             TypedLangTag::Grandfathered(tag) => Some(tag),
             _ => None,

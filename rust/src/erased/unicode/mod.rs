@@ -34,9 +34,9 @@ mod transformation;
 mod unicode_extension;
 
 pub use crate::erased::keyword::{Keys, KeywordError};
+pub use crate::erased::locale::{is_locale, write_locale_form, write_resolved_locale};
 #[cfg(feature = "alloc")]
-pub use crate::erased::locale::locale_form;
-pub use crate::erased::locale::{is_locale, write_locale_form};
+pub use crate::erased::locale::{locale_form, resolved_locale};
 pub use attributes_iter::AttributesIter;
 #[cfg(feature = "alloc")]
 pub use form::extensions_form;

@@ -1,0 +1,159 @@
+-- The record of the locale to format with: it is well-formed, and is put part by part.
+use Rattle.langtag_keyword.proofs.Common.{common_steps, ◌≡◌, ◌≤◌, ◌==◌, ◌||◌, ℕ, List, [], ◌∷◌, ◌++◌, true, false, not, cond, subst, Bool, length, fold, Option, Some, None, refl, sym, ap, ◌∙◌, arith, nat_tests, each-append, AllByRecursion, IsTrue, Output, Pushes, pushes_joined, pushes_same, with_joined, Record, IsWellFormed, one_flat, spell, join, of_primary, of_variant, is_region, is_script, is_variant, length-join, unwrap_or, option_map_or}
+use Rattle.langtag_scan.specs.Grammar.{flat, Extension, IsWellFormedExtension}
+use Rattle.langtag_scan.proofs.Laws.{of_region}
+use Rattle.langtag_scan.proofs.Prelude.{IfSome}
+use Rattle.langtag_text.specs.Fields.{subtag_of}
+use Rattle.langtag_text.specs.Output.{with_subtag}
+use Rattle.langtag_scan.specs.Class.{is_digit, is_letter, is_mark, is_singleton}
+use Rattle.langtag_scan.proofs.Prelude.{lowercase-uppercase}
+use Rattle.langtag_scan.specs.Case.{fold_byte}
+use Rattle.langtag_scan.specs.CaseLaws.{are_alike-decides}
+use Rattle.langtag_scan.proofs.Laws.{alike_region}
+use Rattle.std.specs.Prelude.{codes}
+use Rattle.langtag_text.specs.Fields.{Fields}
+use Rattle.langtag_text.specs.FieldClasses.{is_region_field}
+use Rattle.langtag_text.specs.RecommendedCase.{capital_text}
+use Rattle.langtag_cldr.specs.Definitions.{add_likely_subtags, known, or_else}
+use Rattle.langtag_likely.specs.Maximal.{fields_of, is_read, maximal_record, put_fields}
+use Rattle.langtag_likely.proofs.GoodForms.{maximal_well_formed}
+use Rattle.langtag_keyword.proofs.Common.{before_key, changed_from, extension_found, extension_of, find_extension, flat_map, fold_text, in_alphabet, is_key, keyword_form, keywords_form, unicode_value}
+use Rattle.langtag_keyword.specs.Form.{keys_in_order}
+use Rattle.langtag_keyword.specs.Keywords.{subtags_of}
+use Rattle.langtag_keyword.proofs.AlphabetLaws.{each-back}
+use Rattle.langtag_keyword.proofs.FormRecords.{Good, good-unicode_form}
+use Rattle.langtag_locale.specs.Resolved.{Wish, from_greater, is_greater_key, is_likely_with, likely_script, new_region, resolved_record, resolved_subtags, script_with, staying, with_keywords}
+
+-- ---- parts
+
+some_text : (text : List ℕ) → 1 ≤ length text → one_flat (subtag_of text) ≡ text ∷ []
+some_text [] some = absurd (omega (arith, some))
+some_text (b ∷ text) some = refl
+
+-- a part as a field, and as a part again
+pub part_again : (part : Option (List ℕ)) → ((s : List ℕ) → part ≡ Some s → 1 ≤ length s) → subtag_of (unwrap_or part []) ≡ part
+part_again None some = refl
+part_again (Some []) some = absurd (omega (arith, some [] refl))
+part_again (Some (b ∷ s)) some = refl
+
+-- variants that are put as one text
+pub variants_pushed :
+    (vs : List (List ℕ)) (text : List ℕ) (old new : Output) → AllByRecursion (λ s. IsTrue (is_variant s)) vs → text ≡ join vs → Pushes (one_flat (subtag_of text)) old new → Pushes vs old new
+variants_pushed [] text old new all is these = pushes_same _ _ old new (ap (λ t. one_flat (subtag_of t)) is) these
+variants_pushed (v ∷ vs) text old new all is these =
+    let first = (of_variant v all.0).some in
+    let whole = some_text (join (v ∷ vs)) (omega (arith, first, length-join v vs)) in
+    pushes_joined v vs old new first (pushes_same _ _ old new (ap (λ t. one_flat (subtag_of t)) is ∙ whole) these)
+
+pub resolved_joined : (w : Wish) (r : Record) → IsWellFormed r → fold with_subtag [] (flat (resolved_record w r)) ≡ spell (resolved_record w r)
+unfolding with_subtag resolved_record
+resolved_joined w r fits = sym (with_joined [] r.primary _ (of_primary r.primary fits.primary).some)
+
+pub region_some : (r : Record) → IsWellFormed r → (s : List ℕ) → r.region ≡ Some s → 1 ≤ length s
+region_some r fits s is = by_part r.region fits.region is
+  where
+    by_part : (o : Option (List ℕ)) → IfSome o (λ s. IsTrue (is_region s)) → o ≡ Some s → 1 ≤ length s
+    by_part None fits is = absurd cc
+    by_part (Some t) fits is = grind (arith, nat_tests, (of_region t fits).some)
+
+-- ---- the record is well-formed
+
+script_by :
+    (r : Record) (o : Option Fields) → IsWellFormed (option_map_or (put_fields r) o r) → IfSome r.script (λ s. IsTrue (is_script s)) →
+    IfSome (subtag_of (option_map_or (λ most. most.script) o (known (codes "Zzzz") (unwrap_or r.script [])))) (λ s. IsTrue (is_script s))
+script_by r (Some most) well fits = well.script
+script_by r None well fits = grind (arith, common_steps, nat_tests)
+
+script_fits : (r : Record) (region : List ℕ) → IsWellFormed r → IfSome (subtag_of (script_with r region)) (λ s. IsTrue (is_script s))
+unfolding maximal_record
+script_fits r region fits = by_tests (length region == 0) (is_read r.primary r.extended) (is_likely_with (fields_of r) region) refl
+  where
+    own : IfSome (subtag_of (unwrap_or r.script [])) (λ s. IsTrue (is_script s))
+    own = grind (arith, common_steps, nat_tests, fits.script)
+
+    by_tests :
+        (none read likely : Bool) → is_read r.primary r.extended ≡ read →
+        IfSome (subtag_of (cond ((none || not read) || likely) (unwrap_or r.script []) (likely_script (fields_of r)))) (λ s. IsTrue (is_script s))
+    by_tests true read likely is = own
+    by_tests false false likely is = own
+    by_tests false true true is = own
+    by_tests false true false is =
+        script_by r (add_likely_subtags (fields_of r))
+        (subst (λ read. IsWellFormed (option_map_or (put_fields r) (cond read (add_likely_subtags (fields_of r)) None) r)) is (maximal_well_formed r fits)) fits.script
+
+capital-fold : (text : List ℕ) → fold_text (capital_text text) ≡ fold_text text
+unfolding fold_byte
+capital-fold [] = refl
+capital-fold (b ∷ text) = rw (lowercase-uppercase b, capital-fold text) refl
+
+capital_region : (region : List ℕ) → is_region region ≡ true → is_region (capital_text region) ≡ true
+capital_region region is = alike_region region (capital_text region) ((are_alike-decides region (capital_text region)).1 (sym (capital-fold region))) is
+
+region_fits :
+    (r : Record) (region : List ℕ) → IsWellFormed r → is_region_field region ≡ true → IfSome (or_else (subtag_of (capital_text (new_region r region))) r.region) (λ s. IsTrue (is_region s))
+region_fits r [] fits is = grind (arith, common_steps, nat_tests, fits.region)
+region_fits r (b ∷ region) fits is = grind (arith, common_steps, nat_tests, fits.region, capital_region (b ∷ region))
+
+-- ---- the subtags of `u`
+
+each-front : (P : List ℕ → Type 0) (xs ys : List (List ℕ)) → AllByRecursion P (xs ++ ys) → AllByRecursion P xs
+each-front P [] ys all = tt
+each-front P (x ∷ xs) ys all = (all.0, each-front P xs ys all.1)
+
+good_staying : (w : Wish) (gone : Bool) (ss : List (List ℕ)) → Good ss → Good (staying w gone ss)
+good_staying w gone [] good = tt
+good_staying w gone (s ∷ ss) good = grind (arith, common_steps, good_staying w true ss good.1, good_staying w false ss good.1)
+
+good_before : (test : List ℕ → Bool) (ss : List (List ℕ)) → Good ss → Good (before_key test ss)
+good_before test [] good = tt
+good_before test (s ∷ ss) good = grind (arith, common_steps, good_before test ss good.1)
+
+good_from : (key : List ℕ) (ss : List (List ℕ)) → Good ss → Good (from_greater key ss)
+good_from key [] good = tt
+good_from key (s ∷ ss) good = grind (arith, common_steps, good_from key ss good.1)
+
+good_with : (f : List ℕ → List (List ℕ)) (keys others : List (List ℕ)) → Good (flat_map f keys) → Good others → Good (with_keywords f keys others)
+good_with f [] others these good = good
+good_with f (key ∷ keys) others these good =
+    each-append _ (before_key (is_greater_key key) others) (f key ++ with_keywords f keys (from_greater key others)) (good_before (is_greater_key key) others good)
+    (each-append _ (f key) (with_keywords f keys (from_greater key others)) (each-front _ (f key) (flat_map f keys) these)
+    (good_with f keys (from_greater key others) (each-back _ (f key) (flat_map f keys) these) (good_from key others good)))
+
+good_resolved : (w : Wish) (ss : List (List ℕ)) → Good w.unicode → Good ss → Good (resolved_subtags w ss)
+good_resolved w ss own good =
+    good_with (keyword_form is_key unicode_value w.unicode) (keys_in_order is_key w.unicode) (staying w false ss)
+    (each-back _ (in_alphabet (before_key is_key w.unicode)) (keywords_form is_key unicode_value w.unicode) (good-unicode_form w.unicode own)) (good_staying w false ss good)
+
+good_extension : (singleton : ℕ) (ss : List (List ℕ)) → is_singleton singleton ≡ true → Good ss → AllByRecursion IsWellFormedExtension (extension_of singleton ss)
+good_extension singleton ss is good = grind (arith, nat_tests)
+
+u_singleton : is_singleton 117 ≡ true
+unfolding is_singleton is_letter is_digit is_mark
+u_singleton = refl
+
+module _ (change : List (List ℕ) → List (List ℕ)) (keeps : (ss : List (List ℕ)) → Good ss → Good (change ss)) where
+  good_changed : (stands : Bool) (es : List Extension) → AllByRecursion IsWellFormedExtension es → AllByRecursion IsWellFormedExtension (changed_from change stands es)
+  good_changed stands [] fits = good_extension 117 (change []) u_singleton (keeps [] tt)
+  good_changed stands (e ∷ es) fits = grind (arith, common_steps, good_changed stands es fits.1, good_extension, u_singleton, each-append, fits.0)
+
+pub resolved_well : (w : Wish) (r : Record) → IsWellFormed r → is_region_field w.region ≡ true → Good w.unicode → IsWellFormed (resolved_record w r)
+unfolding resolved_record
+resolved_well w r fits region own = record {
+  primary = fits.primary;
+  extended = fits.extended;
+  few = fits.few;
+  short = fits.short;
+  script = script_fits r (new_region r w.region) fits;
+  region = region_fits r w.region fits region;
+  variants = fits.variants;
+  extensions = good_changed (resolved_subtags w) (λ ss good. good_resolved w ss own good) _ r.extensions fits.extensions;
+  private_use = fits.private_use;
+}
+
+-- the subtags of `u`
+pub good_unicode : (r : Record) → IsWellFormed r → Good (subtags_of 117 r)
+good_unicode r fits = by_found (find_extension 117 r.extensions) refl
+  where
+    by_found : (o : Option Extension) → find_extension 117 r.extensions ≡ o → Good (option_map_or (λ e. e.subtags) o [])
+    by_found None is = tt
+    by_found (Some e) is = (extension_found 117 r.extensions fits.extensions e is).subtags

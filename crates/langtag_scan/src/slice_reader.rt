@@ -1,0 +1,42 @@
+//! The recogniser of a slice of bytes. It calls no method of a trait, so rustc can call it when it compiles a program.
+ghost use Rattle.std.specs.Prelude.{MatchOption};
+ghost use Rattle.langtag_scan.specs.Grammar.{IsTag, IsFoundOf, finding};
+
+use crate::ends::Marks;
+use crate::finding::Finding;
+use crate::found::Found;
+use crate::state::{Ending, State};
+
+/// Returns what bytes are, as [`recognise`](crate::recognise) does, or `None` if they are not a tag.
+#[inline(always)]
+pub fn read_bytes(bytes: &[u8]) -> Option<Found>
+    ensures { MatchOption result (IsTag bytes.now → ⊥) (λ found. IsFoundOf bytes.now (finding found)) }
+{
+    let len = bytes.len();
+    if len == 0 {
+        return None;
+    }
+    let Some(mut state) = State::start().after(bytes[0]) else {
+        return None;
+    };
+    let mut marks = Marks::new();
+    let mut index = 1;
+    while index < len {
+        let Some(next) = state.after(bytes[index]) else {
+            return None;
+        };
+        state = next;
+        marks.set(state.part_before(), index);
+        index += 1;
+    }
+    let finding = match state.ending() {
+        Ending::NoTag => return None,
+        Ending::Normal(last) => {
+            marks.set(last, len);
+            Finding::Normal(marks.ends(len))
+        }
+        Ending::PrivateUse => Finding::PrivateUse,
+        Ending::Irregular(index) => Finding::Irregular(index),
+    };
+    Some(Found { finding })
+}
