@@ -941,7 +941,7 @@ public:
     }
 
     /* Returns the best tag for the ranges by language distance, as best_for_ranges does. Malformed elements and ranges of weight 0 are
-     * not among the ranges. So de_CH is not repaired, and de-CH;q=0 excludes nothing. Call best_for_header for that. */
+     * not among the ranges. So de_CH is not repaired, and de-CH;q=0 excludes nothing. Only best_for_header repairs and excludes. */
     template <class Tags = lasting_texts, std::enable_if_t<stays<Tags>, int> = 0> std::optional<tag> best(Tags &&tags) const {
         std::vector<range> wanted;
         for (const weighted_range &it : ranges()) wanted.push_back(it.range);

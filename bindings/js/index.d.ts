@@ -310,7 +310,8 @@ export declare class AcceptLanguage {
     lookUp<Tag extends Text, Otherwise>(tags: List<Tag>, otherwise: Otherwise): Tag | Otherwise;
     /**
      * Returns the best tag for the ranges by language distance, as bestForRanges does, or the last argument. Malformed elements and ranges
-     * of weight 0 are not among the ranges. So de_CH is not repaired, and de-CH;q=0 excludes nothing. Call bestForHeader for that.
+     * of weight 0 are not among the ranges. So de_CH is not repaired, and de-CH;q=0 excludes nothing. Only bestForHeader repairs and
+     * excludes.
      */
     best<Tag extends Text>(tags: List<Tag>): Tag | undefined;
     best<Tag extends Text, Otherwise>(tags: List<Tag>, otherwise: Otherwise): Tag | Otherwise;

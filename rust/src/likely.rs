@@ -94,7 +94,7 @@ pub fn unknown_modifier(name: &(impl AsRef<[u8]> + ?Sized)) -> Option<&[u8]> {
 /// letters, and `und`. To leave extensions out, ask for the name of [`LangTag::base`]. Add the
 /// codeset yourself, as in `pt_BR.UTF-8`.
 ///
-/// [`from_posix`] reads the name as the same tag, in its recommended case, without a script that was
+/// [`from_posix`] reads the name as this tag in the recommended case, without the script that was
 /// left out.
 ///
 /// ```
