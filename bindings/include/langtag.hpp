@@ -896,7 +896,7 @@ struct weighted_range {
     std::uint32_t weight;
 };
 
-/* The part of an element of a header that is malformed. If range and weight are both malformed, it is the range. */
+/* Which part of a header's element is malformed. If range and weight are both malformed, it is the range. */
 enum class element_part : std::uint32_t { range = LANGTAG_ACCEPTED_BAD_RANGE, weight = LANGTAG_ACCEPTED_BAD_WEIGHT };
 
 /* A malformed element of a header: the number of commas before it, the offset of its first byte, and the malformed part. */

@@ -1,8 +1,8 @@
 /*
  * English names of tags, and each language's own name (Deutsch, português), from Unicode's CLDR and IANA's registry. They are in a header
- * of their own, so that a program that does not include it has no tables. They are tested, and not proved: a proof could only show that a
- * table equals its list, not that the names are right. C has no describe, because a locale form may need more room than the tag, and the
- * library allocates nothing.
+ * of their own: a program without this header has no tables. They are tested, and not proved: a proof could only show that a table equals
+ * its list, not that the names are right. C has no describe, because a locale form may need more room than the tag, and the library
+ * allocates nothing.
  */
 #ifndef LANGTAG_NAMES_HPP
 #define LANGTAG_NAMES_HPP
