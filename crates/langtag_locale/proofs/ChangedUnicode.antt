@@ -1,5 +1,5 @@
 -- The extension `u` with changed subtags: what stays of the others, and that a change that is made twice is made once.
-use Rattle.langtag_keyword.proofs.Common.{common_steps, ◌≡◌, ◌==◌, ℕ, Bool, true, false, not, cond, List, [], ◌∷◌, ◌++◌, Option, None, Some, find, map, subst, eqb-true, refl, sym, ap, ◌∙◌, arith, nat_tests, append_assoc, append-nil, false≢true, AllByRecursion, is_some, Extension, IsWellFormedExtension, before_key, is_key, is_of, changed_from, extension_of, with_changed_u, find_extension, option_map_or, nat_lt}
+use Rattle.langtag_keyword.proofs.Common.{common_steps, ◌≡◌, ◌==◌, ℕ, Bool, true, false, not, cond, List, [], ◌∷◌, ◌++◌, Option, None, Some, find, map, subst, eqb-true, refl, sym, ap, ◌∙◌, arith, nat_tests, append_assoc, append-nil, AllByRecursion, is_some, Extension, IsWellFormedExtension, before_key, is_key, is_of, changed_from, extension_of, with_changed_u, find_extension, option_map_or, nat_lt}
 use Rattle.langtag_keyword.proofs.KeywordBlocks.{extension-some, find_u, u_is_u}
 use Rattle.langtag_scan.specs.Case.{fold_byte}
 use Rattle.langtag_keyword.proofs.IdentifierParts.{Apart}

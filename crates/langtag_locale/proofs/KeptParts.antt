@@ -1,5 +1,5 @@
 -- The locale to format with keeps the parts of the tag, is in its script, and has what the range asks for.
-use Rattle.langtag_keyword.proofs.Common.{common_steps, ◌≡◌, ℕ, Bool, true, false, List, refl, sym, ap, ◌∙◌, arith, nat_tests, Record, IsWellFormed, is_some, find_extension}
+use Rattle.langtag_keyword.proofs.Common.{refl, Record, IsWellFormed, is_some, find_extension}
 use Rattle.langtag_locale.specs.Resolved.{Wish, resolved_record, resolved_subtags, wish_for}
 use Rattle.langtag_locale.specs.ResolvedLaws.{EachResolved, KeepsParts}
 use Rattle.langtag_locale.proofs.ChangedUnicode.{attributes-changed, others-changed}

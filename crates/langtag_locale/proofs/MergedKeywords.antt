@@ -1,5 +1,5 @@
 -- The subtags of `u` with the keywords of a range: which stay, what is read of them, and that merging them again changes nothing.
-use Rattle.langtag_keyword.proofs.Common.{common_steps, ◌≡◌, ℕ, Bool, true, false, not, cond, ◌&&◌, ◌||◌, List, [], ◌∷◌, ◌++◌, Option, None, Some, option_map_or, option_map, map, join, subtags, codes, found_some, refl, sym, ap, ◌∙◌, arith, nat_tests, append_assoc, append-nil, AllByRecursion, filter, flat_map, list_any, is_some, fold_text, fold_text-twice, are_alike, are_alike-decides, before_key, is_key, keyword_form, unicode_value, value_of, false≢true}
+use Rattle.langtag_keyword.proofs.Common.{common_steps, ◌≡◌, ℕ, Bool, true, false, ◌&&◌, ◌||◌, List, [], ◌∷◌, ◌++◌, Some, option_map_or, option_map, map, join, subtags, codes, found_some, refl, sym, ap, ◌∙◌, arith, nat_tests, append-nil, AllByRecursion, filter, list_any, is_some, fold_text, are_alike, are_alike-decides, before_key, is_key, keyword_form, unicode_value, value_of}
 use Rattle.langtag_keyword.specs.Form.{has_subdivision, keys_in_order}
 use Rattle.langtag_keyword.proofs.AlphabetLaws.{AreLower, among, lower-in_alphabet}
 use Rattle.langtag_keyword.proofs.CanonicalKeywords.{values-are}
@@ -7,7 +7,7 @@ use Rattle.langtag_keyword.proofs.FormRecords.{Good}
 use Rattle.langtag_keyword.proofs.KeywordLaws.{AreNoKeys, alike-itself, before-plain, value-plain}
 use Rattle.langtag_keyword.proofs.KeywordsInForm.{each-has, keys-have}
 use Rattle.langtag_text.proofs.Alike.{alike_is, are_alike-left}
-use Rattle.langtag_locale.specs.Resolved.{Wish, from_greater, is_greater_key, is_replaced, moves, resolved_subtags, staying, with_keywords}
+use Rattle.langtag_locale.specs.Resolved.{Wish, from_greater, is_greater_key, is_replaced, removes_subdivisions, resolved_subtags, remaining_subtags, with_keywords}
 use Rattle.langtag_locale.proofs.ResolvedRecords.{each_early, each_late}
 
 -- ---- alike keys
@@ -30,35 +30,35 @@ abbrev pub Opens : List (List ℕ) → Type 0
 Opens ss = before_key is_key ss ≡ []
 
 module _ (w : Wish) where
-  staying-gone : (ss : List (List ℕ)) → Opens (staying w true ss)
-  staying-gone [] = refl
-  staying-gone (s ∷ ss) = grind (arith, nat_tests, staying-gone ss)
+  remaining-gone : (ss : List (List ℕ)) → Opens (remaining_subtags w true ss)
+  remaining-gone [] = refl
+  remaining-gone (s ∷ ss) = grind (arith, nat_tests, remaining-gone ss)
 
   -- the attributes stay
-  pub staying-attributes : (ss : List (List ℕ)) → before_key is_key (staying w false ss) ≡ before_key is_key ss
-  staying-attributes [] = refl
-  staying-attributes (s ∷ ss) = grind (arith, nat_tests, staying-attributes ss, staying-gone ss)
+  pub remaining-attributes : (ss : List (List ℕ)) → before_key is_key (remaining_subtags w false ss) ≡ before_key is_key ss
+  remaining-attributes [] = refl
+  remaining-attributes (s ∷ ss) = grind (arith, nat_tests, remaining-attributes ss, remaining-gone ss)
 
   -- no subtag is a key that is replaced
   abbrev pub Stays : List (List ℕ) → Type 0
   Stays ss = AllByRecursion (λ s. (is_key s && is_replaced w s) ≡ false) ss
 
-  pub staying-stays : (gone : Bool) (ss : List (List ℕ)) → Stays (staying w gone ss)
-  staying-stays gone [] = tt
-  staying-stays true (s ∷ ss) = grind (arith, common_steps, staying-stays true ss, staying-stays false ss)
-  staying-stays false (s ∷ ss) = grind (arith, common_steps, staying-stays true ss, staying-stays false ss)
+  pub remaining-stays : (gone : Bool) (ss : List (List ℕ)) → Stays (remaining_subtags w gone ss)
+  remaining-stays gone [] = tt
+  remaining-stays true (s ∷ ss) = grind (arith, common_steps, remaining-stays true ss, remaining-stays false ss)
+  remaining-stays false (s ∷ ss) = grind (arith, common_steps, remaining-stays true ss, remaining-stays false ss)
 
-  pub staying-front : (xs ys : List (List ℕ)) → Stays xs → staying w false (xs ++ ys) ≡ xs ++ staying w false ys
-  staying-front [] ys stays = refl
-  staying-front (x ∷ xs) ys stays = grind (arith, nat_tests, staying-front xs ys stays.1, stays.0)
+  pub remaining-front : (xs ys : List (List ℕ)) → Stays xs → remaining_subtags w false (xs ++ ys) ≡ xs ++ remaining_subtags w false ys
+  remaining-front [] ys stays = refl
+  remaining-front (x ∷ xs) ys stays = grind (arith, nat_tests, remaining-front xs ys stays.1, stays.0)
 
-  pub staying-value : (xs ys : List (List ℕ)) → AreNoKeys xs → staying w true (xs ++ ys) ≡ staying w true ys
-  staying-value [] ys none = refl
-  staying-value (x ∷ xs) ys none = grind (arith, nat_tests, staying-value xs ys none.1, none.0)
+  pub remaining-value : (xs ys : List (List ℕ)) → AreNoKeys xs → remaining_subtags w true (xs ++ ys) ≡ remaining_subtags w true ys
+  remaining-value [] ys none = refl
+  remaining-value (x ∷ xs) ys none = grind (arith, nat_tests, remaining-value xs ys none.1, none.0)
 
-  pub staying-opens : (ss : List (List ℕ)) → Opens ss → staying w true ss ≡ staying w false ss
-  staying-opens [] opens = refl
-  staying-opens (s ∷ ss) opens = grind (arith, nat_tests)
+  pub remaining-opens : (ss : List (List ℕ)) → Opens ss → remaining_subtags w true ss ≡ remaining_subtags w false ss
+  remaining-opens [] opens = refl
+  remaining-opens (s ∷ ss) opens = grind (arith, nat_tests)
 
 -- ---- before and from a greater key
 
@@ -102,17 +102,17 @@ module _ (w : Wish) (keyword : List ℕ → List (List ℕ)) where
   pub with-opens : (keys others : List (List ℕ)) → ArePut keys → Opens others → Opens (with_keywords keyword keys others)
   with-opens keys others put opens = with-attributes keys others put ∙ opens
 
-  staying-put : (key : List ℕ) (rest : List (List ℕ)) → IsPut w keyword key → Opens rest → staying w false (keyword key ++ rest) ≡ staying w false rest
-  staying-put key rest put opens = rw put.is (grind (arith, nat_tests, put.two, put.replaced, staying-value w put.value rest put.plain, staying-opens w rest opens))
+  remaining-put : (key : List ℕ) (rest : List (List ℕ)) → IsPut w keyword key → Opens rest → remaining_subtags w false (keyword key ++ rest) ≡ remaining_subtags w false rest
+  remaining-put key rest put opens = rw put.is (grind (arith, nat_tests, put.two, put.replaced, remaining-value w put.value rest put.plain, remaining-opens w rest opens))
 
   -- without the keywords that were put, the others are left
-  pub staying-with : (keys others : List (List ℕ)) → ArePut keys → Stays w others → staying w false (with_keywords keyword keys others) ≡ others
-  staying-with [] others put stays = ap (staying w false) (sym (append-nil others)) ∙ staying-front w others [] stays ∙ append-nil others
-  staying-with (key ∷ keys) others put stays =
-      staying-front w (before_key (is_greater_key key) others) _ (each_early (λ s. (is_key s && is_replaced w s) ≡ false) key others stays)
+  pub remaining-with : (keys others : List (List ℕ)) → ArePut keys → Stays w others → remaining_subtags w false (with_keywords keyword keys others) ≡ others
+  remaining-with [] others put stays = ap (remaining_subtags w false) (sym (append-nil others)) ∙ remaining-front w others [] stays ∙ append-nil others
+  remaining-with (key ∷ keys) others put stays =
+      remaining-front w (before_key (is_greater_key key) others) _ (each_early (λ s. (is_key s && is_replaced w s) ≡ false) key others stays)
       ∙ ap (λ t. before_key (is_greater_key key) others ++ t)
-      (staying-put key (with_keywords keyword keys (from_greater key others)) put.0 (with-opens keys (from_greater key others) put.1 (from-opens key others))
-      ∙ staying-with keys (from_greater key others) put.1 (each_late (λ s. (is_key s && is_replaced w s) ≡ false) key others stays))
+      (remaining-put key (with_keywords keyword keys (from_greater key others)) put.0 (with-opens keys (from_greater key others) put.1 (from-opens key others))
+      ∙ remaining-with keys (from_greater key others) put.1 (each_late (λ s. (is_key s && is_replaced w s) ≡ false) key others stays))
       ∙ parted key others
 
   -- ---- what is read of them
@@ -164,7 +164,7 @@ module _ (w : Wish) (good : Good w.unicode) where
         is = ap (λ o. option_map_or (λ value. key ∷ map fold_text (subtags (unicode_value key (join value)))) o []) found;
         two = value.0;
         plain = value.1;
-        replaced = ap (λ b. b || (moves w && has_subdivision key)) (found-replaced key w.unicode v found);
+        replaced = ap (λ b. b || (removes_subdivisions w && has_subdivision key)) (found-replaced key w.unicode v found);
         lower = low;
       }
 
@@ -177,11 +177,11 @@ module _ (w : Wish) (good : Good w.unicode) where
 
   -- the attributes stay
   pub resolved-attributes : (ss : List (List ℕ)) → before_key is_key (resolved_subtags w ss) ≡ before_key is_key ss
-  resolved-attributes ss = with-attributes w keyword (keys_in_order is_key w.unicode) (staying w false ss) are_put ∙ staying-attributes w ss
+  resolved-attributes ss = with-attributes w keyword (keys_in_order is_key w.unicode) (remaining_subtags w false ss) are_put ∙ remaining-attributes w ss
 
   -- merged again, they are the same
   pub resolved-twice : (ss : List (List ℕ)) → resolved_subtags w (resolved_subtags w ss) ≡ resolved_subtags w ss
-  resolved-twice ss = ap (with_keywords keyword (keys_in_order is_key w.unicode)) (staying-with w keyword (keys_in_order is_key w.unicode) (staying w false ss) are_put (staying-stays w false ss))
+  resolved-twice ss = ap (with_keywords keyword (keys_in_order is_key w.unicode)) (remaining-with w keyword (keys_in_order is_key w.unicode) (remaining_subtags w false ss) are_put (remaining-stays w false ss))
 
   -- each keyword of the range is read
   pub resolved-value :
@@ -190,5 +190,5 @@ module _ (w : Wish) (good : Good w.unicode) where
   unfolding found_put
   resolved-value key v ss low found =
       let put = found_put key v low found in
-      value-with w keyword key (keys_in_order is_key w.unicode) (staying w false ss) low put.replaced (keys-have is_key key w.unicode ∙ ap is_some found) are_put (staying-stays w false ss)
+      value-with w keyword key (keys_in_order is_key w.unicode) (remaining_subtags w false ss) low put.replaced (keys-have is_key key w.unicode ∙ ap is_some found) are_put (remaining-stays w false ss)
       (map fold_text (subtags (unicode_value key (join v)))) put.is

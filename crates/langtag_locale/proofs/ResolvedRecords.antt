@@ -22,7 +22,7 @@ use Rattle.langtag_keyword.specs.Form.{keys_in_order}
 use Rattle.langtag_keyword.specs.Keywords.{subtags_of}
 use Rattle.langtag_keyword.proofs.AlphabetLaws.{each-back}
 use Rattle.langtag_keyword.proofs.FormRecords.{Good, good-unicode_form}
-use Rattle.langtag_locale.specs.Resolved.{Wish, from_greater, is_greater_key, is_likely_with, likely_script, new_region, resolved_record, resolved_subtags, script_with, staying, with_keywords}
+use Rattle.langtag_locale.specs.Resolved.{Wish, from_greater, is_greater_key, is_likely_with, likely_script, new_region, resolved_record, resolved_subtags, script_with, remaining_subtags, with_keywords}
 
 -- ---- parts
 
@@ -101,9 +101,9 @@ module _ (P : List ℕ → Type 0) where
   each-front [] ys all = tt
   each-front (x ∷ xs) ys all = (all.0, each-front xs ys all.1)
 
-  each_staying : (w : Wish) (gone : Bool) (ss : List (List ℕ)) → AllByRecursion P ss → AllByRecursion P (staying w gone ss)
-  each_staying w gone [] all = tt
-  each_staying w gone (s ∷ ss) all = grind (arith, common_steps, each_staying w true ss all.1, each_staying w false ss all.1)
+  each_remaining : (w : Wish) (gone : Bool) (ss : List (List ℕ)) → AllByRecursion P ss → AllByRecursion P (remaining_subtags w gone ss)
+  each_remaining w gone [] all = tt
+  each_remaining w gone (s ∷ ss) all = grind (arith, common_steps, each_remaining w true ss all.1, each_remaining w false ss all.1)
 
   pub each_early : (key : List ℕ) (ss : List (List ℕ)) → AllByRecursion P ss → AllByRecursion P (before_key (is_greater_key key) ss)
   each_early key [] all = tt
@@ -123,8 +123,8 @@ module _ (P : List ℕ → Type 0) where
   -- what holds of the subtags that stay, and of the form of the range's subtags, holds of each
   pub each_resolved_subtag : (w : Wish) (ss : List (List ℕ)) → AllByRecursion P (unicode_form w.unicode) → AllByRecursion P ss → AllByRecursion P (resolved_subtags w ss)
   each_resolved_subtag w ss own all =
-      each_with (keyword_form is_key unicode_value w.unicode) (keys_in_order is_key w.unicode) (staying w false ss)
-      (each-back _ (in_alphabet (before_key is_key w.unicode)) (keywords_form is_key unicode_value w.unicode) own) (each_staying w false ss all)
+      each_with (keyword_form is_key unicode_value w.unicode) (keys_in_order is_key w.unicode) (remaining_subtags w false ss)
+      (each-back _ (in_alphabet (before_key is_key w.unicode)) (keywords_form is_key unicode_value w.unicode) own) (each_remaining w false ss all)
 
 good_resolved : (w : Wish) (ss : List (List ℕ)) → Good w.unicode → Good ss → Good (resolved_subtags w ss)
 good_resolved w ss own = each_resolved_subtag _ w ss (good-unicode_form w.unicode own)

@@ -1,5 +1,5 @@
 -- The locale to format with is a tag, repeats no more than the tag, and is a Unicode locale identifier and valid if the tag is.
-use Rattle.langtag_keyword.proofs.Common.{common_steps, ◌≡◌, ◌==◌, ◌&&◌, ℕ, Bool, true, false, cond, List, [], ◌∷◌, ◌++◌, Option, None, Some, map, refl, sym, ap, subst, ◌∙◌, arith, nat_tests, inl, inr, AllByRecursion, list_all, list_any, list_any-append, is_none, is_unicode_language, are_alike, length, each-append, each-weaker, each_from_test, Extension, Record, IsWellFormed, fold_byte, changed_from, extension_of, with_changed_u, is_of, find_extension, is_some, is_transform, nat_lt, both, EachRecord}
+use Rattle.langtag_keyword.proofs.Common.{◌≡◌, ◌==◌, ◌&&◌, ℕ, Bool, true, false, cond, List, [], ◌∷◌, ◌++◌, Option, None, Some, refl, sym, ap, subst, ◌∙◌, arith, nat_tests, inl, inr, AllByRecursion, list_all, list_any, list_any-append, is_none, is_unicode_language, are_alike, length, each-append, each-weaker, each_from_test, Extension, Record, IsWellFormed, fold_byte, changed_from, extension_of, with_changed_u, is_of, find_extension, is_some, is_transform, nat_lt, both, EachRecord}
 use Rattle.langtag_scan.proofs.Laws.{spelled_once, test_from_each}
 use Rattle.langtag_scan.specs.Grammar.{IsNormal, IsTag, Spells}
 use Rattle.langtag.specs.Definitions.{are_alike_bytes, repeat}
@@ -30,8 +30,7 @@ module _ {A : Type 0} (alike : A → A → Bool) where
           (repeat_after alike (seen ++ x ∷ []) xs ≡ None → AllByRecursion (λ y. list_any (alike y) (seen ++ x ∷ []) ≡ false) xs × Apart alike xs) → (b : Bool) → list_any (alike x) seen ≡ b → cond b (Some x) (repeat_after alike (seen ++ x ∷ []) xs) ≡ None → AllByRecursion (λ y. list_any (alike y) seen ≡ false) (x ∷ xs) × Apart alike (x ∷ xs)
       by_test later true is none = absurd cc
       by_test later false is none =
-          let rest = later none in
-          (
+          let rest = later none in (
             (is, each-weaker (λ y. list_any (alike y) (seen ++ x ∷ []) ≡ false) (λ y. list_any (alike y) seen ≡ false) (λ y new. (seen_or_last x y seen new).0) xs rest.0),
             (each-weaker (λ y. list_any (alike y) (seen ++ x ∷ []) ≡ false) (λ y. alike y x ≡ false) (λ y new. (seen_or_last x y seen new).1) xs rest.0, rest.1),
           )
@@ -167,16 +166,19 @@ pub is_valid : (range tag resolved : List ℕ) → IsResolved range tag resolved
 unfolding IsValid IsNormal
 is_valid range tag resolved is valid place = elim is [
   | inl kept ↦ subst IsValid (sym kept.1) valid
-  | inr asks ↦ (is_tag range tag resolved (inr asks) valid.0, inr (λ q qs.
-      let m = made_from range tag resolved asks in
-      let (r, rs) = asks.normal in
-      let made = m.made r rs in
-      let record_valid : IsValidRecord r = elim valid.1 [
-        | inl old ↦ absurd (asks.other old)
-        | inr each ↦ each r rs
-      ] in
-      subst IsValidRecord (spelled_once (resolved_record (wish_for r m.wish) r) q made.0 qs.0 (made.1 ∙ sym qs.1))
-      (valid_record m.wish r m.allowed rs.0 record_valid (place (resolved_record (wish_for r m.wish) r) made))))
+  | inr asks ↦ (
+    is_tag range tag resolved (inr asks) valid.0,
+    inr (λ q qs.
+        let m = made_from range tag resolved asks in
+        let (r, rs) = asks.normal in
+        let made = m.made r rs in
+        let record_valid : IsValidRecord r = elim valid.1 [
+          | inl old ↦ absurd (asks.other old)
+          | inr each ↦ each r rs
+        ] in
+        subst IsValidRecord (spelled_once (resolved_record (wish_for r m.wish) r) q made.0 qs.0 (made.1 ∙ sym qs.1))
+        (valid_record m.wish r m.allowed rs.0 record_valid (place (resolved_record (wish_for r m.wish) r) made))),
+  )
 ]
 
 -- ---- the same range again

@@ -1,8 +1,7 @@
 -- What holds of each record with what may be asked of it holds of the texts.
-use Rattle.langtag_keyword.proofs.Common.{common_steps, arith, nat_tests, ◌≡◌, ℕ, true, false, List, [], IsTrue, Extension, Option, None, Some, find, find_extension, is_of, list_all, option_map_or, each_from_test, found_has, Record, IsWellFormed, spell, subst, sym, ap, ◌∙◌, refl, inl, inr, EachRecord}
+use Rattle.langtag_keyword.proofs.Common.{arith, ◌≡◌, ℕ, true, List, [], Extension, Option, None, Some, find, find_extension, is_of, list_all, option_map_or, each_from_test, found_has, Record, IsWellFormed, subst, sym, ◌∙◌, inl, inr}
 use Rattle.std.specs.Prelude.{codes}
 use Rattle.langtag_scan.proofs.Laws.{spelled_once}
-use Rattle.langtag_scan.specs.Grammar.{Spells}
 use Rattle.langtag_text.specs.FieldClasses.{is_region_field}
 use Rattle.langtag_cldr.specs.Definitions.{known}
 use Rattle.langtag_keyword.specs.Keywords.{subtags_of}
@@ -11,7 +10,7 @@ use Rattle.langtag_keyword.proofs.Found.{found_is}
 use Rattle.langtag_keyword.proofs.KeywordBlocks.{find_u}
 use Rattle.langtag_locale.specs.Locale.{is_locale_extension, is_locale_record, is_unicode_subtag}
 use Rattle.langtag_locale.specs.LocaleForm.{identifier_form, record_fields}
-use Rattle.langtag_locale.specs.Resolved.{IsKept, IsResolved, Wish, resolved_record, wish_for, wish_of}
+use Rattle.langtag_locale.specs.Resolved.{Wish, resolved_record, wish_for, wish_of}
 use Rattle.langtag_locale.specs.ResolvedLaws.{EachResolved}
 use Rattle.langtag_locale.proofs.IdentifierForms.{form_subtags, record_subtags}
 use Rattle.langtag_locale.proofs.LocaleRecords.{all_allowed}

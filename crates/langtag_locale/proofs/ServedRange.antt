@@ -1,5 +1,5 @@
 -- The locale to format with has what the range asks for; the old parts come back; and a range that asks for nothing changes nothing.
-use Rattle.langtag_keyword.proofs.Common.{common_steps, ◌≡◌, ◌==◌, ◌&&◌, ◌||◌, not, ℕ, Bool, true, false, cond, List, [], ◌∷◌, Option, None, Some, length, list_any, refl, sym, ap, subst, ◌∙◌, arith, nat_tests, inl, inr, unwrap_or, Alike, are_alike, are_alike-decides, fold_text, Extension, Record, IsWellFormed, is_key, join, map, spell, subtags, unicode_value, value_of, with_changed_u}
+use Rattle.langtag_keyword.proofs.Common.{◌≡◌, ℕ, Bool, true, false, cond, List, [], ◌∷◌, Option, None, Some, list_any, refl, sym, ap, subst, ◌∙◌, arith, nat_tests, inl, inr, unwrap_or, Alike, are_alike, are_alike-decides, fold_text, Extension, Record, IsWellFormed, is_key, join, map, spell, subtags, unicode_value, value_of, with_changed_u}
 use Rattle.std.specs.Prelude.{codes, ◌⊎◌}
 use Rattle.langtag_scan.proofs.Laws.{spelled_once}
 use Rattle.langtag_scan.specs.Grammar.{IsNormal}
@@ -7,14 +7,13 @@ use Rattle.langtag_text.proofs.Alike.{alike_is, alike_length}
 use Rattle.langtag_text.specs.Fields.{subtag_of}
 use Rattle.langtag_text.specs.RecommendedCase.{capital_text}
 use Rattle.langtag_cldr.specs.Definitions.{or_else}
-use Rattle.langtag_keyword.specs.Form.{has_subdivision}
 use Rattle.langtag_keyword.specs.Keywords.{subtags_of}
 use Rattle.langtag_locale.specs.Locale.{is_locale_record}
 use Rattle.langtag_keyword.proofs.FormRecords.{Good}
 use Rattle.langtag_keyword.proofs.IdentifierParts.{Apart}
 use Rattle.langtag.specs.Definitions.{are_alike_bytes}
-use Rattle.langtag_locale.specs.Resolved.{IsResolved, Wish, is_replaced, moves, new_region, resolved_record, resolved_subtags, script_with, staying, wish_for, wish_of}
-use Rattle.langtag_locale.specs.ResolvedLaws.{AsksNothing, ComesBack, EachResolved, HasWish, IsInPlace, IsServed, other_extensions, put_back}
+use Rattle.langtag_locale.specs.Resolved.{IsResolved, Wish, new_region, resolved_record, resolved_subtags, script_with, remaining_subtags, wish_for, wish_of}
+use Rattle.langtag_locale.specs.ResolvedLaws.{AsksNothing, ComesBack, EachResolved, HasWish, IsInPlace, IsServed, other_extensions}
 use Rattle.langtag_locale.proofs.ChangedUnicode.{changed-settled, changed-subtags, none_u, nothing-changed, others-none, placed, placed-changed, with-found}
 use Rattle.langtag_locale.proofs.MergedKeywords.{resolved-twice, resolved-value}
 use Rattle.langtag_locale.proofs.RangeLaws.{known_locale}
@@ -70,10 +69,14 @@ range_served range tag resolved is = elim is [
   | inl kept ↦ inl kept.0
   | inr asks ↦
       let (l, ls, locale) = known_locale range asks.locale asks.is_locale in
-      inr (asks.locale, asks.is_locale, λ m ms r rs q qs.
-      let same = spelled_once l m ls.0 ms.0 (ls.1 ∙ sym ms.1) in
-      let allowed = subst (λ m. is_locale_record m ≡ true) same locale in
-      subst (HasWish m r) (spelled_once (resolved_record (wish_for r (wish_of m)) r) q (asked_well (wish_of m) r (wish_allowed m ms.0 allowed) rs.0) qs.0 (sym (asks.parts m ms r rs) ∙ sym qs.1)) (has_wish m r ms.0 allowed))
+      inr (
+        asks.locale,
+        asks.is_locale,
+        λ m ms r rs q qs.
+            let same = spelled_once l m ls.0 ms.0 (ls.1 ∙ sym ms.1) in
+            let allowed = subst (λ m. is_locale_record m ≡ true) same locale in
+            subst (HasWish m r) (spelled_once (resolved_record (wish_for r (wish_of m)) r) q (asked_well (wish_of m) r (wish_allowed m ms.0 allowed) rs.0) qs.0 (sym (asks.parts m ms r rs) ∙ sym qs.1)) (has_wish m r ms.0 allowed),
+      )
 ]
 
 -- ---- what is put back
@@ -126,7 +129,7 @@ no_key key (s ∷ ss) two none = grind (arith, nat_tests, no_key key ss two, ali
 rg_key : is_key (codes "rg") ≡ true
 rg_key = refl
 
-all_stay : (a : Wish) → a.region ≡ [] → list_any is_key a.unicode ≡ false → (ss : List (List ℕ)) → staying a false ss ≡ ss
+all_stay : (a : Wish) → a.region ≡ [] → list_any is_key a.unicode ≡ false → (ss : List (List ℕ)) → remaining_subtags a false ss ≡ ss
 all_stay a region none [] = refl
 all_stay a region none (s ∷ ss) =
     grind (arith, nat_tests, all_stay a region none ss, no_key s a.unicode, no_key (codes "rg") a.unicode rg_key none, region)

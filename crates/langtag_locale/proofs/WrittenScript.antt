@@ -1,5 +1,5 @@
 -- The locale to format with is in the script of the tag.
-use Rattle.langtag_keyword.proofs.Common.{common_steps, ◌≡◌, ◌≤◌, ◌==◌, ◌&&◌, ◌||◌, not, ℕ, Bool, true, false, cond, List, [], ◌∷◌, Option, None, Some, length, refl, sym, ap, subst, ◌∙◌, arith, nat_tests, inl, inr, unwrap_or, option_map, option_map_or, Alike, are_alike, fold_text, IsTrue, Extension, Record, IsWellFormed, is_script, with_changed_u}
+use Rattle.langtag_keyword.proofs.Common.{◌≡◌, ◌≤◌, ◌==◌, ◌||◌, not, ℕ, Bool, true, false, cond, List, [], ◌∷◌, Option, None, Some, length, refl, sym, ap, subst, ◌∙◌, arith, nat_tests, inl, inr, unwrap_or, option_map, option_map_or, Alike, are_alike, fold_text, IsTrue, Extension, Record, IsWellFormed, is_script, with_changed_u}
 use Rattle.std.specs.Prelude.{codes, ◌⊎◌}
 use Rattle.langtag_scan.proofs.Prelude.{IfSome}
 use Rattle.langtag_scan.proofs.Laws.{of_script}
@@ -12,7 +12,7 @@ use Rattle.langtag_keyword.proofs.CanonicalKeywords.{alike-back}
 use Rattle.langtag_keyword.proofs.Found.{both}
 use Rattle.langtag_likely.specs.Maximal.{fields_of, if_read, is_read, maximal_record, put_fields, put_language}
 use Rattle.langtag_locale.specs.LocaleForm.{other_region}
-use Rattle.langtag_locale.specs.Resolved.{Wish, is_likely_with, likely_script, new_region, resolved_record, resolved_subtags, script_with, wish_for}
+use Rattle.langtag_locale.specs.Resolved.{Wish, is_likely_with, likely_script, new_region, resolved_record, resolved_subtags, wish_for}
 use Rattle.langtag_locale.specs.ResolvedLaws.{EachResolved, IsInOneScript, full_script}
 use Rattle.langtag_locale.proofs.ResolvedRecords.{capital-fold, part_again}
 use Rattle.langtag_locale.proofs.ResolvedTexts.{IsAllowed, asked_allowed, each_resolved, known-twice}

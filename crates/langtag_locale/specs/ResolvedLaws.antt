@@ -1,5 +1,5 @@
 -- Laws of the locale to format with: a tag that was chosen for a range, with the region and the keywords that the range asks for.
-use Rattle.std.specs.Prelude.{◌≡◌, ℕ, true, false, not, List, [], ◌⊎◌, IfSome, IsTrue, None, Some, codes, if◌then◌else◌, filter, flat_map, length, map, unwrap_or}
+use Rattle.std.specs.Prelude.{◌≡◌, ℕ, false, not, List, [], ◌⊎◌, IfSome, IsTrue, None, Some, codes, if◌then◌else◌, filter, flat_map, map, unwrap_or}
 use Rattle.langtag_scan.specs.Prelude.{list_any}
 use Rattle.langtag_scan.specs.Grammar.{Alike, EachRecord, are_alike, Extension, Record, fold_text, join, subtags}
 use Rattle.langtag.specs.Definitions.{are_alike_bytes, repeat}
