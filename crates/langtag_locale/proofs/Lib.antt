@@ -9,3 +9,10 @@ pub mod IdentifierTwice
 pub mod ResolvedLaws
 pub mod RangeLaws
 pub mod ResolvedRecords
+pub mod ResolvedTexts
+pub mod MergedKeywords
+pub mod ChangedUnicode
+pub mod KeptParts
+pub mod WrittenScript
+pub mod ServedRange
+pub mod ResolvedTags
