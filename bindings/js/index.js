@@ -378,7 +378,7 @@ export class LanguageTag {
      * The tag and its parents, in the order in which to search a catalogue: zh-Hans-CN, zh-CN, zh-Hans and zh. A script that is likely anyway
      * goes first, and comes back before the language alone. Extensions and private use go next, then the variants one by one, and then the
      * region. The variants come back with each parent. All tags are written in the same script if CLDR lists the language and does not replace
-     * the region, as it does UK.
+     * the region, as it does UK. es-rUS, as Android writes es-US, is followed by es-US and its parents.
      *
      * If a catalogue's folders name scripts, such as zh-Hans, ask for the parents of `maximize()`, which names the script of zh-CN. CLDR does
      * not list replaced codes such as iw and cmn, nor extended languages: ask for the parents of `localeForm()`.

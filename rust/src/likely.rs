@@ -168,7 +168,8 @@ pub fn write_parent<'a, 'b>(
 /// region, as it does `UK`. So `zh-TW` is followed by `zh-Hant`, and never by `zh`. A script that
 /// is likely anyway goes first, and comes back before the language alone. Extensions and private
 /// use go next, then each variant, the last one first, and then the region. The variants come back
-/// with each parent. Case is ignored.
+/// with each parent. Case is ignored. `es-rUS`, as Android writes `es-US`, is followed by `es-US` and
+/// its parents.
 ///
 /// If a catalogue's folders name scripts, such as `zh-Hans`, ask for the parents of
 /// [`LangTag::maximized`], which names the script of `zh-CN`. CLDR does not list replaced codes such as `iw` and `cmn`, nor

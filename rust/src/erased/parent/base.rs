@@ -2,7 +2,9 @@
 
 //! The language, the script and the region of a tag.
 
-use crate::erased::cldr::TagFields;
+use crate::erased::cldr::{or_other, TagFields};
+use crate::erased::language::Language;
+use crate::erased::likely::marked_region;
 use crate::erased::tag::{region_field, script_field, NormalLangTag};
 
 /// A language with its extended subtags, a script and a region. The script and the region are empty
@@ -15,13 +17,14 @@ pub(crate) struct Base<'a> {
 }
 
 impl<'a> Base<'a> {
-    /// Returns the language, the script and the region of a tag.
-    #[inline]
+    /// Returns the language, the script and the region of a tag. After a language, `r` and a region
+    /// are read as Android writes them.
     pub(crate) fn of(tag: NormalLangTag<'a>) -> Base<'a> {
+        let marked = marked_region(tag);
         Base {
-            language: tag.language().as_bytes(),
+            language: language_before(tag.language(), marked),
             script: script_field(tag.script()),
-            region: region_field(tag.region()),
+            region: or_other(region_field(tag.region()), marked),
         }
     }
 
@@ -87,5 +90,16 @@ impl<'a> Base<'a> {
             script,
             region: self.region,
         }
+    }
+}
+
+/// Returns a language with its extended subtags, or without them if they are a region with
+/// Android's mark.
+#[inline]
+fn language_before<'a>(language: Language<'a>, marked: &[u8]) -> &'a [u8] {
+    if marked.is_empty() {
+        language.as_bytes()
+    } else {
+        language.primary().as_bytes()
     }
 }
