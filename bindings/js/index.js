@@ -701,12 +701,10 @@ function languageName(code) {
 }
 /** The greatest length of a tag whose locale form is written for a name, because that takes quadratic time. */
 const LONGEST_NAMED = 262144;
-/** Returns the form of a tag whose subtags have the names: de for ger, and es-US for es-rUS, as Android writes it. */
+/** Returns the form of a tag whose subtags have the names: de for ger. */
 function named(tag) {
     const read = tagOf(tag);
-    if (read.text.length > LONGEST_NAMED)
-        return read.canonical();
-    return read.localeForm() ?? LanguageTag.fromPosix(read.text)?.localeForm() ?? read.canonical();
+    return (read.text.length > LONGEST_NAMED ? undefined : read.localeForm()) ?? read.canonical();
 }
 /**
  * Returns an English name of a tag, made of CLDR's names for the subtags of its locale form, or of its canonical form if it has none or has

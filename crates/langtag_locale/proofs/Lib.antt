@@ -8,4 +8,5 @@ pub mod LocaleCase
 pub mod IdentifierTwice
 pub mod ResolvedLaws
 pub mod RangeLaws
+pub mod ReadRecords
 pub mod ResolvedRecords

@@ -4,13 +4,12 @@ ghost use Rattle.langtag_scan.specs.Grammar.{EachRecord, join};
 ghost use Rattle.langtag.specs.Definitions.{EachLanguageSpelling, language_text, normal_lang_tag_text};
 ghost use Rattle.langtag_text.specs.FieldClasses.{is_language_field, is_script_field, is_region_field};
 ghost use Rattle.langtag_cldr.specs.Definitions.{field_texts};
-ghost use Rattle.langtag_likely.specs.Marked.{as_read};
+ghost use Rattle.langtag_likely.specs.Marked.{as_read, mark_of};
 ghost use Rattle.langtag_parent.specs.Parent.{is_empty};
 
 use langtag::{NormalLangTag, region_field, script_field};
 use langtag_cldr::{TagFields, or_other};
 use langtag_language::Language;
-use langtag_likely::marked_region;
 
 /// A language with its extended subtags, a script and a region. The script and the region are empty if they are absent.
 #[derive(Clone, Copy, Debug)]
@@ -31,13 +30,13 @@ impl<'a> Base<'a> {
     ghost use Rattle.langtag_parent.specs.Base.{base_fields};
     ghost use Rattle.langtag_parent.specs.Parent.{fields_of, with_script};
 
-    /// Returns the language, the script and the region of a tag. After a language, `r` and a region are read as Android
-    /// writes them.
+    /// Returns the language, the script and the region of a tag, which may have a region with Android's mark.
     #[tactic(auto, using(crate::proofs::Bases::read_fields, langtag_likely::proofs::MarkLaws::either_region))]
-    pub(crate) fn of(tag: NormalLangTag<'a>) -> Base<'a>
+    pub(crate) fn of(tag: NormalLangTag<'a>, marked: &'a [u8]) -> Base<'a>
+        requires mark { EachRecord (normal_lang_tag_text tag) (λ r. marked.now ≡ mark_of r) }
+        requires in_class { IsTrue (is_region_field marked.now) }
         ensures { EachRecord (normal_lang_tag_text tag.entry) (λ r. base_fields result ≡ fields_of (as_read r)) }
     {
-        let marked = marked_region(tag);
         Base {
             language: language_before(tag.language(), marked),
             script: script_field(tag.script()),

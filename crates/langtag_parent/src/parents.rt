@@ -5,6 +5,7 @@ ghost use Rattle.std.specs.Prelude.{◌≡◌, ◌∷◌, ◌++◌, ◌≤◌, [
 ghost use Rattle.langtag_scan.specs.Grammar.{EachRecord, IsHyphenFree, YieldsFirstBy, ends_of, item_count, option_map_or, spell};
 ghost use Rattle.langtag.specs.Definitions.{lang_tag_text, normal_lang_tag_text};
 ghost use Rattle.langtag_text.specs.Fields.{Fields};
+ghost use Rattle.langtag_likely.specs.Marked.{mark_of};
 ghost use Rattle.langtag_parent.specs.Base.{base_fields};
 ghost use Rattle.langtag_parent.specs.Chain.{IsChain, above, as_written, bases_left, endings, forms, given_form, unless_empty, whole_chain};
 ghost use Rattle.langtag_parent.specs.Chain.{parent_text, parents_left, shorter, text_of, with_each};
@@ -72,10 +73,11 @@ impl<'a> Parents<'a> {
     fn of_normal(tag: NormalLangTag<'a>) -> Self
         ensures { EachRecord (normal_lang_tag_text tag.entry) (λ r. parents_left result ≡ whole_chain r) }
     {
-        let base = Base::of(tag);
+        let marked = marked_region(tag);
+        let base = Base::of(tag, marked);
         let rest = after_region(tag);
         Parents {
-            written: as_written(tag),
+            written: as_written(tag, marked),
             pending: given_form(base, rest),
             base: Some(short(base)),
             tag: base,
@@ -113,10 +115,11 @@ impl<'a> Iterator for Parents<'a> {
 
 /// Returns the tag as it is written if Android's mark stands before its region, and otherwise the empty string.
 #[tactic(auto, using(crate::proofs::Chains::some_tag, crate::proofs::Chains::not_empty))]
-fn as_written<'a>(tag: NormalLangTag<'a>) -> &'a [u8]
+fn as_written<'a>(tag: NormalLangTag<'a>, marked: &[u8]) -> &'a [u8]
+    requires { EachRecord (normal_lang_tag_text tag) (λ r. marked.now ≡ mark_of r) }
     ensures { EachRecord (normal_lang_tag_text tag.entry) (λ r. unless_empty result.now ≡ as_written r) }
 {
-    if marked_region(tag).is_empty() {
+    if marked.is_empty() {
         b""
     } else {
         tag.as_str().as_bytes()

@@ -4,7 +4,6 @@
 
 use crate::erased::cldr::{or_other, TagFields};
 use crate::erased::language::Language;
-use crate::erased::likely::marked_region;
 use crate::erased::tag::{region_field, script_field, NormalLangTag};
 
 /// A language with its extended subtags, a script and a region. The script and the region are empty
@@ -17,10 +16,9 @@ pub(crate) struct Base<'a> {
 }
 
 impl<'a> Base<'a> {
-    /// Returns the language, the script and the region of a tag. After a language, `r` and a region
-    /// are read as Android writes them.
-    pub(crate) fn of(tag: NormalLangTag<'a>) -> Base<'a> {
-        let marked = marked_region(tag);
+    /// Returns the language, the script and the region of a tag, which may have a region with
+    /// Android's mark.
+    pub(crate) fn of(tag: NormalLangTag<'a>, marked: &'a [u8]) -> Base<'a> {
         Base {
             language: language_before(tag.language(), marked),
             script: script_field(tag.script()),

@@ -63,10 +63,11 @@ impl<'a> Parents<'a> {
 
     /// Returns an iterator that starts at a normal tag.
     fn of_normal(tag: NormalLangTag<'a>) -> Self {
-        let base = Base::of(tag);
+        let marked = marked_region(tag);
+        let base = Base::of(tag, marked);
         let rest = after_region(tag);
         Parents {
-            written: as_written(tag),
+            written: as_written(tag, marked),
             pending: given_form(base, rest),
             base: Some(short(base)),
             tag: base,
@@ -101,8 +102,8 @@ impl<'a> Iterator for Parents<'a> {
 /// Returns the tag as it is written if Android's mark stands before its region, and otherwise the
 /// empty string.
 #[inline]
-fn as_written(tag: NormalLangTag<'_>) -> &[u8] {
-    if marked_region(tag).is_empty() {
+fn as_written<'a>(tag: NormalLangTag<'a>, marked: &[u8]) -> &'a [u8] {
+    if marked.is_empty() {
         b""
     } else {
         tag.as_str().as_bytes()
