@@ -96,7 +96,8 @@ pub fn wanted_ranges(header: &(impl AsRef<[u8]> + ?Sized)) -> WantedRanges<'_> {
 /// Returns an iterator over the tags that match one of some language ranges by basic filtering
 /// ([RFC 4647 section 3.3.1]): first those that match the first range. No entry comes twice.
 ///
-/// A string that is not a language range matches nothing, and one that is not a tag never matches.
+/// A string that is not a language range matches nothing, and a string that is not a tag never
+/// matches.
 ///
 /// ```
 /// use langtag::matching::filter_basic;
