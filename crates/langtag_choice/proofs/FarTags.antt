@@ -1,5 +1,5 @@
 -- Ranges as they are read, and tags that are far from a range, as their first letters and the numbers of languages show.
-use Rattle.langtag_scan.proofs.Prelude.{◌≡◌, ◌⊎◌, inl, inr, ℕ, true, not, ◌==◌, List, [], ◌∷◌, length, length-drop, length-take, take, drop, filter, refl, sym, ap, ◌∙◌, arith, ◌&&◌, ◌||◌, codes, Bool, false, ◌<◌, ◌≤◌, ◌+◌, ◌-◌, ◌*◌, cond, get_or, Option, Some, None, option_map, nat_tests, eqb_tells, eqb-true, cases_lt, ◌++◌, common_steps, and_parts, both_ways, false_from_ne_true, or_cases, or_parts, not-true, ForSome, list_all, after_first, before_first, position_or_len, subst, unwrap_or}
+use Rattle.langtag_scan.proofs.Prelude.{◌≡◌, ◌⊎◌, inl, inr, ℕ, true, not, ◌==◌, List, [], ◌∷◌, length, length-drop, length-take, take, drop, filter, refl, sym, ap, ◌∙◌, arith, ◌&&◌, ◌||◌, codes, Bool, false, ◌<◌, ◌≤◌, ◌+◌, ◌-◌, ◌*◌, cond, get_or, Option, Some, None, option_map, nat_tests, eqb_tells, eqb-true, cases_lt, ◌++◌, common_steps, and_parts, both_ways, false_from_ne_true, or_parts, not-true, ForSome, list_all, after_first, before_first, subst, unwrap_or}
 use Rattle.langtag_scan.specs.Grammar.{are_alike, fold_byte, are_alike-decides, subtags, are_letters, is_letter, is_primary}
 use Rattle.std.proofs.Common.{lit≤}
 use Rattle.langtag_range.proofs.AlikeTexts.{is_star-fold}
@@ -10,11 +10,11 @@ use Rattle.langtag_cldr.proofs.BaseTexts.{ends_read}
 use Rattle.langtag_cldr.proofs.WholeTags.{cut, not_by_follow, not_by_three}
 use Rattle.langtag_fields.specs.Fields.{preferred_tag}
 use Rattle.langtag_cldr.proofs.CommonTexts.{rest_of, unmarked, none_extends, nothing_read, some_length, all_fields, next_part, no_fields}
-use Rattle.langtag_cldr.specs.Definitions.{KeepsLanguage, base_text, current_text, matching_form, language_replaced, matching_fields, after_common, BeginsPlain, counted, fields_of_subtags, text_fields, language_of, counted_parts, language_aliases, Likely, known, language_alone, likely_for}
+use Rattle.langtag_cldr.specs.Definitions.{KeepsLanguage, base_text, current_text, matching_form, language_replaced, matching_fields, after_common, BeginsPlain, counted, fields_of_subtags, text_fields, language_of, counted_parts, language_aliases, Likely, language_alone, likely_for}
 use Rattle.langtag_choice.specs.Nearness.{is_fallback, kept}
 use Rattle.langtag_cldr.proofs.AddedTwice.{either_way}
 use Rattle.langtag_text.specs.Numbers.{letter_number}
-use Rattle.langtag_text.proofs.Letters.{letter_number-tells, number_of_two, primary_length, primary_letters}
+use Rattle.langtag_text.proofs.Letters.{letter_number-tells}
 use Rattle.langtag_text.specs.Fields.{Fields}
 use Rattle.langtag_cldr.proofs.AlikeFields.{completed_language}
 use Rattle.langtag_text.proofs.Alike.{alike_length}

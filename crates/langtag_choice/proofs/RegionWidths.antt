@@ -1,12 +1,12 @@
 -- How wide groups of regions are, from their tables.
-use Rattle.langtag_scan.proofs.Prelude.{◌≡◌, ℕ, ◌<◌, Bool, true, false, List, [], ◌∷◌, length, get_or, map, Option, None, Some, option_map_or, refl, sym, subst, ap, ◌∙◌, arith, ◌&&◌, nat_tests, and_parts, common_steps, list_all, is_some, get_or-map, length-map}
-use Rattle.langtag_scan.specs.Grammar.{Alike, are_alike, are_alphanumeric, fold_byte, folded_number, is_letter, is_digit}
+use Rattle.langtag_scan.proofs.Prelude.{◌≡◌, ℕ, ◌<◌, Bool, true, false, List, [], ◌∷◌, length, get_or, map, Option, None, Some, option_map_or, refl, sym, subst, ap, ◌∙◌, arith, ◌&&◌, nat_tests, and_parts, list_all, is_some, get_or-map, length-map}
+use Rattle.langtag_scan.specs.Grammar.{Alike, are_alphanumeric, fold_byte, folded_number, is_letter, is_digit}
 use Rattle.langtag_scan.proofs.FoldedNumbers.{folded_number-tells}
 use Rattle.langtag_text.specs.Fields.{Fields}
 use Rattle.langtag_text.specs.Numbers.{climbs_from}
-use Rattle.langtag_text.proofs.Alike.{AlikeFields, are_alike-right}
+use Rattle.langtag_text.proofs.Alike.{are_alike-right}
 use Rattle.langtag_text.proofs.Elements.{list_all_get}
-use Rattle.langtag_cldr.specs.Definitions.{first_index, matching_form}
+use Rattle.langtag_cldr.specs.Definitions.{first_index}
 use Rattle.langtag_cldr.proofs.AlikeFields.{AlikeOptions, by_options}
 use Rattle.langtag_choice.specs.Distance.{is_among}
 use Rattle.langtag_choice.specs.MatchingData.{region_groups}

@@ -1,5 +1,5 @@
 -- Whether texts have the extension t, as they are read and in any case.
-use Rattle.langtag_scan.proofs.Prelude.{◌≡◌, ℕ, true, false, not, ◌&&◌, ◌||◌, before_first, after_first, List, [], ◌∷◌, refl, sym, ap, ◌∙◌, arith, map, filter, cond, subst, bytes_decides, nat_tests, common_steps, codes}
+use Rattle.langtag_scan.proofs.Prelude.{◌≡◌, ℕ, true, false, not, ◌&&◌, ◌||◌, before_first, after_first, List, [], ◌∷◌, refl, sym, arith, map, filter, subst, bytes_decides, nat_tests, common_steps, codes}
 use Rattle.langtag_scan.specs.Grammar.{Alike, are_alike, fold_byte, fold_text, subtags}
 use Rattle.langtag_scan.proofs.CaseLaw.{fold_text-twice, subtags-fold}
 use Rattle.langtag_text.proofs.Alike.{are_alike-right}

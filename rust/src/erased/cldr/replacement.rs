@@ -99,7 +99,10 @@ fn begins_single(range: &[u8]) -> bool {
 /// Returns whether a range is empty or begins with a separator.
 #[inline]
 fn ends_subtag(range: &[u8]) -> bool {
-    matches!(without_stars(range), [] | [b'-' | b'_', ..])
+    match without_stars(range) {
+        [mark, ..] => is_separator(*mark),
+        [] => true,
+    }
 }
 
 /// Returns `false` only if the first subtag of a string, and the rest, show that the string is not
