@@ -8,6 +8,7 @@ pub mod LocaleCase
 pub mod IdentifierTwice
 pub mod ResolvedLaws
 pub mod RangeLaws
+pub mod ReadRecords
 pub mod ResolvedRecords
 pub mod ResolvedTexts
 pub mod MergedKeywords

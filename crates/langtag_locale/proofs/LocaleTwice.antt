@@ -22,6 +22,7 @@ use Rattle.langtag_keyword.proofs.IdentifierParts.{Apart, alphabet-apart, none_r
 use Rattle.langtag_keyword.specs.Identifier.{identifier_fields, identifier_variants}
 use Rattle.langtag_keyword.proofs.FormTwice.{IsLanguageForm, fields-again, variants-again, with-allowed, unicode-twice, with-twice}
 use Rattle.langtag_locale.proofs.IdentifierForms.{form_subtags, record_subtags, form_is}
+use Rattle.langtag_locale.proofs.ReadRecords.{own_locale_read, own_read}
 use Rattle.langtag_locale.proofs.IdentifierTwice.{identifier_form-twice, new_variants-twice}
 use Rattle.langtag_keyword.proofs.TransformParts.{identifier-no_field, identifier-variants}
 use Rattle.langtag_text.proofs.RecommendedLaws.{recommended_alike}
@@ -201,4 +202,4 @@ text-own r form fits locale text =
     let (q, spells, alike, ends) = alike_parts (spell new) form (sym (ap fold_text text ∙ recommended_alike (spell new))) new (locale_well_formed r fits locale, refl) in
     let locale_q = sym (locale-alike new q alike) ∙ locale_settled r fits locale in
     let same : form ≡ locale_text q = text ∙ ap (λ x. recommended_text (spell x)) (sym (record-own r fits locale)) ∙ text-alike new q alike in
-    ((q, spells, locale_q), form_is form form q spells locale_q same)
+    ((q, spells, locale_q), form_is form form q spells (own_locale_read q locale_q) (same ∙ ap locale_text (sym (own_read q locale_q))))

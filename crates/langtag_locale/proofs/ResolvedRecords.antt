@@ -1,15 +1,10 @@
 -- The record of the locale to format with: it is well-formed, and is put part by part.
 use Rattle.langtag_keyword.proofs.Common.{common_steps, ◌≡◌, ◌≤◌, ◌==◌, ◌||◌, ℕ, List, [], ◌∷◌, ◌++◌, true, false, not, cond, subst, Bool, length, fold, Option, Some, None, refl, sym, ap, ◌∙◌, arith, nat_tests, each-append, AllByRecursion, IsTrue, Output, Pushes, pushes_joined, pushes_same, with_joined, Record, IsWellFormed, one_flat, spell, join, of_primary, of_variant, is_region, is_script, is_variant, length-join, unwrap_or, option_map_or}
-use Rattle.langtag_scan.specs.Grammar.{flat, Extension, IsWellFormedExtension}
+use Rattle.langtag_scan.specs.Grammar.{flat, Extension}
 use Rattle.langtag_scan.proofs.Laws.{of_region}
 use Rattle.langtag_scan.proofs.Prelude.{IfSome}
 use Rattle.langtag_text.specs.Fields.{subtag_of}
 use Rattle.langtag_text.specs.Output.{with_subtag}
-use Rattle.langtag_scan.specs.Class.{is_digit, is_letter, is_mark, is_singleton}
-use Rattle.langtag_scan.proofs.Prelude.{lowercase-uppercase}
-use Rattle.langtag_scan.specs.Case.{fold_byte}
-use Rattle.langtag_scan.specs.CaseLaws.{are_alike-decides}
-use Rattle.langtag_scan.proofs.Laws.{alike_region}
 use Rattle.std.specs.Prelude.{codes}
 use Rattle.langtag_text.specs.Fields.{Fields}
 use Rattle.langtag_text.specs.FieldClasses.{is_region_field}
@@ -17,11 +12,12 @@ use Rattle.langtag_text.specs.RecommendedCase.{capital_text}
 use Rattle.langtag_cldr.specs.Definitions.{add_likely_subtags, known, or_else}
 use Rattle.langtag_likely.specs.Maximal.{fields_of, is_read, maximal_record, put_fields}
 use Rattle.langtag_likely.proofs.GoodForms.{maximal_well_formed}
-use Rattle.langtag_keyword.proofs.Common.{before_key, changed_from, extension_found, extension_of, find_extension, flat_map, fold_text, in_alphabet, is_key, keyword_form, keywords_form, unicode_form, unicode_value}
+use Rattle.langtag_keyword.proofs.Common.{before_key, extension_found, find_extension, flat_map, fold_text, in_alphabet, is_key, keyword_form, keywords_form, unicode_form, unicode_value}
 use Rattle.langtag_keyword.specs.Form.{keys_in_order}
 use Rattle.langtag_keyword.specs.Keywords.{subtags_of}
 use Rattle.langtag_keyword.proofs.AlphabetLaws.{each-back}
-use Rattle.langtag_keyword.proofs.FormRecords.{Good, good-unicode_form}
+use Rattle.langtag_keyword.proofs.FormRecords.{Good, good-changed, good-unicode_form}
+use Rattle.langtag_posix.proofs.PosixNameRead.{capital_region}
 use Rattle.langtag_locale.specs.Resolved.{Wish, from_greater, is_greater_key, is_likely_with, likely_script, new_region, resolved_record, resolved_subtags, script_with, remaining_subtags, with_keywords}
 
 -- ---- parts
@@ -81,14 +77,6 @@ script_fits r region fits = by_tests (length region == 0) (is_read r.primary r.e
         script_by r (add_likely_subtags (fields_of r))
         (subst (λ read. IsWellFormed (option_map_or (put_fields r) (cond read (add_likely_subtags (fields_of r)) None) r)) is (maximal_well_formed r fits)) fits.script
 
-pub capital-fold : (text : List ℕ) → fold_text (capital_text text) ≡ fold_text text
-unfolding fold_byte
-capital-fold [] = refl
-capital-fold (b ∷ text) = rw (lowercase-uppercase b, capital-fold text) refl
-
-capital_region : (region : List ℕ) → is_region region ≡ true → is_region (capital_text region) ≡ true
-capital_region region is = alike_region region (capital_text region) ((are_alike-decides region (capital_text region)).1 (sym (capital-fold region))) is
-
 region_fits :
     (r : Record) (region : List ℕ) → IsWellFormed r → is_region_field region ≡ true → IfSome (or_else (subtag_of (capital_text (new_region r region))) r.region) (λ s. IsTrue (is_region s))
 region_fits r [] fits is = grind (arith, common_steps, nat_tests, fits.region)
@@ -129,18 +117,6 @@ module _ (P : List ℕ → Type 0) where
 good_resolved : (w : Wish) (ss : List (List ℕ)) → Good w.unicode → Good ss → Good (resolved_subtags w ss)
 good_resolved w ss own = each_resolved_subtag _ w ss (good-unicode_form w.unicode own)
 
-good_extension : (singleton : ℕ) (ss : List (List ℕ)) → is_singleton singleton ≡ true → Good ss → AllByRecursion IsWellFormedExtension (extension_of singleton ss)
-good_extension singleton ss is good = grind (arith, nat_tests)
-
-u_singleton : is_singleton 117 ≡ true
-unfolding is_singleton is_letter is_digit is_mark
-u_singleton = refl
-
-module _ (change : List (List ℕ) → List (List ℕ)) (keeps : (ss : List (List ℕ)) → Good ss → Good (change ss)) where
-  good_changed : (stands : Bool) (es : List Extension) → AllByRecursion IsWellFormedExtension es → AllByRecursion IsWellFormedExtension (changed_from change stands es)
-  good_changed stands [] fits = good_extension 117 (change []) u_singleton (keeps [] tt)
-  good_changed stands (e ∷ es) fits = grind (arith, common_steps, good_changed stands es fits.1, good_extension, u_singleton, each-append, fits.0)
-
 pub resolved_well : (w : Wish) (r : Record) → IsWellFormed r → is_region_field w.region ≡ true → Good w.unicode → IsWellFormed (resolved_record w r)
 unfolding resolved_record
 resolved_well w r fits region own = record {
@@ -151,7 +127,7 @@ resolved_well w r fits region own = record {
   script = script_fits r (new_region r w.region) fits;
   region = region_fits r w.region fits region;
   variants = fits.variants;
-  extensions = good_changed (resolved_subtags w) (λ ss good. good_resolved w ss own good) _ r.extensions fits.extensions;
+  extensions = good-changed (resolved_subtags w) (λ ss good. good_resolved w ss own good) _ r.extensions fits.extensions;
   private_use = fits.private_use;
 }
 

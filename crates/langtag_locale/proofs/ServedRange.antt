@@ -18,7 +18,8 @@ use Rattle.langtag_locale.proofs.ChangedUnicode.{changed-settled, changed-subtag
 use Rattle.langtag_locale.proofs.MergedKeywords.{resolved-twice, resolved-value}
 use Rattle.langtag_locale.proofs.RangeLaws.{known_locale}
 use Rattle.langtag_locale.proofs.ResolvedLaws.{resolved-none}
-use Rattle.langtag_locale.proofs.ResolvedRecords.{capital-fold, part_again}
+use Rattle.langtag_posix.proofs.PosixNameRead.{capital-fold}
+use Rattle.langtag_locale.proofs.ResolvedRecords.{part_again}
 use Rattle.langtag_locale.proofs.ResolvedTexts.{IsAllowed, asked_allowed, asked_well, each_resolved, wish_allowed}
 use Rattle.langtag_locale.proofs.WrittenScript.{script_some}
 

@@ -14,7 +14,8 @@ use Rattle.langtag_likely.specs.Maximal.{fields_of, if_read, is_read, maximal_re
 use Rattle.langtag_locale.specs.LocaleForm.{other_region}
 use Rattle.langtag_locale.specs.Resolved.{Wish, is_likely_with, likely_script, new_region, resolved_record, resolved_subtags, wish_for}
 use Rattle.langtag_locale.specs.ResolvedLaws.{EachResolved, IsInOneScript, full_script}
-use Rattle.langtag_locale.proofs.ResolvedRecords.{capital-fold, part_again}
+use Rattle.langtag_posix.proofs.PosixNameRead.{capital-fold}
+use Rattle.langtag_locale.proofs.ResolvedRecords.{part_again}
 use Rattle.langtag_locale.proofs.ResolvedTexts.{IsAllowed, asked_allowed, each_resolved, known-twice}
 
 -- ---- the maximal form

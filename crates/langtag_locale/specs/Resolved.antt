@@ -11,15 +11,16 @@ use Rattle.langtag_keyword.specs.Form.{has_subdivision, is_before, keyword_form,
 use Rattle.langtag_keyword.specs.Keywords.{before_key, is_key, subtags_of}
 use Rattle.langtag_likely.specs.Maximal.{fields_of, is_read}
 use Rattle.langtag_posix.specs.Posix.{IsTagOfName, NamesTag}
-use Rattle.langtag_locale.specs.Locale.{IsLocale}
+use Rattle.langtag_likely.specs.Marked.{as_read}
+use Rattle.langtag_locale.specs.Locale.{IsReadLocale}
 use Rattle.langtag_locale.specs.LocaleForm.{IsLocaleForm, IsWholeForm, identifier_form, other_region, record_fields}
 
 -- ---- the range
 
--- a text is a tag, and this is a Unicode locale identifier that has the form of the tag
+-- a text is a tag, and this is a Unicode locale identifier, as it is read, that has the form of the tag
 pub record HasLocale (text locale : List ℕ) : Type 0 where
   pub is_tag : IsTag text
-  pub is_locale : IsLocale locale
+  pub is_locale : IsReadLocale locale
   pub same_form : (form : List ℕ) → IsLocaleForm locale (Some form) → IsWholeForm text (Some form)
 
 -- a text has no form, or is not a tag
@@ -46,7 +47,7 @@ pub record Wish : Type 0 where
 
 -- what a Unicode locale identifier asks for: the region of its form, and its keywords; `ZZ` counts as no region
 abbrev pub wish_of : Record → Wish
-wish_of r = record { region = known (codes "ZZ") (identifier_form r.variants (record_fields r)).region; unicode = subtags_of 117 r }
+wish_of r = record { region = known (codes "ZZ") (identifier_form r.variants (record_fields (as_read r))).region; unicode = subtags_of 117 r }
 
 -- what is asked of a tag: if its language is `und`, its region stays
 abbrev pub wish_for : Record → Wish → Wish
