@@ -79,7 +79,7 @@ impl LanguageRange<'_> {
     }
 
     /// Returns what [`matches_extended`](Self::matches_extended) returns, as [`LangTag::matches`]
-    /// does. Without it, this would be the method of `str`, which searches a pattern.
+    /// does. Without this method, `matches` would be that of `str`, which searches for a pattern.
     ///
     /// ```
     /// use langtag::{LangTag, LanguageRange};
@@ -111,7 +111,8 @@ pub fn wanted_ranges(header: &(impl AsRef<[u8]> + ?Sized)) -> WantedRanges<'_> {
 /// Returns an iterator over the tags that match one of some language ranges by basic filtering
 /// ([RFC 4647 section 3.3.1]): first those that match the first range. No entry comes twice.
 ///
-/// A string that is not a language range matches nothing, and one that is not a tag never matches.
+/// A string that is not a language range matches nothing, and a string that is not a tag never
+/// matches.
 ///
 /// ```
 /// use langtag::matching::filter_basic;
