@@ -115,7 +115,7 @@ start-is_form ss is = language-is_form (before_key is_field_key ss) (both (is_la
 
 -- ---- extensions
 
-unicode_allowed : (e : Extension) → is_of 117 e ≡ true → is_locale_extension e ≡ true → list_all is_unicode_subtag e.subtags ≡ true
+pub unicode_allowed : (e : Extension) → is_of 117 e ≡ true → is_locale_extension e ≡ true → list_all is_unicode_subtag e.subtags ≡ true
 unicode_allowed e one allowed = sym (ap (λ x. cond x (list_all is_unicode_subtag e.subtags) (cond (is_of 116 e) (is_transform e.subtags) true)) one) ∙ allowed
 
 form-allowed : (e : Extension) → IsWellFormedExtension e → is_locale_extension e ≡ true → is_locale_extension (locale_extension_form e) ≡ true

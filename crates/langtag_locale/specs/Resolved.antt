@@ -77,22 +77,23 @@ script_with r region =
 
 -- ---- the keywords
 
--- whether `rg` and `sd` of the tag go: the range has a region, or `rg`
-abbrev pub moves : Wish → Bool
-moves w = not (length w.region == 0) || list_any (are_alike (codes "rg")) w.unicode
+-- whether `rg` and `sd` of the tag are removed: the range has a region, or `rg`
+abbrev pub removes_subdivisions : Wish → Bool
+removes_subdivisions w = not (length w.region == 0) || list_any (are_alike (codes "rg")) w.unicode
 
--- whether the keywords of a key go
+-- whether the keywords of a key are removed
 abbrev pub is_replaced : Wish → List ℕ → Bool
-is_replaced w key = list_any (are_alike key) w.unicode || (moves w && has_subdivision key)
+is_replaced w key = list_any (are_alike key) w.unicode || (removes_subdivisions w && has_subdivision key)
 
--- whether a subtag goes, given whether the subtag before it does
-abbrev pub goes : Wish → Bool → List ℕ → Bool
-goes w gone subtag = if is_key subtag then is_replaced w subtag else gone
+-- whether a subtag belongs to a keyword that is removed; `inside` says whether the subtag before it does
+abbrev pub belongs_to_removed : Wish → Bool → List ℕ → Bool
+belongs_to_removed w inside subtag = if is_key subtag then is_replaced w subtag else inside
 
--- the subtags of `u` that stay
-abbrev pub staying : Wish → Bool → List (List ℕ) → List (List ℕ)
-staying w gone [] = []
-staying w gone (subtag ∷ subtags) = if goes w gone subtag then staying w true subtags else subtag ∷ staying w false subtags
+-- the subtags of `u` without the keywords that are removed
+abbrev pub remaining_subtags : Wish → Bool → List (List ℕ) → List (List ℕ)
+remaining_subtags w inside [] = []
+remaining_subtags w inside (subtag ∷ subtags) =
+    if belongs_to_removed w inside subtag then remaining_subtags w true subtags else subtag ∷ remaining_subtags w false subtags
 
 -- whether a subtag is a key that is greater than a key
 abbrev pub is_greater_key : List ℕ → List ℕ → Bool
@@ -110,7 +111,7 @@ with_keywords keyword (key ∷ keys) others = before_key (is_greater_key key) ot
 
 -- the subtags of `u` that stay, with the keywords of the range in canonical form
 abbrev pub resolved_subtags : Wish → List (List ℕ) → List (List ℕ)
-resolved_subtags w subtags = with_keywords (keyword_form is_key unicode_value w.unicode) (keys_in_order is_key w.unicode) (staying w false subtags)
+resolved_subtags w subtags = with_keywords (keyword_form is_key unicode_value w.unicode) (keys_in_order is_key w.unicode) (remaining_subtags w false subtags)
 
 -- ---- the tag
 
