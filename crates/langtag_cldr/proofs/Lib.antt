@@ -4,6 +4,7 @@ pub mod CanonicalFields
 pub mod CommonTexts
 pub mod FieldClasses
 pub mod LanguageBits
+pub mod MarkFolds
 pub mod RowLaws
 pub mod TableRows
 pub mod WholeTags
