@@ -116,7 +116,7 @@ struct key_value {
     friend bool operator!=(const key_value &a, const key_value &b) noexcept { return !(a == b); }
 };
 
-/* A temporary string. Functions that keep a view have a deleted overload for it. */
+/* A temporary string. Functions that keep a view of their argument have a deleted overload for temporary strings. */
 template <class Allocator> using temporary_string = const std::basic_string<char, std::char_traits<char>, Allocator> &&;
 
 /* Returns what a call writes for a string and other arguments. The call writes into a buffer on the stack, and again if the buffer was
@@ -195,7 +195,7 @@ public:
     std::vector<key_value> fields() const { return pairs(langtag_next_field); }
 
     /* Returns the string of the tag with one part changed; an empty string removes the part. Returns std::nullopt if the tag is not a
-     * normal tag, or the string is not such a part. */
+     * normal tag, or the part is malformed. */
     std::optional<std::string> with(langtag::part which, std::string_view given) const {
         return unless_empty(written(langtag_with_part, static_cast<std::uint32_t>(which), langtag_bytes(given.data()), given.size()));
     }
@@ -255,12 +255,12 @@ public:
     std::string minimized() const { return written(langtag_minimized); }
 
     /* Returns the POSIX locale name for the tag: sr_RS@latin for sr-Latn-RS, zh_TW for zh-Hant-TW. Returns std::nullopt if no name
-     * expresses the whole tag, for example because it has extensions; base() has no extensions. The codeset is the caller's. */
+     * expresses the whole tag, for example because it has extensions; base() has no extensions. Add the codeset yourself. */
     std::optional<std::string> to_posix() const { return unless_empty(written(langtag_to_posix)); }
 
     /* Returns the parent of the tag in CLDR, which a catalogue of strings asks next: pt-PT for pt-AO, zh-Hant for zh-TW. Returns
-     * std::nullopt if there is none, such as for pt. If CLDR lists the language and does not replace the region, as it does UK, the parent
-     * is written in the same script, so zh-Hant has none. */
+     * std::nullopt if there is none, such as for pt. If CLDR lists the language and does not replace the region (CLDR replaces UK), the
+     * parent is written in the same script, so zh-Hant has none. */
     std::optional<std::string> parent() const { return unless_empty(written(langtag_parent)); }
 
     /* Returns the tag and its parents, in the order in which to search a catalogue: pt-AO, pt-PT and pt for pt-AO. The comment of
@@ -387,8 +387,8 @@ inline std::string folded(std::string_view text) {
     return made;
 }
 
-/* Returns the string of the tag made of these parts; empty parts are left out. Returns std::nullopt if a string is not such a part, or
- * if there is no language. */
+/* Returns the string of the tag made of these parts; empty parts are left out. Returns std::nullopt if a part is malformed, or if there is
+ * no language. */
 inline std::optional<std::string> from_parts(std::string_view language, std::string_view script = {},
                                              std::string_view region = {}, std::string_view variants = {},
                                              std::string_view extension = {}, std::string_view private_use = {}) {
@@ -434,8 +434,8 @@ public:
     std::optional<std::string> parent() const { return view().parent(); }
     std::vector<std::string> parents() const { return view().parents(); }
 
-    /* Changes one part; an empty string removes it. Returns false and leaves the tag unchanged if it is not a normal tag, or the string
-     * is not such a part. */
+    /* Changes one part; an empty string removes it. If the tag is not a normal tag, or the part is malformed, returns false and leaves the
+     * tag unchanged. */
     bool set(part which, std::string_view given) { return take(view().with(which, given)); }
 
     /* Set and remove a keyword of the extension u. They return false and leave the tag unchanged if with_keyword or without_keyword
@@ -532,7 +532,7 @@ public:
         return langtag::matched(at(index), index, header, match);
     }
 
-    /* Returns the suitable tags for a header or for a list of ranges, best first, and at most so many. */
+    /* Returns the suitable tags for a header or for a list of ranges, best first. `most` limits their number. */
     std::vector<tag> suitable(std::string_view header, std::size_t most) const {
         return all(most, langtag_suitable_for_header, langtag_bytes(header.data()), header.size());
     }
@@ -757,7 +757,7 @@ inline std::optional<tag> look_up(const std::vector<range> &ranges, const std::v
 
 inline std::string_view text_of(const range &range) noexcept { return range.text(); }
 
-/* Whether the strings of a list live longer than a call with the list: views do, and owners do in a list that is not a temporary. */
+/* Whether the strings of a list outlive a call with the list. Views do, and so do owners, unless the list is a temporary. */
 template <class List, class Element = decltype(*std::begin(std::declval<List &>())), class Plain = std::decay_t<Element>>
 inline constexpr bool stays = std::is_same_v<Plain, tag> || std::is_base_of_v<std::string_view, Plain> || std::is_pointer_v<Plain> ||
                               (std::is_lvalue_reference_v<List> && std::is_lvalue_reference_v<Element>);
@@ -765,7 +765,7 @@ inline constexpr bool stays = std::is_same_v<Plain, tag> || std::is_base_of_v<st
 /* A list of strings in braces. */
 using texts = std::initializer_list<std::string_view>;
 
-/* A tag or a string of a list in braces. Owners that are temporaries are refused, because the result of the call is a view. */
+/* A tag or a string of a list in braces. A temporary that owns its string does not compile, because the result of the call is a view. */
 struct lasting : std::string_view {
     template <class Text, class = decltype(text_of(std::declval<const Text &>()))> lasting(const Text &text) : std::string_view(text_of(text)) {}
     template <class Allocator> lasting(temporary_string<Allocator>) = delete;
@@ -778,14 +778,15 @@ using lasting_texts = std::initializer_list<lasting>;
  * langtag.h decide, and then the order of the list.
  *
  * The tags are a list of tag, owned_tag, strings or views, such as {"en", "zh-Hant"}. A string that is not a tag is skipped. The
- * result is a view, so the compiler refuses temporary owners. */
+ * result is a view, so a temporary std::string or owned_tag in the list does not compile. */
 template <class Tags = lasting_texts, std::enable_if_t<stays<Tags>, int> = 0>
 std::optional<tag> best_for_header(std::string_view header, Tags &&tags) {
     return listed_tags(tags).chosen(langtag_best_for_header, header);
 }
 
 /* Returns the best tag for a header, as best_for_header does, with its index, the range that it serves, and the distance from that
- * range. A video player needs the index of the track, and the distance shows whether it has the language or only a near one. */
+ * range. For example, a video player needs the index of the track. The distance shows whether the track has the language itself or one
+ * near it. */
 template <class Tags = lasting_texts, std::enable_if_t<stays<Tags>, int> = 0>
 std::optional<best_match> match_for_header(std::string_view header, Tags &&tags) {
     return listed_tags(tags).matched(header);
@@ -804,7 +805,7 @@ std::optional<tag> best_for_ranges(const Ranges &ranges, Tags &&tags) {
 inline constexpr std::size_t all_suitable = static_cast<std::size_t>(-1);
 
 /* Returns all suitable tags for a header, best first: the tag that best_for_header chooses, the tag that it chooses among the other
- * tags, and so on. If `most` is given, it returns so many of the best. A player offers its tracks in this order. */
+ * tags, and so on. `most` limits the number of tags. A player offers its tracks in this order. */
 template <class Tags = lasting_texts, std::enable_if_t<stays<Tags>, int> = 0>
 std::vector<tag> suitable_for_header(std::string_view header, Tags &&tags, std::size_t most = all_suitable) {
     return listed_tags(tags).suitable(header, most);
@@ -816,8 +817,8 @@ std::vector<tag> suitable_for_ranges(const Ranges &ranges, Tags &&tags, std::siz
     return listed_tags(tags).suitable(listed_tags(ranges), most);
 }
 
-/* The tags of a site that are known before the requests. What a choice needs of each tag is computed once, so a choice among
- * 40 tags takes about half as many instructions. It returns what best_for_header and similar functions return for the same tags.
+/* The tags of a site that are known before the requests. Each tag is prepared once, so a choice among 40 tags takes about 40 % fewer
+ * instructions. The calls return what best_for_header and similar functions return for the same tags.
  *
  *     static const langtag::site site({"en", "zh-Hans", "zh-Hant"});
  *     site.best_for_header("zh-TW,zh;q=0.9,en;q=0.8")->text(); // "zh-Hant"
@@ -879,7 +880,7 @@ public:
 private:
     std::optional<tag> at(std::size_t index) const { return index < tags_.size() ? (*this)[index] : std::nullopt; }
 
-    /* Returns the prepared tags. The pointer is not null, as data() of an empty vector is. */
+    /* Returns the prepared tags. Unlike data() of an empty vector, the pointer is never null. */
     const langtag_prepared_tag *prepared() const {
         static constexpr langtag_prepared_tag none = {};
         return tags_.empty() ? &none : tags_.data();
@@ -895,7 +896,7 @@ struct weighted_range {
     std::uint32_t weight;
 };
 
-/* The part of an element of a header that is malformed. If range and weight are both malformed, it is the range. */
+/* Which part of a header's element is malformed. If range and weight are both malformed, it is the range. */
 enum class element_part : std::uint32_t { range = LANGTAG_ACCEPTED_BAD_RANGE, weight = LANGTAG_ACCEPTED_BAD_WEIGHT };
 
 /* A malformed element of a header: the number of commas before it, the offset of its first byte, and the malformed part. */
@@ -940,7 +941,7 @@ public:
     }
 
     /* Returns the best tag for the ranges by language distance, as best_for_ranges does. Malformed elements and ranges of weight 0 are
-     * not among the ranges. So de_CH is not repaired and de-CH;q=0 excludes nothing. best_for_header does both. */
+     * not among the ranges. So de_CH is not repaired, and de-CH;q=0 excludes nothing. Only best_for_header repairs and excludes. */
     template <class Tags = lasting_texts, std::enable_if_t<stays<Tags>, int> = 0> std::optional<tag> best(Tags &&tags) const {
         std::vector<range> wanted;
         for (const weighted_range &it : ranges()) wanted.push_back(it.range);

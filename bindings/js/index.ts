@@ -1,5 +1,6 @@
 /**
  * Parses, compares, edits and matches language tags (BCP 47: RFC 5646, RFC 4647), and picks the best language for an Accept-Language
+ * header.
  *
  *     const tag = LanguageTag.parse("zh-yue-Hant-HK-u-co-pinyin-x-mine");
  *     [tag.primaryLanguage, tag.script, tag.region];                              // ["zh", "Hant", "HK"]
@@ -8,8 +9,9 @@
  *     bestForHeader("zh-TW,zh;q=0.9,en;q=0.8", ["en", "zh-Hans", "zh-Hant"]);     // "zh-Hant"
  *
  * Offsets and lengths count UTF-16 code units, as in JavaScript's strings. `isValid`, `invalidSubtag`, `isCanonical`, `canonical`,
- * `localeForm`, `describe` and `autonym` use the IANA registry, and other calls at most its extended languages and the tags that it replaces as a whole. Functions that take a tag or a range also accept a string. An invalid string throws `InvalidTag` or
- * `InvalidRange`, and any other value throws a `TypeError`.
+ * `localeForm`, `describe` and `autonym` use the IANA registry. Of the registry, other calls use at most the extended languages and the
+ * list of replaced tags, such as i-klingon. Functions that take a tag or a range also accept a string. An invalid string throws
+ * `InvalidTag` or `InvalidRange`, and any other value throws a `TypeError`.
  */
 
 import * as calls from "./calls.js";
@@ -184,8 +186,8 @@ export class InvalidRange extends RangeError {
 }
 
 /**
- * Thrown if a part or a keyword cannot be changed. `text` is not such a part, or is undefined if the tag is not a normal tag. For keywords,
- * `part` is "keywords", or the "key" or "value" that is wrong.
+ * Thrown if a part or a keyword cannot be changed. `part` names the part that is malformed, and `text` is its string, or undefined if the
+ * tag is not a normal tag. For keywords, `part` is "keywords", or the "key" or "value" that is wrong.
  */
 export class EditError extends RangeError {
     declare readonly part: keyof Parts | "key" | "value";
@@ -201,8 +203,8 @@ export class EditError extends RangeError {
     }
 }
 
-/** Thrown if a header has a malformed element. It has the number of commas before the element, the offset of its first byte,
- * and which part is malformed. */
+/** Thrown if a header has a malformed element. `index` is the number of commas before the element, `offset` is where it begins, and `part`
+ * says what is malformed. */
 export class AcceptLanguageError extends RangeError {
     declare readonly header: string;
     declare readonly index: number;
@@ -301,7 +303,7 @@ export class LanguageTag {
         return calls.kind(textOf(text)) !== 0;
     }
 
-    /** Returns the tag made of these parts; throws EditError if a string is not such a part. */
+    /** Returns the tag made of these parts; throws EditError if a part is malformed. */
     static from(parts: Parts & { language: string }): LanguageTag {
         if (parts.language === undefined) throw new TypeError("expected a language, got undefined");
         return new LanguageTag("und").with(parts);
@@ -455,7 +457,7 @@ export class LanguageTag {
         return calls.isCanonical(this.text);
     }
 
-    /** Returns the canonical form (RFC 5646 section 4.5) in the recommended case, according to that registry: iw becomes he. */
+    /** Returns the canonical form (RFC 5646 section 4.5) in the recommended case, according to the registry of REGISTRY_DATE: iw becomes he. */
     canonical(): LanguageTag {
         return new LanguageTag(calls.canonical(this.text));
     }
@@ -511,8 +513,8 @@ export class LanguageTag {
 
     /**
      * The parent of the tag in CLDR, which a catalogue of strings asks next, or undefined if there is none: pt-PT for pt-AO, zh-Hant for zh-TW.
-     * If CLDR lists the language and does not replace the region, as it does UK, the parent is written in the same script. So zh-Hant has none:
-     * zh is Simplified.
+     * If CLDR lists the language and does not replace the region (CLDR replaces UK), the parent is written in the same script. So zh-Hant has
+     * none: zh is Simplified.
      */
     get parent(): LanguageTag | undefined {
         const parent = calls.parent(this.text);
@@ -520,10 +522,12 @@ export class LanguageTag {
     }
 
     /**
-     * The tag and its parents, in the order in which to search a catalogue: zh-Hans-CN, zh-CN, zh-Hans and zh. A script that is likely anyway
-     * goes first, and comes back before the language alone. Extensions and private use go next, then the variants one by one, and then the
-     * region. The variants come back with each parent. All tags are written in the same script if CLDR lists the language and does not replace
-     * the region, as it does UK.
+     * The tag and its parents, in the order in which to search a catalogue: zh-Hans-CN, zh-CN, zh-Hans and zh. All tags are written in the
+     * same script if CLDR lists the language and does not replace the region (CLDR replaces UK).
+     *
+     * A likely script is removed first, and comes back just before the language alone. Then extensions and private use are removed, and then
+     * each variant, from the last to the first. Then the region is replaced or removed, and the variants come back: ca-ES-valencia, ca-ES,
+     * ca-valencia and ca. es-rUS, as Android writes es-US, is followed by es-US and its parents.
      *
      * If a catalogue's folders name scripts, such as zh-Hans, ask for the parents of `maximize()`, which names the script of zh-CN. CLDR does
      * not list replaced codes such as iw and cmn, nor extended languages: ask for the parents of `localeForm()`.
@@ -549,7 +553,7 @@ export class LanguageTag {
         return form === "" ? undefined : new LanguageTag(form);
     }
 
-    /** Returns the tag with other parts; throws EditError if a string is not such a part, or the tag is not a normal tag. */
+    /** Returns the tag with other parts; throws EditError if a part is malformed, or the tag is not a normal tag. */
     with(parts: Parts): LanguageTag {
         for (const name of Object.keys(parts)) {
             if (!PARTS.includes(name) && name !== "keywords") throw new TypeError(`a tag has no part ${quoted(name)}`);
@@ -575,7 +579,7 @@ export class LanguageTag {
     #withKeyword(key, value) {
         const made = withKeyword(this.text, key, value);
         if (made !== "") return new LanguageTag(made);
-        // A keyword can be set in und, so the library refuses the key or the value, if it refuses them there too.
+        // Each keyword can be set in und. So if the library refuses to set it there, too, the key or the value is wrong.
         if (withKeyword("und", key) === "") throw refusal(EditError, "key", key);
         if (value !== undefined && withKeyword("und", key, value) === "") throw refusal(EditError, "value", value);
         throw refusal(EditError, "keywords");
@@ -594,7 +598,7 @@ export class LanguageTag {
         return this.text;
     }
 
-    // Intl reads an object as a list of locales, and the list that a tag is contains only the tag.
+    // Intl reads an object as a list of locales. As a list, a tag contains only itself.
     /** 1, because Intl takes an object as a list of locales: `new Intl.NumberFormat(tag)` formats for the tag. */
     get length(): 1 {
         return 1;
@@ -743,7 +747,8 @@ export class AcceptLanguage {
 
     /**
      * Returns the best tag for the ranges by language distance, as bestForRanges does, or the last argument. Malformed elements and ranges
-     * of weight 0 are not among the ranges. So de_CH is not repaired and de-CH;q=0 excludes nothing. bestForHeader does both.
+     * of weight 0 are not among the ranges. So de_CH is not repaired, and de-CH;q=0 excludes nothing. Only bestForHeader repairs and
+     * excludes.
      */
     best<Tag extends Text>(tags: List<Tag>): Tag | undefined;
     best<Tag extends Text, Otherwise>(tags: List<Tag>, otherwise: Otherwise): Tag | Otherwise;
@@ -842,7 +847,7 @@ function suitable(choose, wanted, tags, most) {
 
 /**
  * Returns all suitable tags for a header, best first: the tag that bestForHeader chooses, the tag that it chooses among the other tags, and
- * so on. A catalogue looks for a message in this order. If `most` is given, it returns so many of the best.
+ * so on. A catalogue looks for a message in this order. `most` limits the number of tags.
  *
  *     suitableForHeader("de-CH,fr;q=0.7", ["en", "fr", "de", "de-AT"]); // ["de", "de-AT", "fr"]
  */
@@ -877,9 +882,9 @@ function rangeTexts(ranges) {
 }
 
 /**
- * The tags of a site that are known before the requests, such as the languages of its translations. What a choice needs of each tag is
- * computed once, so a choice of one tag takes less time than with a list. The methods return what the functions of the same names return for
- * the same tags. The constructor throws InvalidTag if one of them is not a tag. A site does not change.
+ * The tags of a site that are known before the requests, such as the languages of its translations. Each tag is prepared once, so a choice
+ * takes less time than with a list. The methods return what the functions of the same names return for the same tags. The constructor throws
+ * InvalidTag if one of the tags is not a tag. A site does not change.
  *
  *     const site = new Site(["en", "zh-Hans", "zh-Hant"]);
  *     site.bestForHeader("zh-TW,zh;q=0.9,en;q=0.8"); // "zh-Hant"
@@ -949,23 +954,22 @@ function languageName(code: string): string | undefined {
 /** The greatest length of a tag whose locale form is written for a name, because that takes quadratic time. */
 const LONGEST_NAMED = 262144;
 
-/** Returns the form of a tag whose subtags have the names: de for ger, and es-US for es-rUS, as Android writes it. */
+/** Returns the form of a tag whose subtags have the names: de for ger. */
 function named(tag: Text): LanguageTag {
     const read = tagOf(tag);
-    if (read.text.length > LONGEST_NAMED) return read.canonical();
-    return read.localeForm() ?? LanguageTag.fromPosix(read.text)?.localeForm() ?? read.canonical();
+    return (read.text.length > LONGEST_NAMED ? undefined : read.localeForm()) ?? read.canonical();
 }
 
 /**
- * Returns an English name of a tag, made of CLDR's names for the subtags of its locale form, or of its canonical form if it has none or has
- * more than 262,144 bytes: "Portuguese (Brazil)" for pt-BR. If CLDR does not name the language, the name is the tag's own language as
- * IANA's registry describes it: "Himachali languages" for him. A subtag without a name is shown as it is. Extensions and private use are
- * left out, but a tag that is only private use is shown as it is. For names in other languages, use `Intl.DisplayNames`.
+ * Returns an English name of a tag, made of CLDR's names for the subtags of its locale form: "Portuguese (Brazil)" for pt-BR. If there is no
+ * locale form, or the tag has more than 262,144 bytes, the canonical form is used. If CLDR does not name the language, the name is the tag's
+ * own language as IANA's registry describes it: "Himachali languages" for him. A subtag without a name is shown as it is. Extensions and
+ * private use are left out, but a tag that is only private use is shown as it is. For names in other languages, use `Intl.DisplayNames`.
  */
 export function describe(tag: Text): string {
     const form = named(tag);
     if (form.language === undefined) return form.text;
-    // The tag's own language has a name if it is replaced with one that CLDR does not name.
+    // If the tag's language is replaced with one that CLDR does not name, the tag's own language is named.
     const language = nameIn(REPLACED, (tagOf(tag).language ?? form.language).toLowerCase()) ?? languageName(form.language) ?? form.language;
     const subtags = [form.script ?? [], form.region ?? [], ...form.variants].flat().map((subtag) => nameIn(SUBTAG, subtag) ?? subtag);
     const inside = subtags.join(", ").replaceAll("(", "[").replaceAll(")", "]");
@@ -974,8 +978,8 @@ export function describe(tag: Text): string {
 
 /**
  * Returns the name of a tag's language in the language itself, from CLDR: "Deutsch" for de-DE, "繁體中文" for zh-TW. Returns undefined if
- * CLDR has none. If CLDR has a name for the language in the tag's script or region, it returns that name. The script is the tag's own, or
- * the likely script of the language in the region. If there is no name in that script, it returns undefined.
+ * CLDR has none. CLDR's name for the language in the tag's script or region is preferred. The script is the tag's own, or the likely script
+ * of the language in the region. If there is no name in that script, the result is undefined.
  */
 export function autonym(tag: Text): string | undefined {
     const form = named(tag);

@@ -177,7 +177,7 @@ pub fn suitable_for_ranges<'a>(
 /// # Errors
 ///
 /// Returns an error if more tags are suitable than the array has room for. The array then has the
-/// best. The length that is needed is at most the number of tags, which the error contains.
+/// best. The error contains the number of tags: an array of that length is always long enough.
 ///
 /// ```
 /// use langtag::choice::write_suitable;
@@ -212,7 +212,7 @@ pub fn write_suitable<'a, 'f>(
 /// the range, and other keywords of the tag stay, but `rg` and `sd` go if the range has a region.
 ///
 /// The result is the tag itself if the range asks for nothing, as `*` and `en` do. Returns `None` if
-/// the tag is not a tag.
+/// `tag` is a string that is not a tag.
 ///
 /// ```
 /// use langtag::choice::{match_for_header, resolved_locale};
@@ -229,8 +229,8 @@ pub fn resolved_locale(range: impl AsRef<[u8]>, tag: impl TagEntry) -> Option<La
     Some(or_abort(locale::resolved_locale(range.as_ref(), tag)))
 }
 
-/// Writes the locale to format with to a buffer, as `resolved_locale` returns it, and returns what
-/// was written, or `None` if the tag is not a tag.
+/// Writes the locale that `resolved_locale` returns to a buffer, and returns what was written, or
+/// `None` if `tag` is a string that is not a tag.
 ///
 /// It does not allocate.
 ///

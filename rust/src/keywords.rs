@@ -100,8 +100,8 @@ impl LangTagBuf {
     /// Removes a key of the extension `u`: without `ca`, `th-TH-u-ca-buddhist` becomes `th-TH`.
     ///
     /// The key and its repetitions are removed from the first `u`, and so is this `u` if nothing else
-    /// is in it. In a tag with several extensions `u`, which is not valid, the second is then the
-    /// first, and may have the key, too.
+    /// is in it. An invalid tag may have a second extension `u`. It then becomes the first, and may
+    /// contain the key, too.
     ///
     /// # Errors
     ///

@@ -62,8 +62,8 @@
 //! sorts after every longer tag that begins with it: `de-AT` comes before `de`. [`CaselessText`]
 //! searches a map by a string.
 //!
-//! Tags deref to `str`, so `len`, `starts_with` and other methods of `str` are there. But the `==`
-//! of a `str` does not ignore case, so `as_deref()` of an optional tag compares with its case:
+//! Tags deref to `str`, so `len`, `starts_with` and other methods of `str` are there. But `==` of a
+//! `str` is case-sensitive, and so is `==` of an optional tag's `as_deref()`:
 //!
 //! ```
 //! use langtag::LangTagBuf;

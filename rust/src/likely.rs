@@ -91,10 +91,10 @@ pub fn unknown_modifier(name: &(impl AsRef<[u8]> + ?Sized)) -> Option<&[u8]> {
 /// The modifiers are `latin`, `cyrillic`, `devanagari`, `valencia`, `tarask`, `polyton`, `ijekavian`
 /// and `ijekavianlatin`. A likely script is left out. Another script or variant has no name, nor have
 /// extensions other than `u-va-posix`, private use, extended languages, languages of more than three
-/// letters, and `und`. To leave extensions out, ask for the name of [`LangTag::base`]. The codeset
-/// is the caller's, as in `pt_BR.UTF-8`.
+/// letters, and `und`. To leave extensions out, ask for the name of [`LangTag::base`]. Add the
+/// codeset yourself, as in `pt_BR.UTF-8`.
 ///
-/// [`from_posix`] reads the name as the same tag, in its recommended case, without a script that was
+/// [`from_posix`] reads the name as this tag in the recommended case, without the script that was
 /// left out.
 ///
 /// ```
@@ -165,10 +165,13 @@ pub fn write_parent<'a, 'b>(
 /// An iterator over a tag and its parents, in the order in which a catalogue looks for a string.
 ///
 /// All of them are written in the same script if CLDR lists the language and does not replace the
-/// region, as it does `UK`. So `zh-TW` is followed by `zh-Hant`, and never by `zh`. A script that
-/// is likely anyway goes first, and comes back before the language alone. Extensions and private
-/// use go next, then each variant, the last one first, and then the region. The variants come back
-/// with each parent. Case is ignored.
+/// region (CLDR replaces `UK`). So `zh-TW` is followed by `zh-Hant`, and never by `zh`.
+///
+/// A likely script is removed first, and comes back just before the language alone: `zh-Hans-CN`,
+/// `zh-CN`, `zh-Hans`, `zh`. Then extensions and private use are removed, and then each variant,
+/// from the last to the first. Then the region is replaced or removed, and the variants come back:
+/// `en-GB-oxendict`, `en-GB`, `en-001-oxendict`, `en-001`, `en-oxendict`, `en`. Case is ignored.
+/// `es-rUS`, as Android writes `es-US`, is followed by `es-US` and its parents.
 ///
 /// If a catalogue's folders name scripts, such as `zh-Hans`, ask for the parents of
 /// [`LangTag::maximized`], which names the script of `zh-CN`. CLDR does not list replaced codes such as `iw` and `cmn`, nor
@@ -207,7 +210,7 @@ impl Iterator for Parents<'_> {
 #[cfg(feature = "alloc")]
 impl core::iter::FusedIterator for Parents<'_> {}
 
-/// The room for most tags. A longer tag is written twice, first for its length.
+/// The room for most tags. A longer tag is written twice: the first time shows its length.
 #[cfg(feature = "alloc")]
 const USUAL_ROOM: usize = 32;
 

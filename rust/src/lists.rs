@@ -122,8 +122,8 @@ mod of_tags {
     }
 }
 
-/// Language ranges in order of preference, as any type with a string. Strings that are not language
-/// ranges are skipped.
+/// Language ranges in order of preference, of any type that contains a string. Strings that are not
+/// language ranges are skipped.
 #[derive(Debug)]
 pub struct Ranges<'a, R>(pub(crate) &'a [R]);
 

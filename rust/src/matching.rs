@@ -77,21 +77,6 @@ impl LanguageRange<'_> {
     pub fn matches_extended<'t>(self, tag: impl Into<LangTag<'t>>) -> bool {
         self.is_extended_match(&tag.into())
     }
-
-    /// Returns what [`matches_extended`](Self::matches_extended) returns, as [`LangTag::matches`]
-    /// does. Without it, this would be the method of `str`, which searches a pattern.
-    ///
-    /// ```
-    /// use langtag::{LangTag, LanguageRange};
-    ///
-    /// assert!(LanguageRange::new("*-DE")?.matches(LangTag::new("de-Latn-DE")?));
-    /// # Ok::<(), Box<dyn std::error::Error>>(())
-    /// ```
-    #[inline]
-    #[must_use]
-    pub fn matches<'t>(self, tag: impl Into<LangTag<'t>>) -> bool {
-        self.matches_extended(tag)
-    }
 }
 
 /// Returns the ranges of an `Accept-Language` header with their weights, in order. A malformed
@@ -111,7 +96,8 @@ pub fn wanted_ranges(header: &(impl AsRef<[u8]> + ?Sized)) -> WantedRanges<'_> {
 /// Returns an iterator over the tags that match one of some language ranges by basic filtering
 /// ([RFC 4647 section 3.3.1]): first those that match the first range. No entry comes twice.
 ///
-/// A string that is not a language range matches nothing, and one that is not a tag never matches.
+/// A string that is not a language range matches nothing, and a string that is not a tag never
+/// matches.
 ///
 /// ```
 /// use langtag::matching::filter_basic;

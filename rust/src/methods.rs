@@ -38,7 +38,7 @@ impl LangTag<'_> {
     }
 }
 
-/// What needs the registry and CLDR's data.
+/// The methods that need the registry's and CLDR's data.
 #[cfg(feature = "data")]
 impl<'a> LangTag<'a> {
     /// Checks that the tag is valid, as [`registry::validate`] does.
@@ -54,15 +54,15 @@ impl<'a> LangTag<'a> {
     /// assert_eq!(error.suggestion(), Some("de"));
     /// # Ok::<(), Box<dyn std::error::Error>>(())
     /// ```
-    pub fn validate(self) -> Result<(), InvalidSubtag<&'a str>> {
+    pub fn validate(self) -> Result<(), InvalidSubtag> {
         registry::validate(self)
     }
 
     /// Returns the distance from this tag, which a user wants, to the tag that a site has.
     ///
-    /// It is 0 if language, script and region are equal, with their likely subtags: from `zh-TW` to
-    /// `zh-Hant`. Up to 15, it is the same language, perhaps in another region or script, or one that
-    /// is nearly the same. Below 50, most users of this language read the supported one. It is at most
+    /// It is 0 if language, script and region are equal after likely subtags are added: from `zh-TW`
+    /// to `zh-Hant`. Up to 15, the languages are the same or nearly the same, perhaps with another
+    /// region or script. Below 50, most users of this tag's language read the other. It is at most
     /// 134, or [`FORMLESS_DISTANCE`](choice::FORMLESS_DISTANCE) if the tags differ and one of them is
     /// only `und`, is a private-use tag, or is `i-default`, `i-enochian` or `i-mingo`. Variants,
     /// extensions and private use are ignored. A tag that the registry replaces as a whole is compared
@@ -199,7 +199,7 @@ methods! {
 
     /// Returns the tag with its likely script and region: `el-Grek-GR` for `und-Grek`.
     ///
-    /// If there are none, or the tag has both, it returns the tag.
+    /// If none are known, or the tag has both, it returns the tag unchanged.
     ///
     /// ```
     /// use langtag::LangTag;

@@ -19,13 +19,13 @@ use alloc::string::String;
 use alloc::vec::Vec;
 
 use self::data::{INDEX, PAIRS, ROWS};
-use crate::likely::from_posix;
 use crate::{LangTag, LangTagBuf, NormalLangTag, Script};
 
 /// Returns an English name of a tag, made of CLDR's names for the subtags of its
-/// [`LangTag::locale_form`], or of its canonical form if it has none or has more than 262,144 bytes.
+/// [`LangTag::locale_form`].
 ///
-/// If CLDR does not name the language, the name is the tag's own language as IANA's registry describes
+/// If there is no locale form, or the tag has more than 262,144 bytes, the canonical form is used. If
+/// CLDR does not name the language, the name is the tag's own language as IANA's registry describes
 /// it. A subtag without a name is shown as it is. Extensions and private use are left out, but a tag
 /// that is only private use is shown as it is.
 ///
@@ -74,15 +74,11 @@ pub fn describe<'a>(tag: impl Into<LangTag<'a>>) -> String {
 /// quadratic time.
 const LONGEST: usize = 262_144;
 
-/// Returns the form of a tag whose subtags have the names: `de` for `ger`, as in [`LangTag::locale_form`],
-/// and `es-US` for `es-rUS`, as Android writes it, and as a choice reads it.
+/// Returns the form of a tag whose subtags have the names: `de` for `ger`, and `es-US` for `es-rUS`, as
+/// in [`LangTag::locale_form`].
 fn form_of(tag: LangTag<'_>) -> LangTagBuf {
-    if tag.as_str().len() > LONGEST {
-        return tag.canonical();
-    }
-    tag.locale_form()
-        .or_else(|| from_posix(tag.as_str()).ok()?.locale_form())
-        .unwrap_or_else(|| tag.canonical())
+    let form = (tag.as_str().len() <= LONGEST).then(|| tag.locale_form());
+    form.flatten().unwrap_or_else(|| tag.canonical())
 }
 
 /// Returns the subtags that a name has in parentheses.
@@ -165,9 +161,9 @@ fn bracketed(byte: u8) -> u8 {
 
 /// Returns the name of a tag's language in the language itself, from CLDR, or `None` if CLDR has none.
 ///
-/// If CLDR has a name for the language in the tag's script or region, it returns that name. The script
-/// is the tag's own, or the likely script of the language in the region. If there is no name in that
-/// script, it returns `None`.
+/// CLDR's name for the language in the tag's script or region is preferred. The script is the tag's
+/// own, or the likely script of the language in the region. If there is no name in that script, the
+/// result is `None`.
 ///
 /// ```
 /// use langtag::names::autonym;

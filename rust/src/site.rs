@@ -7,9 +7,9 @@ use alloc::vec::Vec;
 
 /// The tags of a site that are known before the requests.
 ///
-/// What a choice needs of each tag is computed once, so each choice takes less time. It returns the
-/// same tag as [`best_for_header`](crate::choice::best_for_header) and similar functions, which
-/// explain weights, limits and ties. List the tags in the order that you prefer.
+/// Each tag is prepared once, so each choice takes less time. The choices are those of
+/// [`best_for_header`](crate::choice::best_for_header) and similar functions, whose documentation
+/// explains weights, limits and ties. List the tags in the order that you prefer.
 ///
 /// A `Site` does not change, so threads can share it. If the tags change, make a new `Site`.
 ///

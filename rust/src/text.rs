@@ -27,9 +27,8 @@ macro_rules! borrowed {
 /// Implements the views of a type over a string.
 macro_rules! viewed {
     ($name:ty) => {
-        /// Gives access to the methods of `str`, such as `len` and `starts_with`. A `str` has a case:
-        /// unlike `==` of this type, `==` of a `str` does not ignore it, nor does `==` of what
-        /// `Option::as_deref` returns.
+        /// Gives access to the methods of `str`, such as `len` and `starts_with`. Unlike `==` of this
+        /// type, `==` of a `str` is case-sensitive, and so is `==` of what `Option::as_deref` returns.
         impl Deref for $name {
             type Target = str;
 
