@@ -26,9 +26,9 @@ use crate::{LangTag, LangTagBuf, NormalLangTag, Script};
 /// [`LangTag::locale_form`].
 ///
 /// If there is no locale form, or the tag has more than 262,144 bytes, the canonical form is used. If
-/// CLDR does not name the language, the name is the tag's own language as IANA's registry describes
-/// it. A subtag without a name is shown as it is. Extensions and private use are left out, but a tag
-/// that is only private use is shown as it is.
+/// CLDR does not name the language, the name is IANA's description of the tag's own language. A
+/// subtag without a name is shown as it is. Extensions and private use are left out, but a tag that
+/// is only private use is shown as it is.
 ///
 /// ```
 /// use langtag::names::describe;
