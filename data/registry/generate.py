@@ -80,7 +80,9 @@ def tables(registry):
     for kind, field, _, name in FIELDS:
         texts, beside = zip(*values(registry, kind, field))
         out.append(key_table(f"{name}_KEYS", f"{kind}s with a {field}", texts))
-        out.append(table(f"{name}_VALUES", f"The {field} of each {kind} of `{name}_KEYS`.", "&str", quoted(beside)))
+        distinct = sorted(set(beside))
+        out.append(table(f"{name}_INDICES", f"The index in `{name}_VALUES` of the {field} of each {kind} of `{name}_KEYS`.", "u8", map(distinct.index, beside)))
+        out.append(table(f"{name}_VALUES", f"Each {field} of {kind}s, in alphabetical order.", "&str", quoted(distinct)))
     out.append(keys("PREFERRED_TAG_KEYS", "The keys of the whole tags with a Preferred-Value, in ascending order: each key is the number whose base-256 digits are the last eight bytes of a tag, in lowercase.",
                     64, [end_number(text) for text, _ in whole_tags(registry)]))
     out.append(table("PREFERRED_TAGS", "Each tag of `PREFERRED_TAG_KEYS`, and its Preferred-Value.", "(&str, &str)",

@@ -36,7 +36,7 @@ use Rattle.langtag_scan.specs.Grammar.{{fold_byte, folded_number, is_letter, is_
 use Rattle.langtag_fields.specs.declared.tables.TheConstants as table
 use Rattle.langtag_fields.specs.Fields as field
 use Rattle.langtag_fields.specs.Subtags as list
-use Rattle.langtag_fields.specs.Tables.{{AreKeysOf, IsTableOf, AreEndsOf, end_number}}
+use Rattle.langtag_fields.specs.Tables.{{AreKeysOf, IsTableOf, texts_at, AreEndsOf, end_number}}
 use Rattle.langtag_fields.proofs.Values.{{value_good}}"""
 
 
@@ -48,7 +48,8 @@ def key_tables() -> list[str]:
 def field_tables() -> list[str]:
     blocks = []
     for name, field, items, table, test in FIELDS:
-        blocks += [lemma(f"{name}_table", f"IsTableOf table.{table}_KEYS (map (λ text. text.now) table.{table}_VALUES) list.{items}", f"list.{items} {PLAIN}", f"record {{ numbers = {ARE_KEYS}; beside = refl }}"),
+        values = f"(texts_at (map (λ text. text.now) table.{table}_VALUES) table.{table}_INDICES)"
+        blocks += [lemma(f"{name}_table", f"IsTableOf table.{table}_KEYS {values} list.{items}", f"list.{items} {PLAIN}", f"record {{ numbers = {ARE_KEYS}; beside = refl }}"),
                    lemma(f"{name}_good", f"(text new : List ℕ) → field.{field} text ≡ Some new → {test} new ≡ true",
                          f"field.{field} list.{items} {CLASS[test]}",
                          f"value_good {test} list.{items} text new refl is", " text new is")]

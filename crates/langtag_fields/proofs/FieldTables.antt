@@ -4,7 +4,7 @@ use Rattle.langtag_scan.specs.Grammar.{fold_byte, folded_number, is_letter, is_d
 use Rattle.langtag_fields.specs.declared.tables.TheConstants as table
 use Rattle.langtag_fields.specs.Fields as field
 use Rattle.langtag_fields.specs.Subtags as list
-use Rattle.langtag_fields.specs.Tables.{AreKeysOf, IsTableOf, AreEndsOf, end_number}
+use Rattle.langtag_fields.specs.Tables.{AreKeysOf, IsTableOf, texts_at, AreEndsOf, end_number}
 use Rattle.langtag_fields.proofs.Values.{value_good}
 
 pub extlang_keys : AreKeysOf table.EXTLANG_KEYS list.extlang_subtags
@@ -43,7 +43,8 @@ pub deprecated_tag_texts : map (λ text. text.now) table.DEPRECATED_TAGS ≡ lis
 unfolding list.deprecated_tags
 deprecated_tag_texts = refl
 
-pub preferred_table : IsTableOf table.PREFERRED_LANGUAGE_KEYS (map (λ text. text.now) table.PREFERRED_LANGUAGE_VALUES) list.language_preferred
+pub preferred_table :
+    IsTableOf table.PREFERRED_LANGUAGE_KEYS (texts_at (map (λ text. text.now) table.PREFERRED_LANGUAGE_VALUES) table.PREFERRED_LANGUAGE_INDICES) list.language_preferred
 unfolding list.language_preferred folded_number fold_byte is_letter is_digit
 preferred_table = record { numbers = record { numbers = refl; climb = refl; plain = refl }; beside = refl }
 
@@ -51,7 +52,8 @@ pub preferred_good : (text new : List ℕ) → field.preferred_language text ≡
 unfolding field.preferred_language list.language_preferred is_primary is_letter
 preferred_good text new is = value_good is_primary list.language_preferred text new refl is
 
-pub suppress_table : IsTableOf table.SUPPRESS_SCRIPT_KEYS (map (λ text. text.now) table.SUPPRESS_SCRIPT_VALUES) list.language_suppress_script
+pub suppress_table :
+    IsTableOf table.SUPPRESS_SCRIPT_KEYS (texts_at (map (λ text. text.now) table.SUPPRESS_SCRIPT_VALUES) table.SUPPRESS_SCRIPT_INDICES) list.language_suppress_script
 unfolding list.language_suppress_script folded_number fold_byte is_letter is_digit
 suppress_table = record { numbers = record { numbers = refl; climb = refl; plain = refl }; beside = refl }
 
@@ -59,7 +61,8 @@ pub suppress_good : (text new : List ℕ) → field.suppress_script text ≡ Som
 unfolding field.suppress_script list.language_suppress_script is_script is_letter
 suppress_good text new is = value_good is_script list.language_suppress_script text new refl is
 
-pub macro_table : IsTableOf table.MACROLANGUAGE_KEYS (map (λ text. text.now) table.MACROLANGUAGE_VALUES) list.language_macrolanguage
+pub macro_table :
+    IsTableOf table.MACROLANGUAGE_KEYS (texts_at (map (λ text. text.now) table.MACROLANGUAGE_VALUES) table.MACROLANGUAGE_INDICES) list.language_macrolanguage
 unfolding list.language_macrolanguage folded_number fold_byte is_letter is_digit
 macro_table = record { numbers = record { numbers = refl; climb = refl; plain = refl }; beside = refl }
 
@@ -67,7 +70,8 @@ pub macro_good : (text new : List ℕ) → field.macrolanguage text ≡ Some new
 unfolding field.macrolanguage list.language_macrolanguage is_primary is_letter
 macro_good text new is = value_good is_primary list.language_macrolanguage text new refl is
 
-pub prefix_table : IsTableOf table.EXTLANG_PREFIX_KEYS (map (λ text. text.now) table.EXTLANG_PREFIX_VALUES) list.extlang_prefixes
+pub prefix_table :
+    IsTableOf table.EXTLANG_PREFIX_KEYS (texts_at (map (λ text. text.now) table.EXTLANG_PREFIX_VALUES) table.EXTLANG_PREFIX_INDICES) list.extlang_prefixes
 unfolding list.extlang_prefixes folded_number fold_byte is_letter is_digit
 prefix_table = record { numbers = record { numbers = refl; climb = refl; plain = refl }; beside = refl }
 
@@ -75,7 +79,8 @@ pub prefix_good : (text new : List ℕ) → field.extlang_prefix text ≡ Some n
 unfolding field.extlang_prefix list.extlang_prefixes is_primary is_letter
 prefix_good text new is = value_good is_primary list.extlang_prefixes text new refl is
 
-pub regions_table : IsTableOf table.PREFERRED_REGION_KEYS (map (λ text. text.now) table.PREFERRED_REGION_VALUES) list.region_preferred
+pub regions_table :
+    IsTableOf table.PREFERRED_REGION_KEYS (texts_at (map (λ text. text.now) table.PREFERRED_REGION_VALUES) table.PREFERRED_REGION_INDICES) list.region_preferred
 unfolding list.region_preferred folded_number fold_byte is_letter is_digit
 regions_table = record { numbers = record { numbers = refl; climb = refl; plain = refl }; beside = refl }
 
@@ -83,7 +88,8 @@ pub regions_good : (text new : List ℕ) → field.preferred_region text ≡ Som
 unfolding field.preferred_region list.region_preferred is_region is_letter is_digit
 regions_good text new is = value_good is_region list.region_preferred text new refl is
 
-pub variants_table : IsTableOf table.PREFERRED_VARIANT_KEYS (map (λ text. text.now) table.PREFERRED_VARIANT_VALUES) list.variant_preferred
+pub variants_table :
+    IsTableOf table.PREFERRED_VARIANT_KEYS (texts_at (map (λ text. text.now) table.PREFERRED_VARIANT_VALUES) table.PREFERRED_VARIANT_INDICES) list.variant_preferred
 unfolding list.variant_preferred folded_number fold_byte is_letter is_digit
 variants_table = record { numbers = record { numbers = refl; climb = refl; plain = refl }; beside = refl }
 

@@ -1,5 +1,5 @@
 -- What the tables of the registry contain. Only contracts of private functions cite this page.
-use Rattle.std.specs.Prelude.{◌≡◌, ℕ, ◌-◌, ◌/◌, ◌%◌, ◌^◌, ◌==◌, Bool, false, IsTrue, List, length, map, drop, slice_index_or, flat_map}
+use Rattle.std.specs.Prelude.{◌≡◌, ℕ, ◌-◌, ◌/◌, ◌%◌, ◌^◌, ◌==◌, Bool, false, IsTrue, List, [], length, map, drop, slice_index_or, flat_map}
 use Rattle.langtag_scan.specs.Grammar.{list_all, range_with_len, folded_number, are_alphanumeric}
 use Rattle.langtag_fields.specs.Entry.{Entry}
 use Rattle.langtag_fields.specs.declared.tables.TheConstants.{LANGUAGE_BITS}
@@ -10,6 +10,10 @@ pub record AreKeysOf (keys : List ℕ) (list : List (List ℕ)) : Type 0 where
   pub numbers : keys ≡ map folded_number list
   pub climb : IsTrue (climbs_from 0 keys)
   pub plain : IsTrue (list_all are_alphanumeric list)
+
+-- the texts at some indices
+abbrev pub texts_at : List (List ℕ) → List ℕ → List (List ℕ)
+texts_at texts indices = map (λ index. slice_index_or texts index []) indices
 
 -- the keys are the numbers of the subtags of the entries, and the values are the values of the entries
 pub record IsTableOf (keys : List ℕ) (values : List (List ℕ)) (list : List Entry) : Type 0 where

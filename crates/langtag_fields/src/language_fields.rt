@@ -5,7 +5,8 @@ ghost use Rattle.langtag_fields.specs.Fields as field;
 
 use crate::table::value_of;
 use crate::tables::{
-    MACROLANGUAGE_KEYS, MACROLANGUAGE_VALUES, PREFERRED_LANGUAGE_KEYS, PREFERRED_LANGUAGE_VALUES,
+    MACROLANGUAGE_INDICES, MACROLANGUAGE_KEYS, MACROLANGUAGE_VALUES, PREFERRED_LANGUAGE_INDICES,
+    PREFERRED_LANGUAGE_KEYS, PREFERRED_LANGUAGE_VALUES, SUPPRESS_SCRIPT_INDICES,
     SUPPRESS_SCRIPT_KEYS, SUPPRESS_SCRIPT_VALUES,
 };
 use langtag_language::PrimaryLanguage;
@@ -26,6 +27,7 @@ pub fn preferred_language(language: PrimaryLanguage<'_>) -> Option<PrimaryLangua
 {
     let text = value_of(
         &PREFERRED_LANGUAGE_KEYS,
+        &PREFERRED_LANGUAGE_INDICES,
         &PREFERRED_LANGUAGE_VALUES,
         language.as_bytes(),
     )?;
@@ -48,6 +50,7 @@ pub fn suppress_script(language: PrimaryLanguage<'_>) -> Option<Script<'static>>
 {
     let text = value_of(
         &SUPPRESS_SCRIPT_KEYS,
+        &SUPPRESS_SCRIPT_INDICES,
         &SUPPRESS_SCRIPT_VALUES,
         language.as_bytes(),
     )?;
@@ -69,6 +72,7 @@ pub fn macrolanguage(language: PrimaryLanguage<'_>) -> Option<PrimaryLanguage<'s
 {
     let text = value_of(
         &MACROLANGUAGE_KEYS,
+        &MACROLANGUAGE_INDICES,
         &MACROLANGUAGE_VALUES,
         language.as_bytes(),
     )?;

@@ -8,8 +8,8 @@ ghost use Rattle.langtag_fields.specs.Tables.{AreEndsOf};
 
 use crate::table::value_of;
 use crate::tables::{
-    PREFERRED_REGION_KEYS, PREFERRED_REGION_VALUES, PREFERRED_TAG_KEYS, PREFERRED_TAGS,
-    PREFERRED_VARIANT_KEYS, PREFERRED_VARIANT_VALUES,
+    PREFERRED_REGION_INDICES, PREFERRED_REGION_KEYS, PREFERRED_REGION_VALUES, PREFERRED_TAG_KEYS,
+    PREFERRED_TAGS, PREFERRED_VARIANT_INDICES, PREFERRED_VARIANT_KEYS, PREFERRED_VARIANT_VALUES,
 };
 use langtag::LangTag;
 use langtag_place::{Region, Variant};
@@ -30,6 +30,7 @@ pub fn preferred_region(region: Region<'_>) -> Option<Region<'static>>
 {
     let text = value_of(
         &PREFERRED_REGION_KEYS,
+        &PREFERRED_REGION_INDICES,
         &PREFERRED_REGION_VALUES,
         region.as_bytes(),
     )?;
@@ -51,6 +52,7 @@ pub fn preferred_variant(variant: Variant<'_>) -> Option<Variant<'static>>
 {
     let text = value_of(
         &PREFERRED_VARIANT_KEYS,
+        &PREFERRED_VARIANT_INDICES,
         &PREFERRED_VARIANT_VALUES,
         variant.as_bytes(),
     )?;

@@ -6,7 +6,9 @@ ghost use Rattle.langtag_fields.specs.Fields as field;
 ghost use Rattle.langtag_fields.specs.Subtags as list;
 
 use crate::table::value_of;
-use crate::tables::{EXTLANG_PREFIX_KEYS, EXTLANG_PREFIX_VALUES, VARIANT_PREFIXES};
+use crate::tables::{
+    EXTLANG_PREFIX_INDICES, EXTLANG_PREFIX_KEYS, EXTLANG_PREFIX_VALUES, VARIANT_PREFIXES,
+};
 use langtag_language::{ExtendedLangTag, PrimaryLanguage};
 use langtag_scan::case_insensitive_eq;
 
@@ -34,6 +36,7 @@ pub fn prefix_of_language(language: PrimaryLanguage<'_>) -> Option<PrimaryLangua
 {
     let text = value_of(
         &EXTLANG_PREFIX_KEYS,
+        &EXTLANG_PREFIX_INDICES,
         &EXTLANG_PREFIX_VALUES,
         language.as_bytes(),
     )?;
@@ -46,7 +49,12 @@ pub fn is_prefix_of(language: &[u8], extlang: &[u8]) -> bool
     requires { IsTrue (is_extended extlang.now) }
     ensures { result ≡ field.is_prefix_of language.now extlang.now }
 {
-    match value_of(&EXTLANG_PREFIX_KEYS, &EXTLANG_PREFIX_VALUES, extlang) {
+    match value_of(
+        &EXTLANG_PREFIX_KEYS,
+        &EXTLANG_PREFIX_INDICES,
+        &EXTLANG_PREFIX_VALUES,
+        extlang,
+    ) {
         Some(prefix) => case_insensitive_eq(prefix.as_bytes(), language),
         None => false,
     }

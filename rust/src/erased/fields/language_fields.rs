@@ -4,7 +4,8 @@
 
 use crate::erased::fields::table::value_of;
 use crate::erased::fields::tables::{
-    MACROLANGUAGE_KEYS, MACROLANGUAGE_VALUES, PREFERRED_LANGUAGE_KEYS, PREFERRED_LANGUAGE_VALUES,
+    MACROLANGUAGE_INDICES, MACROLANGUAGE_KEYS, MACROLANGUAGE_VALUES, PREFERRED_LANGUAGE_INDICES,
+    PREFERRED_LANGUAGE_KEYS, PREFERRED_LANGUAGE_VALUES, SUPPRESS_SCRIPT_INDICES,
     SUPPRESS_SCRIPT_KEYS, SUPPRESS_SCRIPT_VALUES,
 };
 use crate::erased::language::PrimaryLanguage;
@@ -33,6 +34,7 @@ use crate::erased::place::Script;
 pub fn preferred_language(language: PrimaryLanguage<'_>) -> Option<PrimaryLanguage<'static>> {
     let text = value_of(
         &PREFERRED_LANGUAGE_KEYS,
+        &PREFERRED_LANGUAGE_INDICES,
         &PREFERRED_LANGUAGE_VALUES,
         language.as_bytes(),
     )?;
@@ -62,6 +64,7 @@ pub fn preferred_language(language: PrimaryLanguage<'_>) -> Option<PrimaryLangua
 pub fn suppress_script(language: PrimaryLanguage<'_>) -> Option<Script<'static>> {
     let text = value_of(
         &SUPPRESS_SCRIPT_KEYS,
+        &SUPPRESS_SCRIPT_INDICES,
         &SUPPRESS_SCRIPT_VALUES,
         language.as_bytes(),
     )?;
@@ -90,6 +93,7 @@ pub fn suppress_script(language: PrimaryLanguage<'_>) -> Option<Script<'static>>
 pub fn macrolanguage(language: PrimaryLanguage<'_>) -> Option<PrimaryLanguage<'static>> {
     let text = value_of(
         &MACROLANGUAGE_KEYS,
+        &MACROLANGUAGE_INDICES,
         &MACROLANGUAGE_VALUES,
         language.as_bytes(),
     )?;

@@ -4,8 +4,9 @@
 
 use crate::erased::fields::table::value_of;
 use crate::erased::fields::tables::{
-    PREFERRED_REGION_KEYS, PREFERRED_REGION_VALUES, PREFERRED_TAGS, PREFERRED_TAG_KEYS,
-    PREFERRED_VARIANT_KEYS, PREFERRED_VARIANT_VALUES,
+    PREFERRED_REGION_INDICES, PREFERRED_REGION_KEYS, PREFERRED_REGION_VALUES, PREFERRED_TAGS,
+    PREFERRED_TAG_KEYS, PREFERRED_VARIANT_INDICES, PREFERRED_VARIANT_KEYS,
+    PREFERRED_VARIANT_VALUES,
 };
 use crate::erased::place::{Region, Variant};
 use crate::erased::scan::{case_insensitive_eq, folded_number};
@@ -31,6 +32,7 @@ use crate::erased::tag::LangTag;
 pub fn preferred_region(region: Region<'_>) -> Option<Region<'static>> {
     let text = value_of(
         &PREFERRED_REGION_KEYS,
+        &PREFERRED_REGION_INDICES,
         &PREFERRED_REGION_VALUES,
         region.as_bytes(),
     )?;
@@ -60,6 +62,7 @@ pub fn preferred_region(region: Region<'_>) -> Option<Region<'static>> {
 pub fn preferred_variant(variant: Variant<'_>) -> Option<Variant<'static>> {
     let text = value_of(
         &PREFERRED_VARIANT_KEYS,
+        &PREFERRED_VARIANT_INDICES,
         &PREFERRED_VARIANT_VALUES,
         variant.as_bytes(),
     )?;

@@ -3,7 +3,9 @@
 //! Which strings an extended language and a variant should follow (RFC 5646 section 3.1.8).
 
 use crate::erased::fields::table::value_of;
-use crate::erased::fields::tables::{EXTLANG_PREFIX_KEYS, EXTLANG_PREFIX_VALUES, VARIANT_PREFIXES};
+use crate::erased::fields::tables::{
+    EXTLANG_PREFIX_INDICES, EXTLANG_PREFIX_KEYS, EXTLANG_PREFIX_VALUES, VARIANT_PREFIXES,
+};
 use crate::erased::language::{ExtendedLangTag, PrimaryLanguage};
 use crate::erased::scan::case_insensitive_eq;
 
@@ -38,6 +40,7 @@ pub fn extlang_prefix(extlang: ExtendedLangTag<'_>) -> Option<PrimaryLanguage<'s
 pub fn prefix_of_language(language: PrimaryLanguage<'_>) -> Option<PrimaryLanguage<'static>> {
     let text = value_of(
         &EXTLANG_PREFIX_KEYS,
+        &EXTLANG_PREFIX_INDICES,
         &EXTLANG_PREFIX_VALUES,
         language.as_bytes(),
     )?;
@@ -49,8 +52,13 @@ pub fn prefix_of_language(language: PrimaryLanguage<'_>) -> Option<PrimaryLangua
 #[inline]
 #[must_use]
 pub fn is_prefix_of(language: &[u8], extlang: &[u8]) -> bool {
-    value_of(&EXTLANG_PREFIX_KEYS, &EXTLANG_PREFIX_VALUES, extlang)
-        .is_some_and(|prefix| case_insensitive_eq(prefix.as_bytes(), language))
+    value_of(
+        &EXTLANG_PREFIX_KEYS,
+        &EXTLANG_PREFIX_INDICES,
+        &EXTLANG_PREFIX_VALUES,
+        extlang,
+    )
+    .is_some_and(|prefix| case_insensitive_eq(prefix.as_bytes(), language))
 }
 
 /// Returns the number of each variant that should follow a prefix, and the prefix; a variant may

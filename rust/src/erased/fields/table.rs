@@ -10,14 +10,15 @@ pub(crate) fn is_among(keys: &[u64], text: &[u8]) -> bool {
     keys.binary_search(&folded_number(text)).is_ok()
 }
 
-/// Returns the value for a string, which is at the same index as the string's key.
-#[inline]
+/// Returns the value for a string. Many subtags may have one value: `indices` has the index of the
+/// value of each key.
 pub(crate) fn value_of(
     keys: &[u64],
+    indices: &[u8],
     values: &'static [&'static str],
     text: &[u8],
 ) -> Option<&'static str> {
     keys.binary_search(&folded_number(text))
         .ok()
-        .map(|index| values[index])
+        .map(|index| values[usize::from(indices[index])])
 }

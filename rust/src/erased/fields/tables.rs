@@ -261,16 +261,25 @@ pub(crate) static PREFERRED_LANGUAGE_KEYS: [u64; 108] = [
     0x787373, 0x796264, 0x796D61, 0x796D74, 0x796F73, 0x797575, 0x7A6972, 0x7A6B62,
 ];
 
-/// The Preferred-Value of each language of `PREFERRED_LANGUAGE_KEYS`.
+/// The index in `PREFERRED_LANGUAGE_VALUES` of the Preferred-Value of each language of
+/// `PREFERRED_LANGUAGE_KEYS`.
 #[rustfmt::skip]
-pub(crate) static PREFERRED_LANGUAGE_VALUES: [&str; 108] = [
-    "id", "he", "yi", "jv", "ro", "aas", "dz", "apc", "aeb", "snz", "ktz", "nun", "bcg", "bir", "drl", "iba", "rki",
-    "mom", "cmr", "xch", "pij", "quh", "sqm", "dif", "khk", "kzk", "prs", "dev", "vaj", "gvr", "kzk", "nyc", "duz",
-    "jal", "opa", "gal", "oyb", "tdf", "kml", "plu", "kwv", "bmf", "dtp", "gdj", "yam", "tvd", "kru", "dtp", "dtp",
-    "ksp", "raq", "ngt", "rmx", "cir", "mry", "vaj", "aog", "mry", "xny", "kdz", "nbr", "ngv", "cbr", "eko", "pij",
-    "bpp", "vaj", "kxr", "adx", "huw", "crr", "phr", "bfy", "lcq", "gu", "prt", "pub", "hle", "oyb", "kmb", "iba",
-    "umi", "dtp", "tpo", "ola", "oyb", "ras", "twm", "weo", "tdg", "tyj", "kak", "prs", "tpn", "taj", "ema", "cax",
-    "acn", "waw", "dmw", "zko", "rki", "lrr", "mtm", "zom", "yug", "scv", "kjh",
+pub(crate) static PREFERRED_LANGUAGE_INDICES: [u8; 108] = [
+    33, 29, 91, 35, 72, 0, 22, 5, 3, 74, 44, 56, 6, 8, 19, 32, 70, 50, 14, 88, 62, 67, 75, 17, 38, 47, 64, 16, 85,
+    28, 47, 57, 21, 34, 59, 25, 60, 77, 41, 63, 45, 9, 20, 26, 90, 81, 42, 20, 20, 43, 68, 54, 71, 13, 51, 85, 4,
+    51, 89, 37, 53, 55, 12, 23, 62, 10, 85, 46, 2, 31, 15, 61, 7, 48, 27, 65, 66, 30, 60, 40, 32, 84, 20, 80, 58,
+    60, 69, 82, 87, 78, 83, 36, 64, 79, 76, 24, 11, 1, 86, 18, 93, 70, 49, 52, 94, 92, 73, 39,
+];
+
+/// Each Preferred-Value of languages, in alphabetical order.
+#[rustfmt::skip]
+pub(crate) static PREFERRED_LANGUAGE_VALUES: [&str; 95] = [
+    "aas", "acn", "adx", "aeb", "aog", "apc", "bcg", "bfy", "bir", "bmf", "bpp", "cax", "cbr", "cir", "cmr", "crr",
+    "dev", "dif", "dmw", "drl", "dtp", "duz", "dz", "eko", "ema", "gal", "gdj", "gu", "gvr", "he", "hle", "huw",
+    "iba", "id", "jal", "jv", "kak", "kdz", "khk", "kjh", "kmb", "kml", "kru", "ksp", "ktz", "kwv", "kxr", "kzk",
+    "lcq", "lrr", "mom", "mry", "mtm", "nbr", "ngt", "ngv", "nun", "nyc", "ola", "opa", "oyb", "phr", "pij", "plu",
+    "prs", "prt", "pub", "quh", "raq", "ras", "rki", "rmx", "ro", "scv", "snz", "sqm", "taj", "tdf", "tdg", "tpn",
+    "tpo", "tvd", "twm", "tyj", "umi", "vaj", "waw", "weo", "xch", "xny", "yam", "yi", "yug", "zko", "zom",
 ];
 
 /// The keys of the languages with a Suppress-Script, in ascending order: each key is the number
@@ -289,19 +298,22 @@ pub(crate) static SUPPRESS_SCRIPT_KEYS: [u64; 134] = [
     0x6E6473, 0x6E6975, 0x6E716F, 0x6E736F, 0x74656D, 0x746B6C, 0x746D68, 0x747069, 0x74766C, 0x7A626C,
 ];
 
-/// The Suppress-Script of each language of `SUPPRESS_SCRIPT_KEYS`.
+/// The index in `SUPPRESS_SCRIPT_VALUES` of the Suppress-Script of each language of
+/// `SUPPRESS_SCRIPT_KEYS`.
 #[rustfmt::skip]
-pub(crate) static SUPPRESS_SCRIPT_VALUES: [&str; 134] = [
-    "Cyrl", "Latn", "Ethi", "Arab", "Beng", "Latn", "Cyrl", "Cyrl", "Beng", "Latn", "Latn", "Latn", "Latn", "Latn",
-    "Latn", "Latn", "Thaa", "Tibt", "Grek", "Latn", "Latn", "Latn", "Latn", "Latn", "Arab", "Latn", "Latn", "Latn",
-    "Latn", "Latn", "Latn", "Latn", "Latn", "Gujr", "Latn", "Hebr", "Deva", "Latn", "Latn", "Latn", "Armn", "Latn",
-    "Latn", "Latn", "Latn", "Hebr", "Jpan", "Geor", "Cyrl", "Latn", "Khmr", "Knda", "Kore", "Latn", "Latn", "Latn",
-    "Laoo", "Latn", "Latn", "Latn", "Latn", "Cyrl", "Mlym", "Latn", "Deva", "Latn", "Latn", "Mymr", "Latn", "Latn",
-    "Latn", "Deva", "Latn", "Latn", "Latn", "Latn", "Latn", "Latn", "Orya", "Guru", "Latn", "Arab", "Latn", "Latn",
-    "Latn", "Latn", "Latn", "Cyrl", "Latn", "Latn", "Sinh", "Latn", "Latn", "Latn", "Latn", "Latn", "Latn", "Latn",
-    "Latn", "Latn", "Taml", "Telu", "Thai", "Ethi", "Latn", "Latn", "Latn", "Latn", "Latn", "Cyrl", "Arab", "Latn",
-    "Latn", "Latn", "Hebr", "Latn", "Latn", "Latn", "Latn", "Latn", "Latn", "Deva", "Deva", "Latn", "Latn", "Latn",
-    "Nkoo", "Latn", "Latn", "Latn", "Latn", "Latn", "Latn", "Blis",
+pub(crate) static SUPPRESS_SCRIPT_INDICES: [u8; 134] = [
+    4, 17, 6, 0, 2, 17, 4, 4, 2, 17, 17, 17, 17, 17, 17, 17, 25, 27, 8, 17, 17, 17, 17, 17, 0, 17, 17, 17, 17, 17,
+    17, 17, 17, 9, 17, 11, 5, 17, 17, 17, 1, 17, 17, 17, 17, 11, 12, 7, 4, 17, 13, 14, 15, 17, 17, 17, 16, 17, 17,
+    17, 17, 4, 18, 17, 5, 17, 17, 19, 17, 17, 17, 5, 17, 17, 17, 17, 17, 17, 21, 10, 17, 0, 17, 17, 17, 17, 17, 4,
+    17, 17, 22, 17, 17, 17, 17, 17, 17, 17, 17, 17, 23, 24, 26, 6, 17, 17, 17, 17, 17, 4, 0, 17, 17, 17, 11, 17, 17,
+    17, 17, 17, 17, 5, 5, 17, 17, 17, 20, 17, 17, 17, 17, 17, 17, 3,
+];
+
+/// Each Suppress-Script of languages, in alphabetical order.
+#[rustfmt::skip]
+pub(crate) static SUPPRESS_SCRIPT_VALUES: [&str; 28] = [
+    "Arab", "Armn", "Beng", "Blis", "Cyrl", "Deva", "Ethi", "Geor", "Grek", "Gujr", "Guru", "Hebr", "Jpan", "Khmr",
+    "Knda", "Kore", "Laoo", "Latn", "Mlym", "Mymr", "Nkoo", "Orya", "Sinh", "Taml", "Telu", "Thaa", "Thai", "Tibt",
 ];
 
 /// The keys of the languages with a Macrolanguage, in ascending order: each key is the number whose
@@ -352,36 +364,35 @@ pub(crate) static MACROLANGUAGE_KEYS: [u64; 453] = [
     0x7A7A6A,
 ];
 
-/// The Macrolanguage of each language of `MACROLANGUAGE_KEYS`.
+/// The index in `MACROLANGUAGE_VALUES` of the Macrolanguage of each language of
+/// `MACROLANGUAGE_KEYS`.
 #[rustfmt::skip]
-pub(crate) static MACROLANGUAGE_VALUES: [&str; 453] = [
-    "sh", "sh", "ms", "ms", "no", "no", "sh", "ak", "sq", "ar", "sq", "ar", "ar", "ar", "ar", "ar", "ar", "ar",
-    "ar", "ar", "ar", "ar", "syr", "ar", "jrb", "jrb", "sq", "sq", "ar", "ar", "ar", "ar", "ar", "ar", "ar", "ar",
-    "ar", "ay", "ar", "ar", "ar", "ar", "ay", "az", "az", "ar", "bal", "bik", "gba", "bal", "bal", "raj", "bik",
-    "mg", "ms", "mg", "bik", "mg", "ms", "bik", "ms", "ms", "luy", "bua", "bua", "bua", "mg", "zh", "oj", "zh",
-    "ku", "syr", "sa", "zh", "zh", "sh", "ms", "zh", "hmn", "qu", "cr", "cr", "cr", "cr", "zh", "cr", "bik", "cr",
-    "zh", "zh", "doi", "mwr", "din", "din", "din", "zza", "din", "din", "ne", "ms", "bnc", "et", "man", "kln",
-    "gon", "ik", "ik", "kln", "ak", "bik", "ff", "ff", "ff", "ff", "ff", "ff", "ff", "ff", "ff", "zh", "om", "om",
-    "grb", "gba", "gba", "raj", "grb", "raj", "kpe", "gba", "gon", "gn", "kok", "grb", "grb", "grb", "gba", "gn",
-    "gn", "gn", "gba", "om", "zh", "hai", "hai", "hmn", "ms", "hmn", "hmn", "hmn", "hmn", "hmn", "hmn", "hmn",
-    "hmn", "hmn", "hmn", "hmn", "hmn", "hmn", "hmn", "hmn", "hmn", "lah", "hmn", "zh", "lah", "raj", "hmn", "zh",
-    "hmn", "luy", "iu", "iu", "ms", "lah", "ms", "jrb", "kr", "mn", "zza", "ku", "kr", "kg", "kok", "kv", "kv",
-    "kr", "ms", "ms", "kg", "ms", "bnc", "bik", "ms", "ms", "kg", "ms", "luy", "luy", "luy", "luy", "luy", "luy",
-    "lv", "luy", "luy", "zh", "lv", "luy", "zh", "ms", "ms", "ms", "ms", "chm", "ms", "man", "man", "hmn", "man",
-    "zh", "ms", "chm", "man", "mg", "ms", "mwr", "ms", "raj", "hmn", "mwr", "mn", "man", "hmn", "man", "zh", "gn",
-    "kln", "luy", "ne", "luy", "bnc", "oj", "oj", "oj", "oj", "oj", "kln", "om", "ms", "ms", "or", "oj", "ps", "ps",
-    "ms", "fa", "ar", "lah", "kln", "mg", "lah", "lah", "fa", "ms", "ps", "qu", "qu", "qu", "qu", "qu", "qu", "qu",
-    "qu", "qu", "qu", "qu", "qu", "qu", "qu", "qu", "qu", "qu", "qu", "qu", "qu", "qu", "qu", "qu", "qu", "qu",
-    "qu", "qu", "qu", "qu", "qu", "qu", "qu", "qu", "qu", "qu", "qu", "qu", "qu", "qu", "qu", "qu", "qu", "qu",
-    "luy", "bnc", "bik", "rom", "rom", "rom", "rom", "rom", "rom", "rom", "mwr", "den", "sc", "ku", "sc", "hmn",
-    "kln", "ar", "zh", "mg", "lah", "or", "kln", "sc", "sc", "ar", "sw", "sw", "mwr", "tmh", "mg", "kln", "tmh",
-    "tmh", "mg", "ms", "tmh", "kln", "mg", "bik", "del", "del", "ms", "uz", "uz", "bnc", "ms", "ms", "et", "sa",
-    "raj", "mwr", "gon", "zh", "lah", "ms", "mg", "mg", "doi", "kpe", "den", "yi", "jrb", "yi", "jrb", "zh", "zap",
-    "zap", "zap", "zap", "zap", "zap", "zap", "zap", "zap", "zap", "zap", "zap", "zap", "zap", "zap", "zap", "zap",
-    "zap", "za", "za", "za", "za", "za", "za", "za", "za", "ms", "za", "za", "ms", "zap", "zap", "zap", "zap",
-    "zap", "zap", "zap", "zap", "zap", "zap", "zap", "zap", "zap", "zap", "zap", "zap", "zap", "zap", "zap", "zap",
-    "zap", "zap", "zap", "zap", "zap", "zap", "zap", "za", "ms", "zap", "zap", "zap", "zap", "zap", "zap", "zap",
-    "zap", "zap", "zap", "zap", "zap", "zap", "za", "za", "za", "za", "za",
+pub(crate) static MACROLANGUAGE_INDICES: [u8; 453] = [
+    52, 52, 39, 39, 42, 42, 52, 0, 53, 1, 53, 1, 1, 1, 1, 1, 1, 1, 1, 1, 1, 1, 55, 1, 25, 25, 53, 53, 1, 1, 1, 1, 1,
+    1, 1, 1, 1, 2, 1, 1, 1, 1, 2, 3, 3, 1, 4, 5, 17, 4, 4, 48, 5, 37, 39, 37, 5, 37, 39, 5, 39, 39, 34, 7, 7, 7, 37,
+    61, 43, 61, 31, 55, 50, 61, 61, 52, 39, 61, 22, 47, 9, 9, 9, 9, 61, 9, 5, 9, 61, 61, 13, 40, 12, 12, 12, 62, 12,
+    12, 41, 39, 6, 14, 36, 27, 19, 23, 23, 27, 0, 5, 16, 16, 16, 16, 16, 16, 16, 16, 16, 61, 44, 44, 20, 17, 17, 48,
+    20, 48, 29, 17, 19, 18, 28, 20, 20, 20, 17, 18, 18, 18, 17, 44, 61, 21, 21, 22, 39, 22, 22, 22, 22, 22, 22, 22,
+    22, 22, 22, 22, 22, 22, 22, 22, 22, 33, 22, 61, 33, 48, 22, 61, 22, 34, 24, 24, 39, 33, 39, 25, 30, 38, 62, 31,
+    30, 26, 28, 32, 32, 30, 39, 39, 26, 39, 6, 5, 39, 39, 26, 39, 34, 34, 34, 34, 34, 34, 35, 34, 34, 61, 35, 34,
+    61, 39, 39, 39, 39, 8, 39, 36, 36, 22, 36, 61, 39, 8, 36, 37, 39, 40, 39, 48, 22, 40, 38, 36, 22, 36, 61, 18,
+    27, 34, 41, 34, 6, 43, 43, 43, 43, 43, 27, 44, 39, 39, 45, 43, 46, 46, 39, 15, 1, 33, 27, 37, 33, 33, 15, 39,
+    46, 47, 47, 47, 47, 47, 47, 47, 47, 47, 47, 47, 47, 47, 47, 47, 47, 47, 47, 47, 47, 47, 47, 47, 47, 47, 47, 47,
+    47, 47, 47, 47, 47, 47, 47, 47, 47, 47, 47, 47, 47, 47, 47, 47, 34, 6, 5, 49, 49, 49, 49, 49, 49, 49, 40, 11,
+    51, 31, 51, 22, 27, 1, 61, 37, 33, 45, 27, 51, 51, 1, 54, 54, 40, 56, 37, 27, 56, 56, 37, 39, 56, 27, 37, 5, 10,
+    10, 39, 57, 57, 6, 39, 39, 14, 50, 48, 40, 19, 61, 33, 39, 37, 37, 13, 29, 11, 58, 25, 58, 25, 61, 60, 60, 60,
+    60, 60, 60, 60, 60, 60, 60, 60, 60, 60, 60, 60, 60, 60, 60, 59, 59, 59, 59, 59, 59, 59, 59, 39, 59, 59, 39, 60,
+    60, 60, 60, 60, 60, 60, 60, 60, 60, 60, 60, 60, 60, 60, 60, 60, 60, 60, 60, 60, 60, 60, 60, 60, 60, 60, 59, 39,
+    60, 60, 60, 60, 60, 60, 60, 60, 60, 60, 60, 60, 60, 59, 59, 59, 59, 59,
+];
+
+/// Each Macrolanguage of languages, in alphabetical order.
+#[rustfmt::skip]
+pub(crate) static MACROLANGUAGE_VALUES: [&str; 63] = [
+    "ak", "ar", "ay", "az", "bal", "bik", "bnc", "bua", "chm", "cr", "del", "den", "din", "doi", "et", "fa", "ff",
+    "gba", "gn", "gon", "grb", "hai", "hmn", "ik", "iu", "jrb", "kg", "kln", "kok", "kpe", "kr", "ku", "kv", "lah",
+    "luy", "lv", "man", "mg", "mn", "ms", "mwr", "ne", "no", "oj", "om", "or", "ps", "qu", "raj", "rom", "sa", "sc",
+    "sh", "sq", "sw", "syr", "tmh", "uz", "yi", "za", "zap", "zh", "zza",
 ];
 
 /// The keys of the extlangs with a Prefix, in ascending order: each key is the number whose
@@ -414,25 +425,22 @@ pub(crate) static EXTLANG_PREFIX_KEYS: [u64; 256] = [
     0x7A6D69, 0x7A736C, 0x7A736D,
 ];
 
-/// The Prefix of each extlang of `EXTLANG_PREFIX_KEYS`.
+/// The index in `EXTLANG_PREFIX_VALUES` of the Prefix of each extlang of `EXTLANG_PREFIX_KEYS`.
 #[rustfmt::skip]
-pub(crate) static EXTLANG_PREFIX_VALUES: [&str; 256] = [
-    "ar", "ar", "ar", "ar", "ar", "ar", "ar", "ar", "ar", "sgn", "ar", "ar", "sgn", "sgn", "ar", "sgn", "ar", "sgn",
-    "ar", "ar", "ar", "ar", "ar", "ar", "ar", "sgn", "sgn", "sgn", "sgn", "sgn", "ar", "ar", "ar", "ar", "ar", "ar",
-    "ar", "sgn", "sgn", "ms", "sgn", "sgn", "sgn", "ms", "ms", "sgn", "ms", "sgn", "zh", "sgn", "zh", "zh", "zh",
-    "ms", "zh", "sgn", "sgn", "sgn", "sgn", "sgn", "sgn", "sgn", "zh", "sgn", "sgn", "sgn", "zh", "zh", "sgn",
-    "sgn", "sgn", "sgn", "ms", "sgn", "sgn", "sgn", "sgn", "sgn", "sgn", "sgn", "sgn", "sgn", "sgn", "zh", "sgn",
-    "kok", "sgn", "sgn", "sgn", "sgn", "sgn", "sgn", "sgn", "zh", "sgn", "ms", "sgn", "zh", "sgn", "sgn", "sgn",
-    "sgn", "zh", "sgn", "sgn", "sgn", "sgn", "sgn", "sgn", "sgn", "sgn", "ms", "ms", "sgn", "sgn", "sgn", "sgn",
-    "sgn", "sgn", "sgn", "sgn", "kok", "ms", "sgn", "ms", "ms", "sgn", "ms", "ms", "sgn", "ms", "sgn", "sgn", "sgn",
-    "sgn", "sgn", "sgn", "sgn", "sgn", "sgn", "sgn", "sgn", "sgn", "lv", "zh", "lv", "sgn", "zh", "ms", "sgn", "ms",
-    "ms", "ms", "sgn", "ms", "zh", "ms", "sgn", "sgn", "ms", "sgn", "ms", "sgn", "sgn", "sgn", "zh", "sgn", "sgn",
-    "sgn", "sgn", "sgn", "sgn", "sgn", "sgn", "ms", "ms", "ms", "ar", "sgn", "sgn", "sgn", "sgn", "sgn", "sgn",
-    "ms", "sgn", "sgn", "sgn", "sgn", "sgn", "sgn", "sgn", "sgn", "sgn", "sgn", "sgn", "sgn", "sgn", "sgn", "sgn",
-    "sgn", "sgn", "sgn", "ar", "zh", "sgn", "sgn", "sgn", "sgn", "sgn", "ar", "sgn", "sgn", "sgn", "sw", "sw",
-    "sgn", "sgn", "sgn", "ms", "sgn", "sgn", "sgn", "sgn", "sgn", "sgn", "sgn", "sgn", "sgn", "sgn", "ms", "uz",
-    "uz", "sgn", "ms", "ms", "sgn", "sgn", "sgn", "sgn", "zh", "sgn", "sgn", "ms", "sgn", "sgn", "sgn", "sgn",
-    "sgn", "sgn", "zh", "sgn", "ms", "ms", "sgn", "ms",
+pub(crate) static EXTLANG_PREFIX_INDICES: [u8; 256] = [
+    0, 0, 0, 0, 0, 0, 0, 0, 0, 4, 0, 0, 4, 4, 0, 4, 0, 4, 0, 0, 0, 0, 0, 0, 0, 4, 4, 4, 4, 4, 0, 0, 0, 0, 0, 0, 0,
+    4, 4, 3, 4, 4, 4, 3, 3, 4, 3, 4, 7, 4, 7, 7, 7, 3, 7, 4, 4, 4, 4, 4, 4, 4, 7, 4, 4, 4, 7, 7, 4, 4, 4, 4, 3, 4,
+    4, 4, 4, 4, 4, 4, 4, 4, 4, 7, 4, 1, 4, 4, 4, 4, 4, 4, 4, 7, 4, 3, 4, 7, 4, 4, 4, 4, 7, 4, 4, 4, 4, 4, 4, 4, 4,
+    3, 3, 4, 4, 4, 4, 4, 4, 4, 4, 1, 3, 4, 3, 3, 4, 3, 3, 4, 3, 4, 4, 4, 4, 4, 4, 4, 4, 4, 4, 4, 4, 2, 7, 2, 4, 7,
+    3, 4, 3, 3, 3, 4, 3, 7, 3, 4, 4, 3, 4, 3, 4, 4, 4, 7, 4, 4, 4, 4, 4, 4, 4, 4, 3, 3, 3, 0, 4, 4, 4, 4, 4, 4, 3,
+    4, 4, 4, 4, 4, 4, 4, 4, 4, 4, 4, 4, 4, 4, 4, 4, 4, 4, 0, 7, 4, 4, 4, 4, 4, 0, 4, 4, 4, 5, 5, 4, 4, 4, 3, 4, 4,
+    4, 4, 4, 4, 4, 4, 4, 4, 3, 6, 6, 4, 3, 3, 4, 4, 4, 4, 7, 4, 4, 3, 4, 4, 4, 4, 4, 4, 7, 4, 3, 3, 4, 3,
+];
+
+/// Each Prefix of extlangs, in alphabetical order.
+#[rustfmt::skip]
+pub(crate) static EXTLANG_PREFIX_VALUES: [&str; 8] = [
+    "ar", "kok", "lv", "ms", "sgn", "sw", "uz", "zh",
 ];
 
 /// The keys of the regions with a Preferred-Value, in ascending order: each key is the number whose
@@ -442,10 +450,17 @@ pub(crate) static PREFERRED_REGION_KEYS: [u64; 6] = [
     0x6275, 0x6464, 0x6678, 0x7470, 0x7964, 0x7A72,
 ];
 
-/// The Preferred-Value of each region of `PREFERRED_REGION_KEYS`.
+/// The index in `PREFERRED_REGION_VALUES` of the Preferred-Value of each region of
+/// `PREFERRED_REGION_KEYS`.
+#[rustfmt::skip]
+pub(crate) static PREFERRED_REGION_INDICES: [u8; 6] = [
+    3, 1, 2, 4, 5, 0,
+];
+
+/// Each Preferred-Value of regions, in alphabetical order.
 #[rustfmt::skip]
 pub(crate) static PREFERRED_REGION_VALUES: [&str; 6] = [
-    "MM", "DE", "FR", "TL", "YE", "CD",
+    "CD", "DE", "FR", "MM", "TL", "YE",
 ];
 
 /// The keys of the variants with a Preferred-Value, in ascending order: each key is the number
@@ -455,7 +470,14 @@ pub(crate) static PREFERRED_VARIANT_KEYS: [u64; 1] = [
     0x6865706C6F63,
 ];
 
-/// The Preferred-Value of each variant of `PREFERRED_VARIANT_KEYS`.
+/// The index in `PREFERRED_VARIANT_VALUES` of the Preferred-Value of each variant of
+/// `PREFERRED_VARIANT_KEYS`.
+#[rustfmt::skip]
+pub(crate) static PREFERRED_VARIANT_INDICES: [u8; 1] = [
+    0,
+];
+
+/// Each Preferred-Value of variants, in alphabetical order.
 #[rustfmt::skip]
 pub(crate) static PREFERRED_VARIANT_VALUES: [&str; 1] = [
     "alalc97",
