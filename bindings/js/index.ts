@@ -951,7 +951,7 @@ function languageName(code: string): string | undefined {
     return nameIn(code.length === 2 ? TWO_LETTERS : code.charCodeAt(2) & 31, code);
 }
 
-/** The greatest length of a tag whose locale form is written for a name, because that takes quadratic time. */
+/** The length of a tag up to which names use its locale form. For longer tags that would take too long, because its time is quadratic. */
 const LONGEST_NAMED = 262144;
 
 /** Returns the form of a tag whose subtags have the names: de for ger, and es-US for es-rUS, as Android writes it. */

@@ -71,8 +71,8 @@ pub fn describe<'a>(tag: impl Into<LangTag<'a>>) -> String {
     String::from_utf8(name).unwrap_or_default()
 }
 
-/// The greatest length of a tag whose locale form is written for a name, because that takes
-/// quadratic time.
+/// The length of a tag up to which names use its locale form. For longer tags that would take too
+/// long, because its time is quadratic.
 const LONGEST: usize = 262_144;
 
 /// Returns the form of a tag whose subtags have the names: `de` for `ger`, as in [`LangTag::locale_form`],
