@@ -697,7 +697,7 @@ function nameIn(kind, key) {
         return undefined;
     return new TextDecoder().decode(Uint8Array.from(kind === OWN ? packed : expanded(packed), (byte) => byte.charCodeAt(0)));
 }
-/** Returns the English name of a language, which has letters in lowercase. */
+/** Returns the English name of a language. The code is in lowercase. */
 function languageName(code) {
     if (code.length > 3)
         return undefined;

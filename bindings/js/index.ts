@@ -945,7 +945,7 @@ function nameIn(kind: number, key: string): string | undefined {
     return new TextDecoder().decode(Uint8Array.from(kind === OWN ? packed : expanded(packed), (byte) => byte.charCodeAt(0)));
 }
 
-/** Returns the English name of a language, which has letters in lowercase. */
+/** Returns the English name of a language. The code is in lowercase. */
 function languageName(code: string): string | undefined {
     if (code.length > 3) return undefined;
     return nameIn(code.length === 2 ? TWO_LETTERS : code.charCodeAt(2) & 31, code);
