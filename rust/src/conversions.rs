@@ -64,7 +64,7 @@ from! {
 }
 #[cfg(feature = "alloc")]
 from! {
-    /// As from a reference to a reference to a [`LangTag`].
+    /// The same for an owned tag.
     ['a] &&'a LangTagBuf => LangTag<'a>: tag => tag.as_lang_tag()
 }
 from! {
