@@ -229,7 +229,7 @@ export declare class LanguageTag {
      *
      * A likely script is removed first, and comes back just before the language alone. Then extensions and private use are removed, and then
      * each variant, from the last to the first. Then the region is replaced or removed, and the variants come back: ca-ES-valencia, ca-ES,
-     * ca-valencia and ca.
+     * ca-valencia and ca. es-rUS, as Android writes es-US, is followed by es-US and its parents.
      *
      * If a catalogue's folders name scripts, such as zh-Hans, ask for the parents of `maximize()`, which names the script of zh-CN. CLDR does
      * not list replaced codes such as iw and cmn, nor extended languages: ask for the parents of `localeForm()`.

@@ -382,7 +382,7 @@ export class LanguageTag {
      *
      * A likely script is removed first, and comes back just before the language alone. Then extensions and private use are removed, and then
      * each variant, from the last to the first. Then the region is replaced or removed, and the variants come back: ca-ES-valencia, ca-ES,
-     * ca-valencia and ca.
+     * ca-valencia and ca. es-rUS, as Android writes es-US, is followed by es-US and its parents.
      *
      * If a catalogue's folders name scripts, such as zh-Hans, ask for the parents of `maximize()`, which names the script of zh-CN. CLDR does
      * not list replaced codes such as iw and cmn, nor extended languages: ask for the parents of `localeForm()`.
@@ -705,12 +705,10 @@ function languageName(code) {
 }
 /** The length of a tag up to which names use its locale form. For longer tags that would take too long, because its time is quadratic. */
 const LONGEST_NAMED = 262144;
-/** Returns the form of a tag whose subtags have the names: de for ger, and es-US for es-rUS, as Android writes it. */
+/** Returns the form of a tag whose subtags have the names: de for ger. */
 function named(tag) {
     const read = tagOf(tag);
-    if (read.text.length > LONGEST_NAMED)
-        return read.canonical();
-    return read.localeForm() ?? LanguageTag.fromPosix(read.text)?.localeForm() ?? read.canonical();
+    return (read.text.length > LONGEST_NAMED ? undefined : read.localeForm()) ?? read.canonical();
 }
 /**
  * Returns an English name of a tag, made of CLDR's names for the subtags of its locale form: "Portuguese (Brazil)" for pt-BR. If there is no

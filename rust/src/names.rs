@@ -19,7 +19,6 @@ use alloc::string::String;
 use alloc::vec::Vec;
 
 use self::data::{INDEX, PAIRS, ROWS};
-use crate::likely::from_posix;
 use crate::{LangTag, LangTagBuf, NormalLangTag, Script};
 
 /// Returns an English name of a tag, made of CLDR's names for the subtags of its
@@ -75,15 +74,11 @@ pub fn describe<'a>(tag: impl Into<LangTag<'a>>) -> String {
 /// long, because its time is quadratic.
 const LONGEST: usize = 262_144;
 
-/// Returns the form of a tag whose subtags have the names: `de` for `ger`, as in [`LangTag::locale_form`],
-/// and `es-US` for `es-rUS`, as Android writes it, and as a choice reads it.
+/// Returns the form of a tag whose subtags have the names: `de` for `ger`, and `es-US` for `es-rUS`, as
+/// in [`LangTag::locale_form`].
 fn form_of(tag: LangTag<'_>) -> LangTagBuf {
-    if tag.as_str().len() > LONGEST {
-        return tag.canonical();
-    }
-    tag.locale_form()
-        .or_else(|| from_posix(tag.as_str()).ok()?.locale_form())
-        .unwrap_or_else(|| tag.canonical())
+    let form = (tag.as_str().len() <= LONGEST).then(|| tag.locale_form());
+    form.flatten().unwrap_or_else(|| tag.canonical())
 }
 
 /// Returns the subtags that a name has in parentheses.

@@ -14,8 +14,8 @@ use Rattle.langtag_extension.proofs.Rules.{extension_texts_spelled}
 use Rattle.langtag.proofs.PartRules.{extensions_found}
 use Rattle.langtag_keyword.proofs.SubtagTexts.{length-more, subtags-after_singleton}
 use Rattle.langtag_scan.proofs.SubtagLists.{join-subtags}
-use Rattle.langtag_c.specs.Keywords.{BeginsWith, IsEnd, extensions_after, keywords_from, subtags_in}
-use Rattle.langtag_keyword.specs.Keywords.{Keyword}
+use Rattle.langtag_c.specs.Keywords.{AreAfter, BeginsWith, IsEnd, extensions_after, keywords_from, subtags_in}
+use Rattle.langtag_keyword.specs.Keywords.{Keyword, is_new_key, subtags_of}
 use Rattle.langtag_c.specs.declared.span.Span.{Span}
 use Rattle.langtag_c.proofs.ExtensionSpans.{extension-taken, first_text, length-span, AreSubtags, length-spanned}
 
@@ -208,3 +208,18 @@ found-some es b f some = grind (arith, nat_tests)
 -- some bytes have a subtag
 pub some-in : (text : List ℕ) (span : Span) → 0 < span.len → IsWithin text span → 0 < length (subtags_in text span)
 some-in text span some within = grind (arith, nat_tests, length-span text span (some, within), length-slice_split is_hyphen)
+
+-- where a walk over the subtags of an extension stands, in the words of a record
+pub are-after :
+    (is_key : List ℕ → Bool) (b passed : ℕ) (text : List ℕ) (subtags key value : Span) (r : Record) → Spells r text →
+    (0 < subtags.len → EachRecord text (λ r. IsEnd b r (end_of subtags))) → 0 < length (subtags_in text subtags) → subtags_in text subtags ≡ subtags_of b r →
+    (IsTrue (is_new_key is_key (take (passed - 1) (subtags_in text subtags)) (span_text text key))
+    × (key.start + length (join (drop (passed - 1) (subtags_in text subtags))) ≡ end_of subtags)
+    × (value.start + length (join (drop passed (subtags_in text subtags))) ≡ end_of subtags)) → AreAfter is_key b passed text r key value
+are-after is_key b passed text subtags key value r spells end some is place = record {
+  new = subst (λ ss. IsTrue (is_new_key is_key (take (passed - 1) ss) (span_text text key))) is place.0;
+  key_begins = begins-with b text subtags key (drop (passed - 1) (subtags_of b r)) r spells end some
+      (subst (λ ss. key.start + length (join (drop (passed - 1) ss)) ≡ end_of subtags) is place.1);
+  value_begins = begins-with b text subtags value (drop passed (subtags_of b r)) r spells end some
+      (subst (λ ss. value.start + length (join (drop passed ss)) ≡ end_of subtags) is place.2);
+}

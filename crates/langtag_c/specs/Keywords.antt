@@ -33,11 +33,12 @@ IsEnd singleton r end = end + length_with_hyphens (map extension_spelling (exten
 abbrev pub BeginsWith : ℕ → List (List ℕ) → Record → Span → Type 0
 BeginsWith singleton left r span = IsEnd singleton r (span.start + length (join left))
 
--- a walk went up to a key that equals no subtag before it, and to its value, which follows it
-abbrev pub AreAfter : (List ℕ → Bool) → ℕ → ℕ → List ℕ → Record → Span → Span → Type 0
-AreAfter opens singleton passed text r key value =
-    IsTrue (is_new_key opens (take (passed - 1) (subtags_of singleton r)) (span_text text key))
-    × BeginsWith singleton (drop (passed - 1) (subtags_of singleton r)) r key × BeginsWith singleton (drop passed (subtags_of singleton r)) r value
+-- a walk went up to a key, which is the last of `passed` subtags, and to its value, which follows it
+pub record AreAfter (opens : List ℕ → Bool) (singleton passed : ℕ) (text : List ℕ) (r : Record) (key value : Span) : Type 0 where
+  -- the key equals no subtag before it
+  pub new : IsTrue (is_new_key opens (take (passed - 1) (subtags_of singleton r)) (span_text text key))
+  pub key_begins : BeginsWith singleton (drop (passed - 1) (subtags_of singleton r)) r key
+  pub value_begins : BeginsWith singleton (drop passed (subtags_of singleton r)) r value
 
 -- the span is within the text, and its subtags have one to eight letters and digits
 pub record HasSubtags (text : List ℕ) (span : Span) : Type 0 where

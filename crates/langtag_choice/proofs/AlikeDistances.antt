@@ -5,7 +5,8 @@ use Rattle.langtag_scan.proofs.CaseLaw.{fold_byte-twice, fold_text-twice, length
 use Rattle.langtag_range.specs.Definitions.{basic_text}
 use Rattle.langtag_range.proofs.AlikeTexts.{hyphened-fold, is_star-fold}
 use Rattle.langtag_range.proofs.BasicForms.{basic_text-alike}
-use Rattle.langtag_cldr.specs.Definitions.{current_text, known, without_region, without_language, most_unknown, most_likely, completed, matching_form, replaced_form, text_fields, fields_of_subtags, counted, last_language, is_extended_by, language_of, after_mark, marked_region, region_after, or_other, after_language, script_of, after_script, region_of}
+use Rattle.langtag_cldr.specs.Definitions.{base_text, current_text, known, without_region, without_language, most_unknown, most_likely, completed, matching_form, replaced_form, text_fields, fields_of_subtags, counted, last_language, is_extended_by, language_of, after_mark, marked_region, region_after, or_other, after_language, script_of, after_script, region_of}
+use Rattle.langtag_cldr.proofs.BaseTexts.{base-alike}
 use Rattle.langtag_fields.specs.Fields.{is_prefix_of}
 use Rattle.langtag_fields.proofs.Values.{preferred_tag-alike}
 use Rattle.langtag_text.specs.Fields.{Fields}
@@ -130,7 +131,7 @@ text_fields-fold text = ap fields_of_subtags (subtags-fold text) ∙ fields_of_s
 
 current_text-alike : (a b : List ℕ) → Alike a b → Alike (current_text a) (current_text b)
 current_text-alike a b alike =
-    let same = preferred_tag-alike (basic_text a) (basic_text b) (basic_text-alike a b alike) in
+    let same = preferred_tag-alike (base_text (basic_text a)) (base_text (basic_text b)) (base-alike (basic_text a) (basic_text b) (basic_text-alike a b alike)) in
     grind (arith, common_steps, same, hyphened-fold)
 
 pub replaced_form-alike : (a b : List ℕ) → Alike a b → AlikeOptions (replaced_form a) (replaced_form b)

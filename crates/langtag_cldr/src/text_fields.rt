@@ -127,7 +127,7 @@ fn may_be_marked(text: &[u8]) -> bool
 
 /// Returns the region after the letter `r`, or the empty string if the subtag is none of these.
 #[tactic(auto, using(langtag_text::proofs::FieldClasses::from_region, crate::proofs::CommonTexts::mark_off))]
-fn after_mark(subtag: &[u8]) -> &[u8]
+pub fn after_mark(subtag: &[u8]) -> &[u8]
     ensures region { result.now ≡ after_mark subtag.now }
     ensures in_class { IsTrue (is_region_field result.now) }
 {

@@ -2,3 +2,4 @@ pub mod Values
 pub mod FieldTables
 pub mod WholeTags
 pub mod RepeatsSeen
+pub mod RepeatCase

@@ -191,7 +191,7 @@ unfolding is_singleton is_letter is_digit is_mark
 u_singleton = refl
 
 module _ (change : List (List ℕ) → List (List ℕ)) (keeps : (ss : List (List ℕ)) → Good ss → Good (change ss)) where
-  good-changed : (stands : Bool) (es : List Extension) → AllByRecursion IsWellFormedExtension es → AllByRecursion IsWellFormedExtension (changed_from change stands es)
+  pub good-changed : (stands : Bool) (es : List Extension) → AllByRecursion IsWellFormedExtension es → AllByRecursion IsWellFormedExtension (changed_from change stands es)
   good-changed stands [] fits = good-extension_of 117 (change []) u_singleton (keeps [] tt)
   good-changed stands (e ∷ es) fits = grind (arith, common_steps, good-changed stands es fits.1, good-extension_of, u_singleton, each-append, fits.0)
 

@@ -1,8 +1,7 @@
 -- Sets of keys: a number for each first character, with a bit for each second character. Only contracts of private functions, and
 -- the view of an iterator, cite this page.
 use Rattle.std.specs.Prelude.{◌≡◌, ℕ, ◌+◌, ◌-◌, ◌*◌, ◌%◌, ◌^◌, Bool, false, ◌==◌, ◌&&◌, not, List, [], ◌∷◌, if◌then◌else◌, bit_or, length, slice_index_or, set}
-use Rattle.langtag_scan.specs.Grammar.{bit_at, list_any, are_alike, fold_byte, is_digit, join}
-use Rattle.langtag_scan.proofs.SubtagFacts.{IsSubtag}
+use Rattle.langtag_scan.specs.Grammar.{IsSubtag, bit_at, list_any, are_alike, fold_byte, is_digit, join}
 use Rattle.langtag_keyword.specs.Keywords.{Keyword, before_key}
 
 -- the place of a digit, or of a letter, ignoring case, in alphabetical order

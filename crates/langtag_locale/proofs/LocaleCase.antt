@@ -1,5 +1,5 @@
 -- The case of a tag changes nothing in its form as a Unicode locale identifier.
-use Rattle.langtag_keyword.proofs.Common.{keywords_form, common_steps, arith, ◌≡◌, ℕ, Bool, cond, List, [], ◌∷◌, ◌++◌, ◌&&◌, ◌||◌, map, fold, Option, find, option_map, unwrap_or, refl, sym, ap, subst, ◌∙◌, map-append, length-map, list_any, flat_map, list_all, is_some, option_map_or, is_none, codes, bytes_eq, Alike, are_alike, fold_text, fold_byte, one_flat, Extension, Record, spell, segments, Alias, TypeAlias, alias_for, type_alias_for, nat_tests, find_extension, fold_text-twice, AlikeRecords, transform_value, before_key, is_field_key, slice_get-map}
+use Rattle.langtag_keyword.proofs.Common.{keywords_form, common_steps, arith, ◌≡◌, ℕ, Bool, cond, List, [], ◌∷◌, ◌++◌, ◌&&◌, ◌||◌, map, fold, Option, find, option_map, unwrap_or, refl, sym, ap, subst, ◌∙◌, map-append, length-map, list_any, flat_map, list_all, is_some, option_map_or, codes, bytes_eq, Alike, are_alike, fold_text, fold_byte, one_flat, Extension, Record, spell, segments, Alias, TypeAlias, alias_for, type_alias_for, nat_tests, find_extension, fold_text-twice, AlikeRecords, transform_value, before_key, is_field_key}
 use Rattle.langtag_cldr.proofs.AlikeFields.{added-alike, by_options, by_same, known-alike, language-alike, likely_for-alike, or_other-alike}
 use Rattle.langtag_text.proofs.Alike.{AlikeFields, are_alike-left, are_alike-right}
 use Rattle.langtag_cldr.specs.Definitions.{or_else, or_other}
@@ -18,7 +18,7 @@ use Rattle.langtag_keyword.proofs.CanonicalKeywords.{key-fold, unicode_key-fold}
 use Rattle.langtag_locale.proofs.LocaleRecords.{locale_form_by, locale_form_tested}
 use Rattle.langtag_keyword.proofs.WalkLaws.{field_key-fold}
 use Rattle.langtag_keyword.proofs.ExtensionCase.{before-fold, fields-fold, is_of-fold, is_transform-fold, keywords-fold, lower-twice, transform_value-fold, unicode-fold, variants-fold}
-use Rattle.langtag.specs.Repeat.{are_alike_bytes, repeat, repeat_index_after}
+use Rattle.langtag_fields.proofs.RepeatCase.{bytes-fold, repeat-map, singletons-fold}
 use Rattle.langtag_text.proofs.RecommendedLaws.{alike_recommended}
 use Rattle.langtag_keyword.proofs.FormTwice.{unicode_language-fold}
 use Rattle.langtag_locale.specs.LocaleAliases as list
@@ -212,27 +212,6 @@ all-fold es (n ∷ ns) = grind (arith, common_steps, map-append, all-fold es ns,
 -- the forms of extensions in lowercase are those of the extensions, but for case
 pub extensions-alike : (es : List Extension) → map fold_extension (extensions_in_order (map fold_extension es)) ≡ map fold_extension (extensions_in_order es)
 extensions-alike es = all-fold es singletons
-
--- ---- what is repeated
-
-module _ {A : Type 0} (alike : A → A → Bool) (f : A → A) (same : (x y : A) → alike (f x) (f y) ≡ alike x y) where
-  any-map : (x : A) (xs : List A) → list_any (alike (f x)) (map f xs) ≡ list_any (alike x) xs
-  any-map x [] = refl
-  any-map x (y ∷ xs) = rw (same x y, any-map x xs) refl
-
-  index-map : (seen xs : List A) → repeat_index_after alike (map f seen) (map f xs) ≡ repeat_index_after alike seen xs
-  index-map seen [] = refl
-  index-map seen (x ∷ xs) = rw (any-map x seen, length-map seen f, ← map-append f seen (x ∷ []), index-map (seen ++ x ∷ []) xs) refl
-
-  repeat-map : (xs : List A) → is_none (repeat alike (map f xs)) ≡ is_none (repeat alike xs)
-  repeat-map xs = grind (arith, common_steps, index-map, slice_get-map)
-
-bytes-fold : (a b : ℕ) → are_alike_bytes (fold_byte a) (fold_byte b) ≡ are_alike_bytes a b
-bytes-fold a b = rw (fold_byte-twice a, fold_byte-twice b) refl
-
-singletons-fold : (es : List Extension) → map (λ e. e.singleton) (map fold_extension es) ≡ map fold_byte (map (λ e. e.singleton) es)
-singletons-fold [] = refl
-singletons-fold (e ∷ es) = ap (λ t. fold_byte e.singleton ∷ t) (singletons-fold es)
 
 -- ---- which records are Unicode locale identifiers
 

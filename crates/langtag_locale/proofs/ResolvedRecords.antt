@@ -1,15 +1,10 @@
 -- The record of the locale to format with: it is well-formed, and is put part by part.
 use Rattle.langtag_keyword.proofs.Common.{common_steps, ◌≡◌, ◌≤◌, ◌==◌, ◌||◌, ℕ, List, [], ◌∷◌, ◌++◌, true, false, not, cond, subst, Bool, length, fold, Option, Some, None, refl, sym, ap, ◌∙◌, arith, nat_tests, each-append, AllByRecursion, IsTrue, Output, Pushes, pushes_joined, pushes_same, with_joined, Record, IsWellFormed, one_flat, spell, join, of_primary, of_variant, is_region, is_script, is_variant, length-join, unwrap_or, option_map_or}
-use Rattle.langtag_scan.specs.Grammar.{flat, Extension, IsWellFormedExtension}
+use Rattle.langtag_scan.specs.Grammar.{flat, Extension}
 use Rattle.langtag_scan.proofs.Laws.{of_region}
 use Rattle.langtag_scan.proofs.Prelude.{IfSome}
 use Rattle.langtag_text.specs.Fields.{subtag_of}
 use Rattle.langtag_text.specs.Output.{with_subtag}
-use Rattle.langtag_scan.specs.Class.{is_digit, is_letter, is_mark, is_singleton}
-use Rattle.langtag_scan.proofs.Prelude.{lowercase-uppercase}
-use Rattle.langtag_scan.specs.Case.{fold_byte}
-use Rattle.langtag_scan.specs.CaseLaws.{are_alike-decides}
-use Rattle.langtag_scan.proofs.Laws.{alike_region}
 use Rattle.std.specs.Prelude.{codes}
 use Rattle.langtag_text.specs.Fields.{Fields}
 use Rattle.langtag_text.specs.FieldClasses.{is_region_field}
@@ -17,12 +12,13 @@ use Rattle.langtag_text.specs.RecommendedCase.{capital_text}
 use Rattle.langtag_cldr.specs.Definitions.{add_likely_subtags, known, or_else}
 use Rattle.langtag_likely.specs.Maximal.{fields_of, is_read, maximal_record, put_fields}
 use Rattle.langtag_likely.proofs.GoodForms.{maximal_well_formed}
-use Rattle.langtag_keyword.proofs.Common.{before_key, changed_from, extension_found, extension_of, find_extension, flat_map, fold_text, in_alphabet, is_key, keyword_form, keywords_form, unicode_value}
+use Rattle.langtag_keyword.proofs.Common.{before_key, extension_found, find_extension, flat_map, fold_text, in_alphabet, is_key, keyword_form, keywords_form, unicode_form, unicode_value}
 use Rattle.langtag_keyword.specs.Form.{keys_in_order}
 use Rattle.langtag_keyword.specs.Keywords.{subtags_of}
 use Rattle.langtag_keyword.proofs.AlphabetLaws.{each-back}
-use Rattle.langtag_keyword.proofs.FormRecords.{Good, good-unicode_form}
-use Rattle.langtag_locale.specs.Resolved.{Wish, from_greater, is_greater_key, is_likely_with, likely_script, new_region, resolved_record, resolved_subtags, script_with, staying, with_keywords}
+use Rattle.langtag_keyword.proofs.FormRecords.{Good, good-changed, good-unicode_form}
+use Rattle.langtag_posix.proofs.PosixNameRead.{capital_region}
+use Rattle.langtag_locale.specs.Resolved.{Wish, from_greater, is_greater_key, is_likely_with, likely_script, new_region, resolved_record, resolved_subtags, script_with, remaining_subtags, with_keywords}
 
 -- ---- parts
 
@@ -81,14 +77,6 @@ script_fits r region fits = by_tests (length region == 0) (is_read r.primary r.e
         script_by r (add_likely_subtags (fields_of r))
         (subst (λ read. IsWellFormed (option_map_or (put_fields r) (cond read (add_likely_subtags (fields_of r)) None) r)) is (maximal_well_formed r fits)) fits.script
 
-capital-fold : (text : List ℕ) → fold_text (capital_text text) ≡ fold_text text
-unfolding fold_byte
-capital-fold [] = refl
-capital-fold (b ∷ text) = rw (lowercase-uppercase b, capital-fold text) refl
-
-capital_region : (region : List ℕ) → is_region region ≡ true → is_region (capital_text region) ≡ true
-capital_region region is = alike_region region (capital_text region) ((are_alike-decides region (capital_text region)).1 (sym (capital-fold region))) is
-
 region_fits :
     (r : Record) (region : List ℕ) → IsWellFormed r → is_region_field region ≡ true → IfSome (or_else (subtag_of (capital_text (new_region r region))) r.region) (λ s. IsTrue (is_region s))
 region_fits r [] fits is = grind (arith, common_steps, nat_tests, fits.region)
@@ -96,45 +84,38 @@ region_fits r (b ∷ region) fits is = grind (arith, common_steps, nat_tests, fi
 
 -- ---- the subtags of `u`
 
-each-front : (P : List ℕ → Type 0) (xs ys : List (List ℕ)) → AllByRecursion P (xs ++ ys) → AllByRecursion P xs
-each-front P [] ys all = tt
-each-front P (x ∷ xs) ys all = (all.0, each-front P xs ys all.1)
+module _ (P : List ℕ → Type 0) where
+  each-front : (xs ys : List (List ℕ)) → AllByRecursion P (xs ++ ys) → AllByRecursion P xs
+  each-front [] ys all = tt
+  each-front (x ∷ xs) ys all = (all.0, each-front xs ys all.1)
 
-good_staying : (w : Wish) (gone : Bool) (ss : List (List ℕ)) → Good ss → Good (staying w gone ss)
-good_staying w gone [] good = tt
-good_staying w gone (s ∷ ss) good = grind (arith, common_steps, good_staying w true ss good.1, good_staying w false ss good.1)
+  each_remaining : (w : Wish) (gone : Bool) (ss : List (List ℕ)) → AllByRecursion P ss → AllByRecursion P (remaining_subtags w gone ss)
+  each_remaining w gone [] all = tt
+  each_remaining w gone (s ∷ ss) all = grind (arith, common_steps, each_remaining w true ss all.1, each_remaining w false ss all.1)
 
-good_before : (test : List ℕ → Bool) (ss : List (List ℕ)) → Good ss → Good (before_key test ss)
-good_before test [] good = tt
-good_before test (s ∷ ss) good = grind (arith, common_steps, good_before test ss good.1)
+  pub each_early : (key : List ℕ) (ss : List (List ℕ)) → AllByRecursion P ss → AllByRecursion P (before_key (is_greater_key key) ss)
+  each_early key [] all = tt
+  each_early key (s ∷ ss) all = grind (arith, common_steps, each_early key ss all.1)
 
-good_from : (key : List ℕ) (ss : List (List ℕ)) → Good ss → Good (from_greater key ss)
-good_from key [] good = tt
-good_from key (s ∷ ss) good = grind (arith, common_steps, good_from key ss good.1)
+  pub each_late : (key : List ℕ) (ss : List (List ℕ)) → AllByRecursion P ss → AllByRecursion P (from_greater key ss)
+  each_late key [] all = tt
+  each_late key (s ∷ ss) all = grind (arith, common_steps, each_late key ss all.1)
 
-good_with : (f : List ℕ → List (List ℕ)) (keys others : List (List ℕ)) → Good (flat_map f keys) → Good others → Good (with_keywords f keys others)
-good_with f [] others these good = good
-good_with f (key ∷ keys) others these good =
-    each-append _ (before_key (is_greater_key key) others) (f key ++ with_keywords f keys (from_greater key others)) (good_before (is_greater_key key) others good)
-    (each-append _ (f key) (with_keywords f keys (from_greater key others)) (each-front _ (f key) (flat_map f keys) these)
-    (good_with f keys (from_greater key others) (each-back _ (f key) (flat_map f keys) these) (good_from key others good)))
+  each_with : (f : List ℕ → List (List ℕ)) (keys others : List (List ℕ)) → AllByRecursion P (flat_map f keys) → AllByRecursion P others → AllByRecursion P (with_keywords f keys others)
+  each_with f [] others these all = all
+  each_with f (key ∷ keys) others these all =
+      each-append _ (before_key (is_greater_key key) others) (f key ++ with_keywords f keys (from_greater key others)) (each_early key others all)
+      (each-append _ (f key) (with_keywords f keys (from_greater key others)) (each-front (f key) (flat_map f keys) these)
+      (each_with f keys (from_greater key others) (each-back _ (f key) (flat_map f keys) these) (each_late key others all)))
+
+  -- what holds of the subtags that stay, and of the form of the range's subtags, holds of each
+  pub each_resolved_subtag : (w : Wish) (ss : List (List ℕ)) → AllByRecursion P (unicode_form w.unicode) → AllByRecursion P ss → AllByRecursion P (resolved_subtags w ss)
+  each_resolved_subtag w ss own all =
+      each_with (keyword_form is_key unicode_value w.unicode) (keys_in_order is_key w.unicode) (remaining_subtags w false ss)
+      (each-back _ (in_alphabet (before_key is_key w.unicode)) (keywords_form is_key unicode_value w.unicode) own) (each_remaining w false ss all)
 
 good_resolved : (w : Wish) (ss : List (List ℕ)) → Good w.unicode → Good ss → Good (resolved_subtags w ss)
-good_resolved w ss own good =
-    good_with (keyword_form is_key unicode_value w.unicode) (keys_in_order is_key w.unicode) (staying w false ss)
-    (each-back _ (in_alphabet (before_key is_key w.unicode)) (keywords_form is_key unicode_value w.unicode) (good-unicode_form w.unicode own)) (good_staying w false ss good)
-
-good_extension : (singleton : ℕ) (ss : List (List ℕ)) → is_singleton singleton ≡ true → Good ss → AllByRecursion IsWellFormedExtension (extension_of singleton ss)
-good_extension singleton ss is good = grind (arith, nat_tests)
-
-u_singleton : is_singleton 117 ≡ true
-unfolding is_singleton is_letter is_digit is_mark
-u_singleton = refl
-
-module _ (change : List (List ℕ) → List (List ℕ)) (keeps : (ss : List (List ℕ)) → Good ss → Good (change ss)) where
-  good_changed : (stands : Bool) (es : List Extension) → AllByRecursion IsWellFormedExtension es → AllByRecursion IsWellFormedExtension (changed_from change stands es)
-  good_changed stands [] fits = good_extension 117 (change []) u_singleton (keeps [] tt)
-  good_changed stands (e ∷ es) fits = grind (arith, common_steps, good_changed stands es fits.1, good_extension, u_singleton, each-append, fits.0)
+good_resolved w ss own = each_resolved_subtag _ w ss (good-unicode_form w.unicode own)
 
 pub resolved_well : (w : Wish) (r : Record) → IsWellFormed r → is_region_field w.region ≡ true → Good w.unicode → IsWellFormed (resolved_record w r)
 unfolding resolved_record
@@ -146,7 +127,7 @@ resolved_well w r fits region own = record {
   script = script_fits r (new_region r w.region) fits;
   region = region_fits r w.region fits region;
   variants = fits.variants;
-  extensions = good_changed (resolved_subtags w) (λ ss good. good_resolved w ss own good) _ r.extensions fits.extensions;
+  extensions = good-changed (resolved_subtags w) (λ ss good. good_resolved w ss own good) _ r.extensions fits.extensions;
   private_use = fits.private_use;
 }
 

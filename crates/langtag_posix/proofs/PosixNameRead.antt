@@ -130,17 +130,20 @@ modifier_cases f script variants modifier is =
 
 -- ---- the place is a tag
 
-capital-fold : (text : List ℕ) → fold_text (capital_text text) ≡ fold_text text
+pub capital-fold : (text : List ℕ) → fold_text (capital_text text) ≡ fold_text text
 unfolding fold_byte
 capital-fold [] = refl
 capital-fold (b ∷ text) = rw (lowercase-uppercase b, capital-fold text) refl
+
+pub capital_region : (region : List ℕ) → is_region region ≡ true → is_region (capital_text region) ≡ true
+capital_region region is = alike_region region (capital_text region) ((are_alike-decides region (capital_text region)).1 (sym (capital-fold region))) is
 
 unwrap-capital : (o : Option (List ℕ)) → unwrap_or (option_map capital_text o) [] ≡ capital_text (unwrap_or o [])
 unwrap-capital o = grind (arith, common_steps, nat_tests)
 
 region_fits : (o : Option (List ℕ)) → IfSome o (λ s. IsTrue (is_region s)) → IfSome (option_map capital_text o) (λ s. IsTrue (is_region s))
 region_fits None fits = tt
-region_fits (Some region) fits = alike_region region (capital_text region) ((are_alike-decides region (capital_text region)).1 (sym (capital-fold region))) fits
+region_fits (Some region) fits = capital_region region fits
 
 place_fits : (r : Record) (variant : List ℕ) → IsWellFormed r → AllByRecursion (λ s. IsTrue (is_variant s)) (listed variant) → IsWellFormed (place_record r variant)
 place_fits r variant fits variants = grind (arith, common_steps, fold_text-twice, alike_primary r.primary, are_alike-decides r.primary, region_fits)

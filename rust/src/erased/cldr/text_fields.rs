@@ -93,7 +93,8 @@ fn may_be_marked(text: &[u8]) -> bool {
 }
 
 /// Returns the region after the letter `r`, or the empty string if the subtag is none of these.
-fn after_mark(subtag: &[u8]) -> &[u8] {
+#[must_use]
+pub fn after_mark(subtag: &[u8]) -> &[u8] {
     let [mark, region @ ..] = subtag else {
         return b"";
     };
