@@ -173,8 +173,8 @@ class Page:
 
 def origins(text):
     """Returns each name that a page imports, with where it comes from. An alias is the name."""
-    for page, names in re.findall(r"(?m)^(?:unfoldable |pub )*use ([\w.]+?)(?:\.\{(.*)\})?$", text):
-        for path, _, alias in (name.partition(" as ") for name in names.split(", ") if name):
+    for page, names in re.findall(r"(?m)^(?:unfoldable |pub )*use ((?!.*\.contracts\..* as )[\w.]+)\.(\{.*\}|\w+ as \w+)$", text):
+        for path, _, alias in (name.partition(" as ") for name in names.strip("{}").split(", ")):
             yield alias or path, f"{page}.{path}"
 
 
