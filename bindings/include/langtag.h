@@ -8,15 +8,16 @@
  *         printf("%.*s\n", (int)parts.script.len, text + parts.script.start); // Hant
  *
  * For every input, each function ends, returns and writes what its comment says, and touches only the memory of its
- * arguments. This is proved of its source. No function allocates, keeps state between calls, calls back,
+ * arguments. This is proved for the source. No function allocates, keeps state between calls, calls back,
  * prints, exits or sets errno. So the functions may be called from several threads at once, and from signal handlers.
  * Time grows linearly with the length of the strings, except for langtag_repeats, langtag_extensions_form,
  * langtag_is_locale, langtag_locale_form, langtag_resolved_locale, and the calls that take a list of tags. langtag_next_keyword and
- * langtag_next_field read the string from its start in each call. So a walk reads it once for each different key, of
- * which there are at most 1,296.
+ * langtag_next_field read the string from its start in each call. So a walk reads the string once for each different
+ * key, of which there are at most 1,296.
  *
- * langtag_validity, langtag_canonical, langtag_is_canonical, langtag_locale_form and langtag_resolved_locale use the IANA registry. The choice of a tag,
- * distance, direction and likely subtags use its extended languages and the tags that it replaces as a whole.
+ * langtag_validity, langtag_canonical, langtag_is_canonical, langtag_locale_form and langtag_resolved_locale use the IANA
+ * registry. The choice of a tag, distance, direction and likely subtags use only its extended languages, and its list of
+ * replaced tags, such as i-klingon.
  *
  * WHAT THE CALLER MUST ENSURE. Nothing checks these rules at run time.
  *
@@ -391,6 +392,7 @@ LANGTAG_PURE bool langtag_is_locale(const char *bytes, size_t len) LANGTAG_NONNU
  * A tag that is not a Unicode locale identifier is replaced first. A tag with a Preferred-Value in the IANA registry
  * becomes that value: i-klingon becomes tlh. In any other tag, a registered extended language replaces the language
  * before it: zh-yue-HK becomes yue-HK. If the result is not a Unicode locale identifier, either, the tag has no form.
+ * r before a region, as Android writes it, is left out: es-rUS becomes es-US.
  *
  * Time is quadratic beyond 512 variants or attributes: up to 2 s for 1 MB.
  *
@@ -583,7 +585,7 @@ size_t langtag_parent(const char *bytes, size_t len, char *buffer, size_t buffer
  * does UK. So zh-Hant has no parent: zh is Simplified. A script that is likely anyway goes first, and comes back
  * before the language alone: zh-Hans-CN, zh-CN, zh-Hans, zh. Extensions and private use are removed next, then each
  * variant, the last one first, and then the region. The variants come back with each parent: ca-ES-valencia, ca-ES,
- * ca-valencia, ca. Case is ignored.
+ * ca-valencia, ca. Case is ignored. es-rUS, as Android writes es-US, stands before es-US and its parents.
  *
  * If the folders of a catalogue name scripts, such as zh-Hans, call this function with the result of
  * langtag_maximized, which names the script of zh-CN. CLDR does not list replaced codes such as iw and cmn, nor

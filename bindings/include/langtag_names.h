@@ -19,15 +19,9 @@ enum { LANGTAG_NAME_TWO_LETTERS = 27, LANGTAG_NAME_SUBTAG, LANGTAG_NAME_OWN, LAN
 enum { LANGTAG_NAME_LONGEST = 262144 };
 
 /* Writes the form of a tag whose subtags have the names, as langtag_canonical writes its form: the locale form, "de" for "ger", or the
- * canonical form if there is no locale form, or the tag has more than LANGTAG_NAME_LONGEST bytes. As in a choice, es-rUS is es-US, as
- * Android writes it. */
+ * canonical form if there is no locale form, or the tag has more than LANGTAG_NAME_LONGEST bytes. */
 static inline size_t langtag_name_form(const char *tag, size_t len, char *buffer, size_t buffer_len) {
-    char read[16]; /* a language, a hyphen and a region have at most 7 bytes */
-    const bool is_short = len <= LANGTAG_NAME_LONGEST;
-    size_t form_len = is_short ? langtag_locale_form(tag, len, buffer, buffer_len) : 0;
-    const bool is_read = is_short && form_len == 0 && langtag_kind(tag, len) == LANGTAG_NORMAL;
-    const size_t read_len = is_read ? langtag_from_posix(tag, len, read, sizeof read) : 0;
-    if (read_len > 0 && read_len <= sizeof read) form_len = langtag_locale_form(read, read_len, buffer, buffer_len);
+    const size_t form_len = len <= LANGTAG_NAME_LONGEST ? langtag_locale_form(tag, len, buffer, buffer_len) : 0;
     return form_len > 0 ? form_len : langtag_canonical(tag, len, buffer, buffer_len);
 }
 

@@ -229,7 +229,7 @@ export declare class LanguageTag {
      *
      * A likely script is removed first, and comes back just before the language alone. Then extensions and private use are removed, and then
      * each variant, from the last to the first. Then the region is replaced or removed, and the variants come back: ca-ES-valencia, ca-ES,
-     * ca-valencia and ca.
+     * ca-valencia and ca. es-rUS, as Android writes es-US, is followed by es-US and its parents.
      *
      * If a catalogue's folders name scripts, such as zh-Hans, ask for the parents of `maximize()`, which names the script of zh-CN. CLDR does
      * not list replaced codes such as iw and cmn, nor extended languages: ask for the parents of `localeForm()`.
@@ -418,8 +418,8 @@ export declare class Site<Tag extends Text = string> {
 }
 /**
  * Returns an English name of a tag, made of CLDR's names for the subtags of its locale form: "Portuguese (Brazil)" for pt-BR. If there is no
- * locale form, or the tag has more than 262,144 bytes, the canonical form is used. If CLDR does not name the language, the name is the tag's
- * own language as IANA's registry describes it: "Himachali languages" for him. A subtag without a name is shown as it is. Extensions and
+ * locale form, or the tag has more than 262,144 bytes, the canonical form is used. If CLDR does not name the language, the name is IANA's
+ * description of the tag's own language: "Himachali languages" for him. A subtag without a name is shown as it is. Extensions and
  * private use are left out, but a tag that is only private use is shown as it is. For names in other languages, use `Intl.DisplayNames`.
  */
 export declare function describe(tag: Text): string;

@@ -527,7 +527,7 @@ export class LanguageTag {
      *
      * A likely script is removed first, and comes back just before the language alone. Then extensions and private use are removed, and then
      * each variant, from the last to the first. Then the region is replaced or removed, and the variants come back: ca-ES-valencia, ca-ES,
-     * ca-valencia and ca.
+     * ca-valencia and ca. es-rUS, as Android writes es-US, is followed by es-US and its parents.
      *
      * If a catalogue's folders name scripts, such as zh-Hans, ask for the parents of `maximize()`, which names the script of zh-CN. CLDR does
      * not list replaced codes such as iw and cmn, nor extended languages: ask for the parents of `localeForm()`.
@@ -945,26 +945,25 @@ function nameIn(kind: number, key: string): string | undefined {
     return new TextDecoder().decode(Uint8Array.from(kind === OWN ? packed : expanded(packed), (byte) => byte.charCodeAt(0)));
 }
 
-/** Returns the English name of a language, which has letters in lowercase. */
+/** Returns the English name of a language. The code is in lowercase. */
 function languageName(code: string): string | undefined {
     if (code.length > 3) return undefined;
     return nameIn(code.length === 2 ? TWO_LETTERS : code.charCodeAt(2) & 31, code);
 }
 
-/** The greatest length of a tag whose locale form is written for a name, because that takes quadratic time. */
+/** The length of a tag up to which names use its locale form. For longer tags that would take too long, because its time is quadratic. */
 const LONGEST_NAMED = 262144;
 
-/** Returns the form of a tag whose subtags have the names: de for ger, and es-US for es-rUS, as Android writes it. */
+/** Returns the form of a tag whose subtags have the names: de for ger. */
 function named(tag: Text): LanguageTag {
     const read = tagOf(tag);
-    if (read.text.length > LONGEST_NAMED) return read.canonical();
-    return read.localeForm() ?? LanguageTag.fromPosix(read.text)?.localeForm() ?? read.canonical();
+    return (read.text.length > LONGEST_NAMED ? undefined : read.localeForm()) ?? read.canonical();
 }
 
 /**
  * Returns an English name of a tag, made of CLDR's names for the subtags of its locale form: "Portuguese (Brazil)" for pt-BR. If there is no
- * locale form, or the tag has more than 262,144 bytes, the canonical form is used. If CLDR does not name the language, the name is the tag's
- * own language as IANA's registry describes it: "Himachali languages" for him. A subtag without a name is shown as it is. Extensions and
+ * locale form, or the tag has more than 262,144 bytes, the canonical form is used. If CLDR does not name the language, the name is IANA's
+ * description of the tag's own language: "Himachali languages" for him. A subtag without a name is shown as it is. Extensions and
  * private use are left out, but a tag that is only private use is shown as it is. For names in other languages, use `Intl.DisplayNames`.
  */
 export function describe(tag: Text): string {

@@ -56,13 +56,18 @@ static text text_of(sqlite3_value *value) {
     return (text){at, at ? (size_t)sqlite3_value_bytes(value) : 0};
 }
 
-/* Returns whether a tag is too long for the function, which is an error. */
-static bool is_too_long(sqlite3_context *context, text tag) {
+/* Returns whether a string is longer than its limit, which is an error. */
+static bool exceeds(sqlite3_context *context, const char *what, text of, int limit) {
     char why[80];
-    if (!called(context)->is_quadratic || tag.len <= LANGTAG_NAME_LONGEST) return false;
-    sqlite3_snprintf(sizeof why, why, "tag is too long (%llu bytes, limit %d)", (unsigned long long)tag.len, LANGTAG_NAME_LONGEST);
+    if (of.len <= (size_t)limit) return false;
+    sqlite3_snprintf(sizeof why, why, "%s is too long (%llu bytes, limit %d)", what, (unsigned long long)of.len, limit);
     sqlite3_result_error(context, why, -1);
     return true;
+}
+
+/* Returns whether a tag is too long for the function, which is an error. */
+static bool is_too_long(sqlite3_context *context, text tag) {
+    return called(context)->is_quadratic && exceeds(context, "tag", tag, LANGTAG_NAME_LONGEST);
 }
 
 static void return_span(sqlite3_context *context, text of, langtag_span span) {
@@ -208,11 +213,11 @@ FUNCTION(set_keyword) {
 
 /* The time grows with the product of both lengths, so both have a limit, which PostgreSQL has, too. */
 FUNCTION(resolved_locale) {
-    const size_t longest = 8192;
+    const int limit = 8192;
     const text range = text_of(values[0]), tag = text_of(values[1]);
     if (!range.at || !tag.at) return; /* NULL */
-    if (range.len > longest || tag.len > longest) sqlite3_result_error(context, "langtag_resolved_locale: more than 8192 bytes", -1);
-    else return_written(context, &(source){.tag = tag, .range = range});
+    if (exceeds(context, "range", range, limit) || exceeds(context, "tag", tag, limit)) return;
+    return_written(context, &(source){.tag = tag, .range = range});
 }
 
 /* Reads an argument of a function that says yes or no. Returns false if it is NULL, as then the result is, or if there is no memory for

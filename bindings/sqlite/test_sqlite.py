@@ -237,12 +237,16 @@ class Sqlite(unittest.TestCase):
         self.assertIn("the header differs in the rows of a group", sqlite("SELECT langtag_group_best_for_header(column1, 'de') FROM (VALUES ('de'), ('en'));")[1])
 
     def test_lengths(self):
-        """A call whose time is quadratic refuses a tag of more than 262,144 bytes. The name of such a tag is that of its canonical form."""
+        """A call whose time is quadratic refuses a tag of more than 262,144 bytes, or of 8,192 if it also has a range. The name of such a tag is that of its canonical form."""
         tag = "'de-x-' || substr(replace(hex(zeroblob(40000)), '00', 'abcdefgh-'), 1, {}) || 'a'"
         for name in ("extensions_form", "is_locale", "locale_form"):
             said, complaint = sqlite("".join(f"SELECT langtag_{name}({tag.format(len)}) IS NOT NULL;\n" for len in (262138, 262139)))
             self.assertEqual(said, "1\n", name)
             self.assertIn("tag is too long (262145 bytes, limit 262144)", complaint)
+        for call, what in (("{}, 'de'", "range"), ("'de', {}", "tag")):
+            said, complaint = sqlite("".join(f"SELECT langtag_resolved_locale({call.format(tag.format(len))}) IS NOT NULL;\n" for len in (8186, 8187)))
+            self.assertEqual(said, "1\n", what)
+            self.assertIn(f"{what} is too long (8193 bytes, limit 8192)", complaint)
         tag = tag.replace("de-x", "ger-x")
         said, complaint = sqlite("".join(f"SELECT langtag_describe({tag.format(len)}), langtag_autonym({tag.format(len)});\n" for len in (262137, 262138)))
         self.assertEqual((said, complaint), ("German|Deutsch\nger|\n", ""))

@@ -137,8 +137,8 @@ def forms(text):
 @functools.lru_cache(None)
 def matching_form(text):
     """Returns the matching form of a tag, or of a range that begins like a tag, or None. A tag that the registry replaces as a whole
-    has the form of its replacement."""
-    front = FRONT.fullmatch(registry().whole(text) or text)
+    has the form of its replacement, also with extensions and private use."""
+    front = FRONT.fullmatch(registry().whole(re.split("-.(?=-|$)", text)[0]) or text)
     return form_of(front_fields(front)) if front and text.lower() != "und" else None
 
 
@@ -539,10 +539,16 @@ def parent(language, script, region):
 
 
 def parents(text):
-    """Returns a tag and its parents, the nearest first, or a hyphen if the text is no tag."""
+    """Returns a tag and its parents, the nearest first, or a hyphen if the text is no tag. After a tag with `r` before its region, as
+    Android writes it, the tag without this letter comes with its parents."""
     tag = Tag(text)
     if tag is None:
         return text if is_tag(text) else "-"
+    primary, _, extended = tag.language.partition("-")
+    marked = re.match("r([a-z]{2})(?=-|$)", extended, re.I | re.A)
+    if marked and not is_registered(tag.language):
+        read = "-".join(filter(None, (primary, tag.script, tag.region or marked[1]))) + tag.variants + tag.rest
+        return f"{text} {parents(read)}"
     chain = [text]
     language, script, region = fields = tag.language, tag.script or "", tag.region or ""
     usual = script if short(language, script, "")[1] == "" else ""  # the script that the tag names, if the language is usually written in it

@@ -36,6 +36,8 @@ def lines(path: pathlib.Path) -> list[list[str]]:
 # ---- the grammar: unicode_language_id, and the extensions u and t
 
 IDENTIFIER = re.compile(r"([a-z]{2,3}|[a-z]{5,8})(?:-([a-z]{4}))?(?:-([a-z]{2}|[0-9]{3}))?((?:-(?:[a-z0-9]{5,8}|[0-9][a-z0-9]{3}))*)")
+MARKED = re.compile(r"(?P<language>[a-z]{2,3})-(?P<extended>r(?P<marked>[a-z]{2})(-[a-z]{3}){,2})(?![^-])"
+                    r"(?P<script>-[a-z]{4}(?![^-]))?(?P<region>-([a-z]{2}|[0-9]{3})(?![^-]))?(?P<rest>.*)")
 FIELD_KEY = re.compile("[a-z][0-9]")
 
 Identifier = tuple[str, str, str, tuple[str, ...]]  # language, script, region, variants; an absent field is empty
@@ -232,10 +234,19 @@ def form_of_locale(tag: str) -> str | None:
     return "-".join(out + private)
 
 
+def read(tag: str) -> str:
+    """Returns a tag without `r` before its region, as Android writes it: es-us for es-rus."""
+    found = MARKED.fullmatch(tag.lower())
+    if not found or REGISTRY.prefixes.get(("extlang", found["extended"].split("-")[-1])) == [found["language"]]:
+        return tag
+    return found["language"] + (found["script"] or "") + (found["region"] or "-" + found["marked"]) + found["rest"]
+
+
 def locale_form(tag: str) -> str | None:
-    """Returns the form of a Unicode locale identifier. Of any other tag, it is the form of the Preferred-Value, or of the tag from its
-    extended language on."""
-    if is_locale(tag):
+    """Returns the form of a Unicode locale identifier, in which Android's `r` before a region is no letter. Of any other tag, it is the
+    form of the Preferred-Value, or of the tag from its extended language on."""
+    if is_locale(read(tag)):
+        tag = read(tag)
         return form_of_locale(tag)
     text = tag.lower()
     if text in PREFERRED or text in GRANDFATHERED:

@@ -53,7 +53,8 @@ impl fmt::Display for Fault {
 }
 
 /// The error for a tag that is not valid: its first subtag that is not registered, is a second
-/// extended language, or repeats an earlier subtag.
+/// extended language, or repeats an earlier subtag. It has its own copy of the subtag, so it outlives
+/// the tag.
 ///
 /// ```
 /// use langtag::registry::{validate, Fault};
@@ -65,21 +66,22 @@ impl fmt::Display for Fault {
 /// assert_eq!(error.to_string(), "variant rozaj is repeated");
 /// # Ok::<(), Box<dyn std::error::Error>>(())
 /// ```
-#[derive(Clone, Copy, Debug, PartialEq, Eq, Hash)]
-pub struct InvalidSubtag<T> {
+#[derive(Clone, Copy, PartialEq, Eq, Hash)]
+pub struct InvalidSubtag {
     fault: Fault,
-    subtag: T,
+    /// The subtag, and zeros after it.
+    subtag: [u8; LONGEST],
     start: usize,
+    end: usize,
 }
 
-/// The error of [`LangTagBuf::validate`](crate::LangTagBuf::validate), which owns its subtag.
-#[cfg(feature = "alloc")]
-pub type InvalidSubtagBuf = InvalidSubtag<alloc::string::String>;
+/// The greatest length of a subtag (RFC 5646 section 2.1).
+const LONGEST: usize = 8;
 
-impl<'a> InvalidSubtag<&'a str> {
+impl InvalidSubtag {
     /// Returns the error for a tag, or `None` if the tag is valid.
     #[inline]
-    pub(crate) fn of(tag: LangTag<'a>) -> Option<Self> {
+    pub(crate) fn of(tag: LangTag<'_>) -> Option<Self> {
         let (found, index) = fault_at(tag)?;
         InvalidSubtag::found_in(tag, found, index)
     }
@@ -88,29 +90,33 @@ impl<'a> InvalidSubtag<&'a str> {
     /// time.
     #[cold]
     #[inline(never)]
-    fn found_in(tag: LangTag<'a>, found: Found<'a>, index: usize) -> Option<Self> {
+    fn found_in(tag: LangTag<'_>, found: Found<'_>, index: usize) -> Option<Self> {
         let tag = tag.as_normal()?;
         let ends = tag.ends();
         let extlang = tag.language().primary().len() + 1;
         let variant = || ends.region + 1 + length(tag.variants().iter().take(index));
-        let (fault, start, subtag) = match found {
-            Found::Language(subtag) => (Fault::Language, 0, subtag.as_str()),
-            Found::Extlang(subtag) => (Fault::Extlang, extlang, subtag.as_str()),
-            Found::SecondExtlang(subtag) => (Fault::SecondExtlang, extlang + 4, subtag.as_str()),
-            Found::Script(subtag) => (Fault::Script, ends.language + 1, subtag.as_str()),
-            Found::Region(subtag) => (Fault::Region, ends.script + 1, subtag.as_str()),
-            Found::Variant(subtag) => (Fault::Variant, variant(), subtag.as_str()),
-            Found::RepeatedVariant(subtag) => (Fault::RepeatedVariant, variant(), subtag.as_str()),
+        let (fault, start) = match found {
+            Found::Language(_) => (Fault::Language, 0),
+            Found::Extlang(_) => (Fault::Extlang, extlang),
+            Found::SecondExtlang(_) => (Fault::SecondExtlang, extlang + 4),
+            Found::Script(_) => (Fault::Script, ends.language + 1),
+            Found::Region(_) => (Fault::Region, ends.script + 1),
+            Found::Variant(_) => (Fault::Variant, variant()),
+            Found::RepeatedVariant(_) => (Fault::RepeatedVariant, variant()),
             Found::RepeatedSingleton(_) => {
-                let start = ends.variants + 1 + length(tag.extensions().iter().take(index));
-                let singleton = &tag.as_lang_tag().as_str()[start..=start];
-                (Fault::RepeatedSingleton, start, singleton)
+                let before = length(tag.extensions().iter().take(index));
+                (Fault::RepeatedSingleton, ends.variants + 1 + before)
             }
         };
+        let text = tag.as_str()[start..].split('-').next()?;
+        let mut subtag = [0; LONGEST];
+        subtag[..text.len()].copy_from_slice(text.as_bytes());
+        let end = start + text.len();
         Some(InvalidSubtag {
             fault,
             subtag,
             start,
+            end,
         })
     }
 }
@@ -120,7 +126,7 @@ fn length(parts: impl Iterator<Item: AsRef<str>>) -> usize {
     parts.map(|part| part.as_ref().len() + 1).sum()
 }
 
-impl<T: AsRef<str>> InvalidSubtag<T> {
+impl InvalidSubtag {
     /// Returns what is wrong with the subtag.
     #[must_use]
     pub fn fault(&self) -> Fault {
@@ -130,7 +136,7 @@ impl<T: AsRef<str>> InvalidSubtag<T> {
     /// Returns the subtag, in its original case.
     #[must_use]
     pub fn subtag(&self) -> &str {
-        self.subtag.as_ref()
+        core::str::from_utf8(&self.subtag[..self.end - self.start]).unwrap_or_default()
     }
 
     /// Returns where the subtag begins in the tag, in bytes.
@@ -143,7 +149,7 @@ impl<T: AsRef<str>> InvalidSubtag<T> {
     /// Returns where the subtag ends in the tag, in bytes.
     #[must_use]
     pub fn end(&self) -> usize {
-        self.start + self.subtag().len()
+        self.end
     }
 
     /// Returns the registered code that is probably meant, or `None` if CLDR's aliases have none:
@@ -170,35 +176,16 @@ impl<T: AsRef<str>> InvalidSubtag<T> {
     }
 }
 
-#[cfg(feature = "alloc")]
-impl<T: Into<alloc::string::String>> InvalidSubtag<T> {
-    /// Returns the same error with its own copy of the subtag, so that it does not borrow the tag.
-    ///
-    /// ```
-    /// use langtag::registry::{validate, InvalidSubtag};
-    /// use langtag::LangTagBuf;
-    ///
-    /// fn read(text: &str) -> Result<LangTagBuf, Box<dyn std::error::Error>> {
-    ///     let tag: LangTagBuf = text.parse()?;
-    ///     validate(&tag).map_err(InvalidSubtag::into_owned)?;
-    ///     Ok(tag)
-    /// }
-    /// assert_eq!(read("qt-FR").unwrap_err().to_string(), "language qt is not registered");
-    /// ```
-    #[must_use]
-    pub fn into_owned(self) -> InvalidSubtagBuf {
-        InvalidSubtag {
-            fault: self.fault,
-            subtag: self.subtag.into(),
-            start: self.start,
-        }
+impl fmt::Debug for InvalidSubtag {
+    fn fmt(&self, f: &mut fmt::Formatter<'_>) -> fmt::Result {
+        let mut shown = f.debug_struct("InvalidSubtag");
+        shown.field("fault", &self.fault);
+        shown.field("subtag", &self.subtag());
+        shown.field("start", &self.start).finish()
     }
 }
 
-#[cfg(feature = "alloc")]
-from!([] InvalidSubtag<&str> => InvalidSubtagBuf: error => error.into_owned());
-
-impl<T: AsRef<str>> fmt::Display for InvalidSubtag<T> {
+impl fmt::Display for InvalidSubtag {
     fn fmt(&self, f: &mut fmt::Formatter<'_>) -> fmt::Result {
         // The strings are written as they are: `write!` would take twice the time.
         let [_, what, how] = self.fault.words();
@@ -214,4 +201,4 @@ impl<T: AsRef<str>> fmt::Display for InvalidSubtag<T> {
     }
 }
 
-impl<T: AsRef<str> + fmt::Debug> core::error::Error for InvalidSubtag<T> {}
+impl core::error::Error for InvalidSubtag {}

@@ -4,7 +4,7 @@
 use crate::erased::tag::*;
 use crate::matching::{Fallbacks, LanguageRange, LanguageRangeBuf};
 #[cfg(feature = "data")]
-use crate::registry::InvalidSubtagBuf;
+use crate::registry::InvalidSubtag;
 
 macro_rules! lent {
     ($($owned:ident: $name:ident by $lend:ident {
@@ -57,8 +57,8 @@ lent! {
         /// Returns an iterator over the extensions, including extensions with a repeated singleton:
         /// `a-bb` and `A-cc` for `a-bb-A-cc`.
         iter() -> ExtensionsIter<'_>;
-        /// Returns the extension with a singleton, which may be a `Singleton`, a `char` or a `u8`,
-        /// or `None` if there is none.
+        /// Returns the extension with a singleton, or `None` if there is none. The singleton may be a
+        /// `Singleton`, a `char` or a `u8`.
         get(singleton: impl TryInto<Singleton>) -> Option<Extension<'_>>;
     }
     PrivateUseBuf: PrivateUse by as_private_use {
@@ -174,9 +174,6 @@ lent! {
         /// Returns whether the range matches a tag by extended filtering (RFC 4647 section 3.3.2):
         /// `de-DE` and `de-*-DE` match `de-Latn-DE-1996`.
         matches_extended<'t>(tag: impl Into<LangTag<'t>>) -> bool;
-        /// Returns whether the range matches a tag by extended filtering, as `matches_extended`
-        /// does.
-        matches<'t>(tag: impl Into<LangTag<'t>>) -> bool;
     }
 }
 
@@ -196,7 +193,7 @@ impl LangTagBuf {
     ///
     /// Returns the first subtag that makes the tag invalid.
     #[inline]
-    pub fn validate(&self) -> Result<(), InvalidSubtagBuf> {
-        Ok(self.as_lang_tag().validate()?)
+    pub fn validate(&self) -> Result<(), InvalidSubtag> {
+        self.as_lang_tag().validate()
     }
 }

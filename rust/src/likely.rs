@@ -171,6 +171,7 @@ pub fn write_parent<'a, 'b>(
 /// `zh-CN`, `zh-Hans`, `zh`. Then extensions and private use are removed, and then each variant,
 /// from the last to the first. Then the region is replaced or removed, and the variants come back:
 /// `en-GB-oxendict`, `en-GB`, `en-001-oxendict`, `en-001`, `en-oxendict`, `en`. Case is ignored.
+/// `es-rUS`, as Android writes `es-US`, is followed by `es-US` and its parents.
 ///
 /// If a catalogue's folders name scripts, such as `zh-Hans`, ask for the parents of
 /// [`LangTag::maximized`], which names the script of `zh-CN`. CLDR does not list replaced codes such as `iw` and `cmn`, nor

@@ -77,21 +77,6 @@ impl LanguageRange<'_> {
     pub fn matches_extended<'t>(self, tag: impl Into<LangTag<'t>>) -> bool {
         self.is_extended_match(&tag.into())
     }
-
-    /// Returns what [`matches_extended`](Self::matches_extended) returns, as [`LangTag::matches`]
-    /// does. Without this method, `matches` would be that of `str`, which searches for a pattern.
-    ///
-    /// ```
-    /// use langtag::{LangTag, LanguageRange};
-    ///
-    /// assert!(LanguageRange::new("*-DE")?.matches(LangTag::new("de-Latn-DE")?));
-    /// # Ok::<(), Box<dyn std::error::Error>>(())
-    /// ```
-    #[inline]
-    #[must_use]
-    pub fn matches<'t>(self, tag: impl Into<LangTag<'t>>) -> bool {
-        self.matches_extended(tag)
-    }
 }
 
 /// Returns the ranges of an `Accept-Language` header with their weights, in order. A malformed

@@ -54,7 +54,7 @@ impl<'a> LangTag<'a> {
     /// assert_eq!(error.suggestion(), Some("de"));
     /// # Ok::<(), Box<dyn std::error::Error>>(())
     /// ```
-    pub fn validate(self) -> Result<(), InvalidSubtag<&'a str>> {
+    pub fn validate(self) -> Result<(), InvalidSubtag> {
         registry::validate(self)
     }
 

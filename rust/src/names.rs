@@ -19,16 +19,15 @@ use alloc::string::String;
 use alloc::vec::Vec;
 
 use self::data::{INDEX, PAIRS, ROWS};
-use crate::likely::from_posix;
 use crate::{LangTag, LangTagBuf, NormalLangTag, Script};
 
 /// Returns an English name of a tag, made of CLDR's names for the subtags of its
 /// [`LangTag::locale_form`].
 ///
 /// If there is no locale form, or the tag has more than 262,144 bytes, the canonical form is used. If
-/// CLDR does not name the language, the name is the tag's own language as IANA's registry describes
-/// it. A subtag without a name is shown as it is. Extensions and private use are left out, but a tag
-/// that is only private use is shown as it is.
+/// CLDR does not name the language, the name is IANA's description of the tag's own language. A
+/// subtag without a name is shown as it is. Extensions and private use are left out, but a tag that
+/// is only private use is shown as it is.
 ///
 /// ```
 /// use langtag::names::describe;
@@ -71,19 +70,15 @@ pub fn describe<'a>(tag: impl Into<LangTag<'a>>) -> String {
     String::from_utf8(name).unwrap_or_default()
 }
 
-/// The greatest length of a tag whose locale form is written for a name, because that takes
-/// quadratic time.
+/// The length of a tag up to which names use its locale form. For longer tags that would take too
+/// long, because its time is quadratic.
 const LONGEST: usize = 262_144;
 
-/// Returns the form of a tag whose subtags have the names: `de` for `ger`, as in [`LangTag::locale_form`],
-/// and `es-US` for `es-rUS`, as Android writes it, and as a choice reads it.
+/// Returns the form of a tag whose subtags have the names: `de` for `ger`, and `es-US` for `es-rUS`, as
+/// in [`LangTag::locale_form`].
 fn form_of(tag: LangTag<'_>) -> LangTagBuf {
-    if tag.as_str().len() > LONGEST {
-        return tag.canonical();
-    }
-    tag.locale_form()
-        .or_else(|| from_posix(tag.as_str()).ok()?.locale_form())
-        .unwrap_or_else(|| tag.canonical())
+    let form = (tag.as_str().len() <= LONGEST).then(|| tag.locale_form());
+    form.flatten().unwrap_or_else(|| tag.canonical())
 }
 
 /// Returns the subtags that a name has in parentheses.

@@ -19,8 +19,6 @@ use crate::too_short::written;
 use crate::{ExtendedLangTag, LangTag, PrimaryLanguage, Region, Script, TooShort, Variant};
 
 pub use crate::erased::registry::{misplaced_extlang, misplaced_variant, FILE_DATE};
-#[cfg(feature = "alloc")]
-pub use crate::invalid_subtag::InvalidSubtagBuf;
 pub use crate::invalid_subtag::{Fault, InvalidSubtag};
 
 /// Checks that a tag is valid ([RFC 5646 section 2.2.9]): its language, script, region and variants
@@ -29,8 +27,7 @@ pub use crate::invalid_subtag::{Fault, InvalidSubtag};
 /// # Errors
 ///
 /// Returns the first subtag that makes the tag invalid, and where it is. The message may suggest
-/// another subtag. The error borrows the tag: a function that drops the tag and returns the error
-/// calls `map_err(InvalidSubtag::into_owned)?`.
+/// another subtag.
 ///
 /// ```
 /// use langtag::registry::{validate, Fault};
@@ -44,7 +41,7 @@ pub use crate::invalid_subtag::{Fault, InvalidSubtag};
 ///
 /// [RFC 5646 section 2.2.9]: https://www.rfc-editor.org/rfc/rfc5646#section-2.2.9
 #[inline]
-pub fn validate<'a>(tag: impl Into<LangTag<'a>>) -> Result<(), InvalidSubtag<&'a str>> {
+pub fn validate<'a>(tag: impl Into<LangTag<'a>>) -> Result<(), InvalidSubtag> {
     InvalidSubtag::of(tag.into()).map_or(Ok(()), Err)
 }
 
@@ -73,8 +70,7 @@ macro_rules! records {
     ($($(#[$text:meta])+ $name:ident($part:ident: $type:ident) -> $result:ty;)+) => {$(
         $(#[$text])+
         ///
-        /// The argument is a part, an owned part or its string. A string that is no such part has no
-        /// record.
+        /// The argument is a part, an owned part or its string. A malformed string has no record.
         #[must_use]
         pub fn $name<'a>($part: impl TryInto<$type<'a>>) -> $result {
             $part.try_into().map_or_else(|_| Default::default(), registry::$name)

@@ -1,5 +1,5 @@
-//! Tags, their parts and ranges as strings of serde: `Serialize` and `Deserialize`, in lists,
-//! options and as keys of maps. The borrowed types are deserialized from a string that is borrowed
+//! Tags, their parts and kinds, and ranges as strings of serde: `Serialize` and `Deserialize`, in
+//! lists, options and as keys of maps. The borrowed types are deserialized from a string that is borrowed
 //! from the input.
 //!
 //! This module needs `cfg(feature = "serde")`. The manifest of a release declares that feature and
@@ -87,6 +87,25 @@ impl<'de> Deserialize<'de> for Singleton {
     fn deserialize<D: Deserializer<'de>>(deserializer: D) -> Result<Self, D::Error> {
         let character = char::deserialize(deserializer)?;
         Singleton::try_from(character).map_err(D::Error::custom)
+    }
+}
+
+impl Serialize for Kind {
+    fn serialize<S: Serializer>(&self, serializer: S) -> Result<S::Ok, S::Error> {
+        serializer.collect_str(self)
+    }
+}
+
+impl<'de> Deserialize<'de> for Kind {
+    fn deserialize<D: Deserializer<'de>>(deserializer: D) -> Result<Self, D::Error> {
+        match &*String::deserialize(deserializer)? {
+            "normal" => Ok(Kind::Normal),
+            "private-use" => Ok(Kind::PrivateUse),
+            "grandfathered" => Ok(Kind::Grandfathered),
+            text => Err(D::Error::custom(format_args!(
+                "`{text}` is not a kind of tags"
+            ))),
+        }
     }
 }
 

@@ -46,6 +46,7 @@ pub extern "C" fn langtag_is_locale(bytes: &[u8]) -> bool
 /// A tag that is not a Unicode locale identifier is replaced first. A tag with a Preferred-Value in the IANA registry
 /// becomes that value: i-klingon becomes tlh. In any other tag, a registered extended language replaces the language
 /// before it: zh-yue-HK becomes yue-HK. If the result is not a Unicode locale identifier, either, the tag has no form.
+/// r before a region, as Android writes it, is left out: es-rUS becomes es-US.
 ///
 /// Time is quadratic beyond 512 variants or attributes: up to 2 s for 1 MB.
 ///

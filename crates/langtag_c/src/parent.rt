@@ -41,7 +41,7 @@ pub extern "C" fn langtag_parent(bytes: &[u8], buffer: &mut [u8]) -> usize
 /// does UK. So zh-Hant has no parent: zh is Simplified. A script that is likely anyway goes first, and comes back
 /// before the language alone: zh-Hans-CN, zh-CN, zh-Hans, zh. Extensions and private use are removed next, then each
 /// variant, the last one first, and then the region. The variants come back with each parent: ca-ES-valencia, ca-ES,
-/// ca-valencia, ca. Case is ignored.
+/// ca-valencia, ca. Case is ignored. es-rUS, as Android writes es-US, stands before es-US and its parents.
 ///
 /// If the folders of a catalogue name scripts, such as zh-Hans, call this function with the result of
 /// `langtag_maximized`, which names the script of zh-CN. CLDR does not list replaced codes such as iw and cmn, nor

@@ -1,17 +1,18 @@
 -- How wide groups of regions are, from their tables.
-use Rattle.langtag_scan.proofs.Prelude.{◌≡◌, ℕ, ◌<◌, Bool, true, false, List, [], ◌∷◌, length, get_or, map, Option, None, Some, option_map_or, refl, sym, subst, ap, ◌∙◌, arith, ◌&&◌, nat_tests, and_parts, common_steps, list_all, is_some, get_or-map, length-map}
-use Rattle.langtag_scan.specs.Grammar.{Alike, are_alike, are_alphanumeric, fold_byte, folded_number, is_letter, is_digit}
-use Rattle.langtag_scan.proofs.FoldedNumbers.{folded_number-tells}
+use Rattle.langtag_scan.proofs.Prelude.{◌≡◌, ℕ, ◌<◌, ◌≤◌, ◌+◌, ◌*◌, drop, or_parts, Bool, true, false, List, [], ◌∷◌, length, get_or, map, Option, None, Some, option_map_or, refl, sym, subst, ap, ◌∙◌, arith, ◌&&◌, nat_tests, and_parts, list_all, is_some, get_or-map, length-map}
+use Rattle.std.specs.Bool.{nat_le}
+use Rattle.langtag_scan.specs.Grammar.{Alike, are_alphanumeric, fold_byte, folded_number, is_letter, is_digit}
+use Rattle.langtag_scan.proofs.FoldedNumbers.{fold_digits, folded_number-tells}
 use Rattle.langtag_text.specs.Fields.{Fields}
 use Rattle.langtag_text.specs.Numbers.{climbs_from}
-use Rattle.langtag_text.proofs.Alike.{AlikeFields, are_alike-right}
+use Rattle.langtag_text.proofs.Alike.{are_alike-right}
 use Rattle.langtag_text.proofs.Elements.{list_all_get}
-use Rattle.langtag_cldr.specs.Definitions.{first_index, matching_form}
+use Rattle.langtag_cldr.specs.Definitions.{first_index}
 use Rattle.langtag_cldr.proofs.AlikeFields.{AlikeOptions, by_options}
 use Rattle.langtag_choice.specs.Distance.{is_among}
 use Rattle.langtag_choice.specs.MatchingData.{region_groups}
 use Rattle.langtag_choice.specs.RegionGroup.{RegionGroup, no_group}
-use Rattle.langtag_choice.specs.RegionWidth.{IsGroupIndex, region_in, region_width, width_among, width_of, width_of_forms, width_unlisted}
+use Rattle.langtag_choice.specs.RegionWidth.{IsGroupIndex, is_letter_group, no_group_width, region_in, region_width, width_among, width_of, width_of_forms, width_unlisted}
 use Rattle.langtag_choice.specs.declared.matching_tables.TheConstants.{GROUP_KEYS, GROUP_REGIONS}
 use Rattle.langtag_choice.proofs.AlikeDistances.{among-alike, matching_form-alike}
 use Rattle.langtag_choice.proofs.MatchingTables.{among_by_number}
@@ -55,6 +56,33 @@ group_found None keys code plain keys_are is within = λ region. cc (found_among
 group_found (Some i) keys code plain keys_are is within =
     (subst (λ n. i < n) (ap length keys_are ∙ length-map region_groups code_number) (within i refl), λ region. cc (found_among region_groups region code groups_listed.plain plain))
 
+-- ---- the codes of two letters
+
+none_below : (keys : List ℕ) (number least : ℕ) → list_all (λ key. nat_le least key) keys ≡ true → number < least → first_index keys number ≡ None
+none_below [] number least all below = refl
+none_below (key ∷ keys) number least all below = grind (arith, nat_tests, and_parts, none_below keys number least)
+
+two_digits : (a b : ℕ) → folded_number (a ∷ b ∷ []) ≡ fold_byte a * 256 + fold_byte b
+unfolding folded_number
+two_digits a b = omega arith
+
+-- the keys of EU, EZ, QO and UN come before those of three digits
+no_key : (a b : ℕ) → a < 256 → b < 256 → is_letter_group a b ≡ false → first_index GROUP_KEYS (a * 256 + b) ≡ None
+no_key a b small also none = grind (arith, nat_tests, or_parts, and_parts, none_below (drop 4 GROUP_KEYS) (a * 256 + b) 65536 refl)
+
+two_letters : (a b : ℕ) → are_alphanumeric (a ∷ b ∷ []) ≡ true → is_letter_group (fold_byte a) (fold_byte b) ≡ false → IsGroupIndex (a ∷ b ∷ []) None
+two_letters a b plain none =
+    let digits = fold_digits (a ∷ b ∷ []) plain in
+    let no : first_index GROUP_KEYS (folded_number (a ∷ b ∷ [])) ≡ None = rw (two_digits a b) (no_key (fold_byte a) (fold_byte b) digits.0.most digits.1.0.most none) in
+    group_found None GROUP_KEYS (a ∷ b ∷ []) plain groups_listed.codes_are (sym no) (λ i is. cc is)
+
+pub country_apart :
+    (code : List ℕ) → are_alphanumeric code ≡ true → 2 ≤ length code → length code < 3 → is_letter_group (fold_byte (get_or code 0 0)) (fold_byte (get_or code 1 0)) ≡ false → IsGroupIndex code None
+country_apart [] plain some few none = absurd (omega (arith, some))
+country_apart (a ∷ []) plain some few none = absurd (omega (arith, some))
+country_apart (a ∷ b ∷ []) plain some few none = two_letters a b plain none
+country_apart (a ∷ b ∷ c ∷ code) plain some few none = absurd (omega (arith, few))
+
 -- ---- the regions of a group
 
 regions_plain : (i : ℕ) → i < length region_groups → list_all are_alphanumeric (get_or region_groups i no_group).regions ≡ true
@@ -79,7 +107,7 @@ module _ (numbers : List ℕ) (i : ℕ) (region : List ℕ) (inside : i < length
   pub width_inside : is_some (first_index numbers (folded_number region)) ≡ true → length numbers ≡ width_of (get_or region_groups i no_group) region
   width_inside found = rw (sym region_among ∙ found) (ap length is ∙ length-map (get_or region_groups i no_group).regions folded_number)
 
-  pub width_outside : is_some (first_index numbers (folded_number region)) ≡ false → 1000 ≡ width_of (get_or region_groups i no_group) region
+  pub width_outside : is_some (first_index numbers (folded_number region)) ≡ false → no_group_width ≡ width_of (get_or region_groups i no_group) region
   width_outside none = rw (sym region_among ∙ none) refl
 
 -- ---- in any case

@@ -1,5 +1,5 @@
 -- Whether texts have the extension t, as they are read and in any case.
-use Rattle.langtag_scan.proofs.Prelude.{◌≡◌, ℕ, true, false, not, ◌&&◌, ◌||◌, before_first, after_first, List, [], ◌∷◌, refl, sym, ap, ◌∙◌, arith, map, filter, cond, subst, bytes_decides, nat_tests, common_steps, codes}
+use Rattle.langtag_scan.proofs.Prelude.{◌≡◌, ◌≤◌, ◌<◌, ℕ, Bool, length, get_or, true, false, not, ◌&&◌, ◌||◌, before_first, after_first, List, [], ◌∷◌, refl, sym, arith, map, filter, subst, bytes_decides, nat_tests, common_steps, codes}
 use Rattle.langtag_scan.specs.Grammar.{Alike, are_alike, fold_byte, fold_text, subtags}
 use Rattle.langtag_scan.proofs.CaseLaw.{fold_text-twice, subtags-fold}
 use Rattle.langtag_text.proofs.Alike.{are_alike-right}
@@ -40,6 +40,37 @@ next_subtag text = grind (arith, common_steps, cut_or_whole is_separator text, s
 pub nothing_transformed : is_transformed [] ≡ false
 unfolding is_transformed fold_byte
 nothing_transformed = refl
+
+-- ---- short texts
+
+abbrev are_plain : ℕ → ℕ → Bool
+are_plain a b = not (is_separator a) && not (is_separator b)
+
+two_bytes : (a b : ℕ) → are_plain a b ≡ true → is_transformed (a ∷ b ∷ []) ≡ false
+unfolding is_transformed
+two_bytes a b plain = grind (arith, nat_tests, common_steps, segments-read (a ∷ b ∷ []))
+
+-- whether the third of five bytes is a separator or not, no subtag has a single byte
+five_bytes : (a b m c d : ℕ) → (are_plain a b && are_plain c d) ≡ true → is_transformed (a ∷ b ∷ m ∷ c ∷ d ∷ []) ≡ false
+unfolding is_transformed
+five_bytes a b m c d plain = grind (arith, nat_tests, common_steps, segments-read (a ∷ b ∷ m ∷ c ∷ d ∷ []))
+
+pub two_untransformed : (text : List ℕ) → 2 ≤ length text → length text < 3 → are_plain (get_or text 0 0) (get_or text 1 0) ≡ true → is_transformed text ≡ false
+two_untransformed [] some few plain = absurd (omega (arith, some))
+two_untransformed (a ∷ []) some few plain = absurd (omega (arith, some))
+two_untransformed (a ∷ b ∷ []) some few plain = two_bytes a b plain
+two_untransformed (a ∷ b ∷ c ∷ text) some few plain = absurd (omega (arith, few))
+
+pub five_untransformed :
+    (text : List ℕ) → 5 ≤ length text → length text < 6 → (are_plain (get_or text 0 0) (get_or text 1 0) && are_plain (get_or text 3 0) (get_or text 4 0)) ≡ true →
+    is_transformed text ≡ false
+five_untransformed [] some few plain = absurd (omega (arith, some))
+five_untransformed (a ∷ []) some few plain = absurd (omega (arith, some))
+five_untransformed (a ∷ b ∷ []) some few plain = absurd (omega (arith, some))
+five_untransformed (a ∷ b ∷ m ∷ []) some few plain = absurd (omega (arith, some))
+five_untransformed (a ∷ b ∷ m ∷ c ∷ []) some few plain = absurd (omega (arith, some))
+five_untransformed (a ∷ b ∷ m ∷ c ∷ d ∷ []) some few plain = five_bytes a b m c d plain
+five_untransformed (a ∷ b ∷ m ∷ c ∷ d ∷ e ∷ text) some few plain = absurd (omega (arith, few))
 
 -- ---- of a range
 

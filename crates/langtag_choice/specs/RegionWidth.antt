@@ -1,5 +1,5 @@
 -- How wide the group of regions is for which a tag was written, such as `en-150` for Europe.
-use Rattle.std.specs.Prelude.{◌≡◌, ◌<◌, ℕ, if◌then◌else◌, List, [], ◌∷◌, MatchOption, Option, codes, length, slice_index_or}
+use Rattle.std.specs.Prelude.{◌≡◌, ◌<◌, ◌==◌, ◌&&◌, ◌||◌, ℕ, Bool, if◌then◌else◌, List, [], ◌∷◌, MatchOption, Option, codes, length, slice_index_or}
 use Rattle.langtag_scan.specs.Grammar.{are_alike, option_map_or}
 use Rattle.langtag_text.specs.Fields.{Fields}
 use Rattle.langtag_cldr.specs.Definitions.{matching_form}
@@ -7,13 +7,21 @@ use Rattle.langtag_choice.specs.Distance.{is_among}
 use Rattle.langtag_choice.specs.MatchingData.{region_groups}
 use Rattle.langtag_choice.specs.RegionGroup.{RegionGroup, no_group}
 
--- the width of a code outside the list of groups: 999 for the world, which has all regions, and 1000 for a country
-abbrev pub width_unlisted : List ℕ → ℕ
-width_unlisted code = if are_alike (codes "001") code then 999 else 1000
+-- the width of the world, which has all regions: more than that of any group
+abbrev pub world_width : ℕ
+world_width = 999
 
--- the number of regions in a group that has a region, and 1000 if the group does not have it
+-- the width of what is no group with the range's region, such as a country: more than that of the world
+abbrev pub no_group_width : ℕ
+no_group_width = 1000
+
+-- the width of a code outside the list of groups, which is the world or a country
+abbrev pub width_unlisted : List ℕ → ℕ
+width_unlisted code = if are_alike (codes "001") code then world_width else no_group_width
+
+-- the number of regions in a group, if a region is in it
 abbrev pub width_of : RegionGroup → List ℕ → ℕ
-width_of group region = if is_among group.regions region then length group.regions else 1000
+width_of group region = if is_among group.regions region then length group.regions else no_group_width
 
 -- the width of a code for a region, among these groups
 abbrev pub width_among : List RegionGroup → List ℕ → List ℕ → ℕ
@@ -37,3 +45,8 @@ abbrev pub IsGroupIndex : List ℕ → Option ℕ → Type 0
 IsGroupIndex code answer =
     MatchOption answer ((region : List ℕ) → width_among region_groups region code ≡ width_unlisted code)
     (λ index. (index < length region_groups) × ((region : List ℕ) → width_among region_groups region code ≡ width_of (slice_index_or region_groups index no_group) region))
+
+-- whether two lowercase letters are the code of a group: EU, EZ, QO or UN; only the contract of a private function cites this definition
+abbrev pub is_letter_group : ℕ → ℕ → Bool
+is_letter_group first second =
+    ((first == 101) && ((second == 117) || (second == 122))) || (((first == 113) && (second == 111)) || ((first == 117) && (second == 110)))

@@ -1,5 +1,5 @@
 //! How wide the group of regions is for which a tag was written.
-ghost use Rattle.std.specs.Prelude.{◌≡◌, ◌<◌, [], IsTrue, length, map, option_map, slice_index_or};
+ghost use Rattle.std.specs.Prelude.{◌≡◌, ◌<◌, [], IsTrue, None, length, map, option_map, slice_index_or};
 ghost use Rattle.langtag_scan.specs.Grammar.{folded_number};
 ghost use Rattle.langtag_text.specs.FieldClasses.{is_region_field};
 ghost use Rattle.langtag_text.specs.Numbers.{climbs_from};
@@ -8,14 +8,20 @@ ghost use Rattle.langtag_range.specs.Definitions.{basic_text, hyphened, is_langu
 ghost use Rattle.langtag_choice.specs.MatchingData.{region_groups};
 ghost use Rattle.langtag_choice.specs.RegionGroup.{no_group};
 ghost use Rattle.langtag_choice.specs.RegionWidth as spec;
-ghost use Rattle.langtag_choice.specs.RegionWidth.{IsGroupIndex};
+ghost use Rattle.langtag_choice.specs.RegionWidth.{IsGroupIndex, is_letter_group};
 
 use crate::matching_tables as tables;
 use langtag_cldr::{TagFields, index_of, matching_form};
-use langtag_scan::case_insensitive_eq;
+use langtag_scan::{case_insensitive_eq, into_smallcase};
 
-/// Returns how many regions the group of regions of a matching form has, if the region of a range is in it. It is 999 for
-/// the world, and 1000 for any other region.
+/// The width of the world, which has all regions. It is more than that of any group.
+const WORLD_WIDTH: usize = 999;
+
+/// The width of what is no group with the region of the range, such as a country. It is more than that of the world.
+const NO_GROUP_WIDTH: usize = 1000;
+
+/// Returns how many regions the group of regions of a matching form has, if the region of a range is in it. It is
+/// [`WORLD_WIDTH`] for the world, and [`NO_GROUP_WIDTH`] for any other region.
 #[tactic(auto, unfolding(crate::specs::RegionWidth::width_of_forms), using(crate::proofs::FarTags::form_read))]
 pub(crate) fn region_width(range: &[u8], form: Option<TagFields<'_>>) -> usize
     requires { IsTrue (is_language_range (hyphened range.now)) }
@@ -45,7 +51,30 @@ fn group_index(code: &[u8]) -> Option<usize>
     requires { IsTrue (is_region_field code.now) }
     ensures { IsGroupIndex code.now result }
 {
+    if is_country(code) {
+        return None;
+    }
     index_of(group_keys(), code)
+}
+
+/// Returns `true` only if a code is not that of a group: it has two letters, and is none of `EU`, `EZ`, `QO` and `UN`. This is
+/// quick, and most tags with a region have that of a country.
+fn is_country(code: &[u8]) -> bool
+    requires { IsTrue (is_region_field code.now) }
+    ensures { IsTrue result → IsGroupIndex code.now None }
+{
+    match code {
+        [first, second] => !is_group_of_letters(into_smallcase(*first), into_smallcase(*second)),
+        _ => false,
+    }
+}
+
+/// Returns whether two lowercase letters are the code of a group.
+fn is_group_of_letters(first: u8, second: u8) -> bool
+    ensures { result ≡ is_letter_group first second }
+{
+    (first == b'e' && (second == b'u' || second == b'z'))
+        || ((first == b'q' && second == b'o') || (first == b'u' && second == b'n'))
 }
 
 /// Returns the width of a code that is not in the list of groups.
@@ -53,13 +82,13 @@ fn width_unlisted(code: &[u8]) -> usize
     ensures { result ≡ spec.width_unlisted code.now }
 {
     if case_insensitive_eq(b"001", code) {
-        999
+        WORLD_WIDTH
     } else {
-        1000
+        NO_GROUP_WIDTH
     }
 }
 
-/// Returns the number of regions in the group at an index if it has a region, and 1000 otherwise.
+/// Returns the number of regions in the group at an index if it has a region, and [`NO_GROUP_WIDTH`] otherwise.
 #[tactic(auto, using(langtag_cldr::proofs::FieldClasses::region_length, langtag_cldr::proofs::FieldClasses::region_alphanumeric))]
 fn width_of(index: usize, region: &[u8]) -> usize
     requires inside { index < length region_groups }
@@ -70,7 +99,7 @@ fn width_of(index: usize, region: &[u8]) -> usize
     if index_of(regions, region).is_some() {
         regions.len()
     } else {
-        1000
+        NO_GROUP_WIDTH
     }
 }
 

@@ -1,9 +1,11 @@
 pub mod AddedTwice
 pub mod AlikeFields
+pub mod BaseTexts
 pub mod CanonicalFields
 pub mod CommonTexts
 pub mod FieldClasses
 pub mod LanguageBits
+pub mod MarkFolds
 pub mod RowLaws
 pub mod TableRows
 pub mod WholeTags

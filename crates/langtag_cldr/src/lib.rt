@@ -35,3 +35,4 @@ pub use replacement::may_change_language;
 pub use rows::{key_number, language_number};
 pub use suggestion::region_replacement;
 pub use tag_fields::TagFields;
+pub use text_fields::after_mark;

@@ -21,6 +21,7 @@ impl<'a> TagFields<'a> {
     /// Returns the fields of a string in which `_` is read as `-`, or `None` if it does not begin with a language. A tag that
     /// the registry replaces as a whole has the fields of its replacement.
     #[tactic(auto, using(crate::proofs::FieldClasses::known_language, crate::proofs::FieldClasses::known_script, crate::proofs::FieldClasses::known_other, langtag_text::proofs::FieldClasses::from_primary))]
+    #[inline(always)]
     pub(crate) fn of_text(text: &'a [u8]) -> Option<TagFields<'a>>
         ensures { option_map field_texts result ≡ spec.text_fields (current_text text.now) }
     {
@@ -127,7 +128,7 @@ fn may_be_marked(text: &[u8]) -> bool
 
 /// Returns the region after the letter `r`, or the empty string if the subtag is none of these.
 #[tactic(auto, using(langtag_text::proofs::FieldClasses::from_region, crate::proofs::CommonTexts::mark_off))]
-fn after_mark(subtag: &[u8]) -> &[u8]
+pub fn after_mark(subtag: &[u8]) -> &[u8]
     ensures region { result.now ≡ after_mark subtag.now }
     ensures in_class { IsTrue (is_region_field result.now) }
 {

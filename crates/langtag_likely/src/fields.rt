@@ -2,12 +2,13 @@
 ghost use Rattle.std.specs.Prelude.{◌≡◌, IsTrue};
 ghost use Rattle.langtag_scan.specs.Grammar.{EachRecord};
 ghost use Rattle.langtag.specs.Definitions.{EachLanguageSpelling, language_text, normal_lang_tag_text};
-ghost use Rattle.langtag_text.specs.FieldClasses.{is_language_field};
-ghost use Rattle.langtag_cldr.specs.Definitions.{field_texts};
+ghost use Rattle.langtag_text.specs.FieldClasses.{is_language_field, is_region_field};
+ghost use Rattle.langtag_cldr.specs.Definitions.{field_texts, first_marked};
+ghost use Rattle.langtag_likely.specs.Marked.{mark_of};
 ghost use Rattle.langtag_likely.specs.Maximal.{fields_of, is_read, language_field};
 
 use langtag::{NormalLangTag, region_field, script_field};
-use langtag_cldr::{TagFields, known};
+use langtag_cldr::{TagFields, after_mark, known};
 use langtag_fields::is_prefix_of;
 use langtag_language::Language;
 
@@ -32,6 +33,31 @@ pub fn is_read(tag: NormalLangTag<'_>) -> bool
         return true;
     }
     is_language_read(tag.language())
+}
+
+/// Returns the region that Android writes after the language of a tag: `US` for `es-rUS`. Returns the empty string if there
+/// is none. An extended language that is registered for the language before it is none, such as that of `sgn-rsl`.
+#[tactic(auto, using(crate::proofs::MarkLaws::none_marked, crate::proofs::MarkLaws::first_is_marked))]
+#[inline(always)]
+pub fn marked_region<'a>(tag: NormalLangTag<'a>) -> &'a [u8]
+    ensures region { EachRecord (normal_lang_tag_text tag.entry) (λ r. result.now ≡ mark_of r) }
+    ensures in_class { IsTrue (is_region_field result.now) }
+{
+    if is_read(tag) {
+        return b"";
+    }
+    first_marked(tag.language())
+}
+
+/// Returns the region in the first extended subtag as Android writes it.
+fn first_marked<'a>(language: Language<'a>) -> &'a [u8]
+    ensures region { EachLanguageSpelling (language_text language.entry) (λ primary extended. result.now ≡ first_marked extended) }
+    ensures in_class { IsTrue (is_region_field result.now) }
+{
+    match language.extension_subtags().next() {
+        Some(first) => after_mark(first.as_bytes()),
+        None => b"",
+    }
 }
 
 /// Returns whether the last extended subtag, if there is any, is registered for the primary subtag.

@@ -21,4 +21,4 @@ pub use forms::{maximized, minimized, write_maximized, write_minimized};
 pub use langtag_cldr::{CLDR_VERSION, suggested_language, suggested_region};
 
 // For this repository.
-pub use fields::{fields_of, is_read};
+pub use fields::{fields_of, is_read, marked_region};

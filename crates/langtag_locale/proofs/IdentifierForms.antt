@@ -11,7 +11,8 @@ use Rattle.langtag_text.specs.Output.{with_subtag}
 use Rattle.langtag_scan.proofs.NormalTexts.{spelled_once}
 use Rattle.langtag_locale.specs.Locale.{is_locale_record}
 use Rattle.langtag_locale.specs.LocaleForm.{IsLocaleForm, extensions_in_order, identifier_form, language_after, locale_record, locale_text, new_variants}
-use Rattle.langtag_locale.specs.LocaleForm.{record_fields, sign_for, forms, variant_form}
+use Rattle.langtag_likely.specs.Marked.{as_read}
+use Rattle.langtag_locale.specs.LocaleForm.{record_fields, sign_for, forms, variant_form, read_form}
 use Rattle.langtag_keyword.specs.Identifier.{identifier_flat}
 use Rattle.langtag_locale.proofs.LocaleTables.{all_good, found_good, heir_good}
 use Rattle.langtag_keyword.proofs.IdentifierParts.{AreSubtags, language_primary, AreVariants}
@@ -158,9 +159,11 @@ unfolding locale_text
 same_length r = sym (length-map (recommended_text (spell (locale_record r))) fold_byte) ∙ ap length (recommended_alike (spell (locale_record r))) ∙ length-map (spell (locale_record r)) fold_byte
 
 -- the form of a tag whose record is known
-pub form_is : (old new : List ℕ) (r : Record) → Spells r old → is_locale_record r ≡ true → new ≡ locale_text r → IsLocaleForm old (Some new)
+pub form_is : (old new : List ℕ) (r : Record) → Spells r old → is_locale_record (as_read r) ≡ true → new ≡ locale_text (as_read r) → IsLocaleForm old (Some new)
 unfolding IsNormal
-form_is old new r spells locale is = grind (arith, nat_tests, spelled_once r, spells.1)
+form_is old new r spells locale is =
+    let here : Some new ≡ read_form r = rw (locale, is) refl in
+    record { part = λ q also. here ∙ ap read_form (spelled_once r q spells.0 also.0 (spells.1 ∙ sym also.1)); absent = λ other. absurd (other (r, spells)) }
 
 -- ---- the forms of variants are variants
 

@@ -8,4 +8,12 @@ pub mod LocaleCase
 pub mod IdentifierTwice
 pub mod ResolvedLaws
 pub mod RangeLaws
+pub mod ReadRecords
 pub mod ResolvedRecords
+pub mod ResolvedTexts
+pub mod MergedKeywords
+pub mod ChangedUnicode
+pub mod KeptParts
+pub mod WrittenScript
+pub mod ServedRange
+pub mod ResolvedTags

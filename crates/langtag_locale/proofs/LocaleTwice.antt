@@ -22,6 +22,7 @@ use Rattle.langtag_keyword.proofs.IdentifierParts.{Apart, alphabet-apart, none_r
 use Rattle.langtag_keyword.specs.Identifier.{identifier_fields, identifier_variants}
 use Rattle.langtag_keyword.proofs.FormTwice.{IsLanguageForm, fields-again, variants-again, with-allowed, unicode-twice, with-twice}
 use Rattle.langtag_locale.proofs.IdentifierForms.{form_subtags, record_subtags, form_is}
+use Rattle.langtag_locale.proofs.ReadRecords.{own_locale_read, own_read}
 use Rattle.langtag_locale.proofs.IdentifierTwice.{identifier_form-twice, new_variants-twice}
 use Rattle.langtag_keyword.proofs.TransformParts.{identifier-no_field, identifier-variants}
 use Rattle.langtag_text.proofs.RecommendedLaws.{recommended_alike}
@@ -114,7 +115,7 @@ start-is_form ss is = language-is_form (before_key is_field_key ss) (both (is_la
 
 -- ---- extensions
 
-unicode_allowed : (e : Extension) → is_of 117 e ≡ true → is_locale_extension e ≡ true → list_all is_unicode_subtag e.subtags ≡ true
+pub unicode_allowed : (e : Extension) → is_of 117 e ≡ true → is_locale_extension e ≡ true → list_all is_unicode_subtag e.subtags ≡ true
 unicode_allowed e one allowed = sym (ap (λ x. cond x (list_all is_unicode_subtag e.subtags) (cond (is_of 116 e) (is_transform e.subtags) true)) one) ∙ allowed
 
 form-allowed : (e : Extension) → IsWellFormedExtension e → is_locale_extension e ≡ true → is_locale_extension (locale_extension_form e) ≡ true
@@ -201,4 +202,4 @@ text-own r form fits locale text =
     let (q, spells, alike, ends) = alike_parts (spell new) form (sym (ap fold_text text ∙ recommended_alike (spell new))) new (locale_well_formed r fits locale, refl) in
     let locale_q = sym (locale-alike new q alike) ∙ locale_settled r fits locale in
     let same : form ≡ locale_text q = text ∙ ap (λ x. recommended_text (spell x)) (sym (record-own r fits locale)) ∙ text-alike new q alike in
-    ((q, spells, locale_q), form_is form form q spells locale_q same)
+    ((q, spells, locale_q), form_is form form q spells (own_locale_read q locale_q) (same ∙ ap locale_text (sym (own_read q locale_q))))

@@ -6,7 +6,8 @@ use Rattle.langtag_scan.proofs.Prelude.{◌⊎◌}
 use Rattle.langtag.specs.Definitions.{IsGrandfathered}
 use Rattle.langtag_text.specs.RecommendedCase.{recommended_text}
 use Rattle.langtag_posix.specs.Posix.{IsTagOfName, text_of_name, with_said}
-use Rattle.langtag_locale.specs.Locale.{IsLocale}
+use Rattle.langtag_likely.specs.Marked.{as_read}
+use Rattle.langtag_locale.specs.Locale.{IsReadLocale}
 use Rattle.langtag_locale.specs.LocaleForm.{IsWholeForm, locale_text}
 use Rattle.langtag_locale.specs.Resolved.{HasLocale, HasNoLocale, IsKept, IsLocaleOf, IsNameOf, IsResolved}
 use Rattle.langtag_locale.proofs.IdentifierForms.{form_is}
@@ -20,7 +21,8 @@ one_name name a b p q = p.case ∙ ap recommended_text (one_form (with_said name
 pub no_form : (text : List ℕ) → IsWholeForm text None → HasNoLocale text
 no_form text none locale has =
     let (r, spells, is) = has.is_locale in
-    not_both text (locale_text r) (has.same_form (locale_text r) (form_is locale (locale_text r) r spells is refl)) none
+    let form = locale_text (as_read r) in
+    not_both text form (has.same_form form (form_is locale form r spells is refl)) none
 
 pub no_tag : (text : List ℕ) → (IsTag text → ⊥) → HasNoLocale text
 no_tag text other locale has = other has.is_tag
@@ -38,8 +40,8 @@ named_none range tag none named unknown locale is = elim is [
   | inr other ↦ unknown locale (subst (λ t. HasLocale t locale) (one_name range other.1.0 tag other.1.1.is_tag named.is_tag) other.1.2)
 ]
 
--- what is found for a range is a Unicode locale identifier
-pub known_locale : (range locale : List ℕ) → IsLocaleOf range locale → IsLocale locale
+-- what is found for a range is a Unicode locale identifier as it is read
+pub known_locale : (range locale : List ℕ) → IsLocaleOf range locale → IsReadLocale locale
 known_locale range locale is = elim is [
   | inl has ↦ has.is_locale
   | inr named ↦ named.1.2.is_locale

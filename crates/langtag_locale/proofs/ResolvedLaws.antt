@@ -9,7 +9,7 @@ use Rattle.langtag_keyword.proofs.AlphabetLaws.{each-put}
 use Rattle.langtag_keyword.proofs.KeywordsInForm.{each-has}
 use Rattle.langtag_keyword.proofs.LeastLaws.{above, above-none, above-split}
 use Rattle.langtag_keyword.proofs.LeastTexts.{AreKeys, numbers, order_below, put-keys_in_order}
-use Rattle.langtag_locale.specs.Resolved.{Wish, from_greater, is_greater_key, resolved_subtags, staying, with_keywords}
+use Rattle.langtag_locale.specs.Resolved.{Wish, from_greater, is_greater_key, resolved_subtags, remaining_subtags, with_keywords}
 
 -- ---- keys as numbers
 
@@ -78,11 +78,11 @@ some-with w (key ∷ keys) others have some =
       length-append (keyword_form is_key unicode_value w.unicode key) (with_keywords (keyword_form is_key unicode_value w.unicode) keys (from_greater key others)),
     )
 
-pub resolved-none : (w : Wish) (ss : List (List ℕ)) → list_any is_key w.unicode ≡ false → resolved_subtags w ss ≡ staying w false ss
-resolved-none w ss none = ap (λ keys. with_keywords (keyword_form is_key unicode_value w.unicode) keys (staying w false ss)) (no-keys w.unicode none)
+pub resolved-none : (w : Wish) (ss : List (List ℕ)) → list_any is_key w.unicode ≡ false → resolved_subtags w ss ≡ remaining_subtags w false ss
+resolved-none w ss none = ap (λ keys. with_keywords (keyword_form is_key unicode_value w.unicode) keys (remaining_subtags w false ss)) (no-keys w.unicode none)
 
 pub resolved-some : (w : Wish) (ss : List (List ℕ)) → list_any is_key w.unicode ≡ true → 1 ≤ length (resolved_subtags w ss)
-resolved-some w ss any = some-with w (keys_in_order is_key w.unicode) (staying w false ss) (each-has is_key w.unicode) (some-keys w.unicode any)
+resolved-some w ss any = some-with w (keys_in_order is_key w.unicode) (remaining_subtags w false ss) (each-has is_key w.unicode) (some-keys w.unicode any)
 
 -- ---- uppercase
 

@@ -12,13 +12,13 @@ use Rattle.langtag_text.specs.RecommendedCase.{capital_text}
 use Rattle.langtag_cldr.specs.Definitions.{add_likely_subtags, known, or_else}
 use Rattle.langtag_likely.specs.Maximal.{fields_of, is_read, maximal_record, put_fields}
 use Rattle.langtag_likely.proofs.GoodForms.{maximal_well_formed}
-use Rattle.langtag_keyword.proofs.Common.{before_key, extension_found, find_extension, flat_map, fold_text, in_alphabet, is_key, keyword_form, keywords_form, unicode_value}
+use Rattle.langtag_keyword.proofs.Common.{before_key, extension_found, find_extension, flat_map, fold_text, in_alphabet, is_key, keyword_form, keywords_form, unicode_form, unicode_value}
 use Rattle.langtag_keyword.specs.Form.{keys_in_order}
 use Rattle.langtag_keyword.specs.Keywords.{subtags_of}
 use Rattle.langtag_keyword.proofs.AlphabetLaws.{each-back}
 use Rattle.langtag_keyword.proofs.FormRecords.{Good, good-changed, good-unicode_form}
 use Rattle.langtag_posix.proofs.PosixNameRead.{capital_region}
-use Rattle.langtag_locale.specs.Resolved.{Wish, from_greater, is_greater_key, is_likely_with, likely_script, new_region, resolved_record, resolved_subtags, script_with, staying, with_keywords}
+use Rattle.langtag_locale.specs.Resolved.{Wish, from_greater, is_greater_key, is_likely_with, likely_script, new_region, resolved_record, resolved_subtags, script_with, remaining_subtags, with_keywords}
 
 -- ---- parts
 
@@ -84,33 +84,38 @@ region_fits r (b ∷ region) fits is = grind (arith, common_steps, nat_tests, fi
 
 -- ---- the subtags of `u`
 
-each-front : (P : List ℕ → Type 0) (xs ys : List (List ℕ)) → AllByRecursion P (xs ++ ys) → AllByRecursion P xs
-each-front P [] ys all = tt
-each-front P (x ∷ xs) ys all = (all.0, each-front P xs ys all.1)
+module _ (P : List ℕ → Type 0) where
+  each-front : (xs ys : List (List ℕ)) → AllByRecursion P (xs ++ ys) → AllByRecursion P xs
+  each-front [] ys all = tt
+  each-front (x ∷ xs) ys all = (all.0, each-front xs ys all.1)
 
-good_staying : (w : Wish) (gone : Bool) (ss : List (List ℕ)) → Good ss → Good (staying w gone ss)
-good_staying w gone [] good = tt
-good_staying w gone (s ∷ ss) good = grind (arith, common_steps, good_staying w true ss good.1, good_staying w false ss good.1)
+  each_remaining : (w : Wish) (gone : Bool) (ss : List (List ℕ)) → AllByRecursion P ss → AllByRecursion P (remaining_subtags w gone ss)
+  each_remaining w gone [] all = tt
+  each_remaining w gone (s ∷ ss) all = grind (arith, common_steps, each_remaining w true ss all.1, each_remaining w false ss all.1)
 
-good_before : (test : List ℕ → Bool) (ss : List (List ℕ)) → Good ss → Good (before_key test ss)
-good_before test [] good = tt
-good_before test (s ∷ ss) good = grind (arith, common_steps, good_before test ss good.1)
+  pub each_early : (key : List ℕ) (ss : List (List ℕ)) → AllByRecursion P ss → AllByRecursion P (before_key (is_greater_key key) ss)
+  each_early key [] all = tt
+  each_early key (s ∷ ss) all = grind (arith, common_steps, each_early key ss all.1)
 
-good_from : (key : List ℕ) (ss : List (List ℕ)) → Good ss → Good (from_greater key ss)
-good_from key [] good = tt
-good_from key (s ∷ ss) good = grind (arith, common_steps, good_from key ss good.1)
+  pub each_late : (key : List ℕ) (ss : List (List ℕ)) → AllByRecursion P ss → AllByRecursion P (from_greater key ss)
+  each_late key [] all = tt
+  each_late key (s ∷ ss) all = grind (arith, common_steps, each_late key ss all.1)
 
-good_with : (f : List ℕ → List (List ℕ)) (keys others : List (List ℕ)) → Good (flat_map f keys) → Good others → Good (with_keywords f keys others)
-good_with f [] others these good = good
-good_with f (key ∷ keys) others these good =
-    each-append _ (before_key (is_greater_key key) others) (f key ++ with_keywords f keys (from_greater key others)) (good_before (is_greater_key key) others good)
-    (each-append _ (f key) (with_keywords f keys (from_greater key others)) (each-front _ (f key) (flat_map f keys) these)
-    (good_with f keys (from_greater key others) (each-back _ (f key) (flat_map f keys) these) (good_from key others good)))
+  each_with : (f : List ℕ → List (List ℕ)) (keys others : List (List ℕ)) → AllByRecursion P (flat_map f keys) → AllByRecursion P others → AllByRecursion P (with_keywords f keys others)
+  each_with f [] others these all = all
+  each_with f (key ∷ keys) others these all =
+      each-append _ (before_key (is_greater_key key) others) (f key ++ with_keywords f keys (from_greater key others)) (each_early key others all)
+      (each-append _ (f key) (with_keywords f keys (from_greater key others)) (each-front (f key) (flat_map f keys) these)
+      (each_with f keys (from_greater key others) (each-back _ (f key) (flat_map f keys) these) (each_late key others all)))
+
+  -- what holds of the subtags that stay, and of the form of the range's subtags, holds of each
+  pub each_resolved_subtag : (w : Wish) (ss : List (List ℕ)) → AllByRecursion P (unicode_form w.unicode) → AllByRecursion P ss → AllByRecursion P (resolved_subtags w ss)
+  each_resolved_subtag w ss own all =
+      each_with (keyword_form is_key unicode_value w.unicode) (keys_in_order is_key w.unicode) (remaining_subtags w false ss)
+      (each-back _ (in_alphabet (before_key is_key w.unicode)) (keywords_form is_key unicode_value w.unicode) own) (each_remaining w false ss all)
 
 good_resolved : (w : Wish) (ss : List (List ℕ)) → Good w.unicode → Good ss → Good (resolved_subtags w ss)
-good_resolved w ss own good =
-    good_with (keyword_form is_key unicode_value w.unicode) (keys_in_order is_key w.unicode) (staying w false ss)
-    (each-back _ (in_alphabet (before_key is_key w.unicode)) (keywords_form is_key unicode_value w.unicode) (good-unicode_form w.unicode own)) (good_staying w false ss good)
+good_resolved w ss own = each_resolved_subtag _ w ss (good-unicode_form w.unicode own)
 
 pub resolved_well : (w : Wish) (r : Record) → IsWellFormed r → is_region_field w.region ≡ true → Good w.unicode → IsWellFormed (resolved_record w r)
 unfolding resolved_record

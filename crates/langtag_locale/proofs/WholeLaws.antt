@@ -10,13 +10,17 @@ use Rattle.langtag_fields.specs.Fields.{preferred_tag}
 use Rattle.langtag_fields.specs.Registered.{is_registered_extlang}
 use Rattle.langtag_scan.proofs.Laws.{normal_or_not, spelled_once, alike_normal, alike_parts}
 use Rattle.langtag_text.proofs.Letters.{extended_primary}
-use Rattle.langtag_locale.specs.Locale.{IsLocale, is_locale_record}
-use Rattle.langtag_locale.specs.LocaleForm.{IsLocaleForm, IsWholeForm, extlang_replaced, locale_text, record_form, replace_language, IsOwnForm}
+use Rattle.langtag_likely.specs.Marked.{as_read}
+use Rattle.langtag_likely.proofs.MarkCase.{read-alike}
+use Rattle.langtag_likely.proofs.MarkLaws.{read_fits}
+use Rattle.langtag_locale.specs.Locale.{IsReadLocale, is_locale_record}
+use Rattle.langtag_locale.specs.LocaleForm.{IsLocaleForm, IsWholeForm, extlang_replaced, locale_text, read_form, record_form, replace_language, IsOwnForm}
 use Rattle.langtag.proofs.RegisteredLaws.{grandfathered_alike}
 use Rattle.langtag_fields.proofs.Values.{preferred_tag-alike, registered_extlang-alike}
 use Rattle.langtag_cldr.proofs.AddedTwice.{either_way, some_value}
 use Rattle.langtag_locale.proofs.LocaleCase.{locale-alike, text-alike}
 use Rattle.langtag_locale.proofs.LocaleTwice.{text-own}
+use Rattle.langtag_locale.proofs.ReadRecords.{locale_read}
 
 -- ---- the extended language takes the place of the language
 
@@ -64,33 +68,33 @@ rest_boundary r text extlang primary spells members is same utf8 =
 record_form-none : (r : Record) → (is_locale_record r ≡ true → ⊥) → None ≡ record_form r
 record_form-none r outside = grind (arith, nat_tests)
 
-pub none_form : (tag : List ℕ) → (IsLocale tag → ⊥) → IsLocaleForm tag None
-none_form tag outside = record { part = λ r spells. record_form-none r (λ locale. outside (r, spells, locale)); absent = λ other. refl }
+pub none_form : (tag : List ℕ) → (IsReadLocale tag → ⊥) → IsLocaleForm tag None
+none_form tag outside = record { part = λ r spells. record_form-none (as_read r) (λ locale. outside (r, spells, locale)); absent = λ other. refl }
 
 -- ---- the form of any tag
 
-pub own_form : (tag : List ℕ) (form : Option (List ℕ)) → IsLocale tag → IsLocaleForm tag form → IsWholeForm tag form
+pub own_form : (tag : List ℕ) (form : Option (List ℕ)) → IsReadLocale tag → IsLocaleForm tag form → IsWholeForm tag form
 own_form tag form is of = record { locale = λ _. of; whole = λ outside. absurd (outside is); kept = λ outside. absurd (outside is); parts = λ outside. absurd (outside is) }
 
-pub value_form : (tag value : List ℕ) (form : Option (List ℕ)) → (IsLocale tag → ⊥) → preferred_tag tag ≡ Some value → IsLocaleForm value form → IsWholeForm tag form
+pub value_form : (tag value : List ℕ) (form : Option (List ℕ)) → (IsReadLocale tag → ⊥) → preferred_tag tag ≡ Some value → IsLocaleForm value form → IsWholeForm tag form
 value_form tag value form outside found of = grind (arith, nat_tests, same_Some value, none-some value)
 
 abbrev IsPartsForm : List ℕ → Option (List ℕ) → Type 0
-IsPartsForm tag form = PartOf tag (λ r. record_form (extlang_replaced r)) None form
+IsPartsForm tag form = PartOf tag (λ r. read_form (extlang_replaced r)) None form
 
-parts_form : (tag : List ℕ) (form : Option (List ℕ)) → (IsLocale tag → ⊥) → preferred_tag tag ≡ None → (IsGrandfathered tag → ⊥) → IsPartsForm tag form → IsWholeForm tag form
+parts_form : (tag : List ℕ) (form : Option (List ℕ)) → (IsReadLocale tag → ⊥) → preferred_tag tag ≡ None → (IsGrandfathered tag → ⊥) → IsPartsForm tag form → IsWholeForm tag form
 parts_form tag form outside none new of = grind (arith, nat_tests, none-some)
 
 pub rest_form :
-    (tag rest : List ℕ) (form : Option (List ℕ)) → (IsLocale tag → ⊥) → preferred_tag tag ≡ None → (IsGrandfathered tag → ⊥) → IsNormal tag →
+    (tag rest : List ℕ) (form : Option (List ℕ)) → (IsReadLocale tag → ⊥) → preferred_tag tag ≡ None → (IsGrandfathered tag → ⊥) → IsNormal tag →
     EachRecord tag (λ r. Spells (extlang_replaced r) rest) → IsLocaleForm rest form → IsWholeForm tag form
 rest_form tag rest form outside none new normal spelled of = grind (arith, nat_tests, parts_form tag form outside none new)
 
 -- a tag that stays as it is has no form
-pub stays_none : (tag : List ℕ) → (IsLocale tag → ⊥) → preferred_tag tag ≡ None → (IsGrandfathered tag → ⊥) → EachRecord tag (λ r. extlang_replaced r ≡ r) → IsWholeForm tag None
+pub stays_none : (tag : List ℕ) → (IsReadLocale tag → ⊥) → preferred_tag tag ≡ None → (IsGrandfathered tag → ⊥) → EachRecord tag (λ r. extlang_replaced r ≡ r) → IsWholeForm tag None
 stays_none tag outside none new stays =
     parts_form tag None outside none new (record {
-      part = λ r spells. record_form-none r (λ locale. outside (r, spells, locale)) ∙ ap record_form (sym (stays r spells));
+      part = λ r spells. record_form-none (as_read r) (λ locale. outside (r, spells, locale)) ∙ ap read_form (sym (stays r spells));
       absent = λ other. refl;
     })
 
@@ -116,39 +120,44 @@ replaced_well_formed : (r : Record) → IsWellFormed r → IsWellFormed (extlang
 replaced_well_formed r fits = grind (arith, nat_tests, from_well_formed r)
 
 -- each record of it is one
-pub spelled_locale : (tag : List ℕ) (r : Record) → IsLocale tag → Spells r tag → is_locale_record r ≡ true
-spelled_locale tag r (q, also, locale) spells = ap is_locale_record (spelled_once r q spells.0 also.0 (spells.1 ∙ sym also.1)) ∙ locale
+pub spelled_locale : (tag : List ℕ) (r : Record) → IsReadLocale tag → Spells r tag → is_locale_record (as_read r) ≡ true
+spelled_locale tag r (q, also, locale) spells = ap (λ x. is_locale_record (as_read x)) (spelled_once r q spells.0 also.0 (spells.1 ∙ sym also.1)) ∙ locale
 
-pub locale_or_not : (tag : List ℕ) → IsLocale tag ⊎ (IsLocale tag → ⊥)
+pub locale_or_not : (tag : List ℕ) → IsReadLocale tag ⊎ (IsReadLocale tag → ⊥)
 unfolding IsNormal
 locale_or_not tag = elim (normal_or_not tag) [
   | inl (r, spells) ↦
-      either_way (is_locale_record r) (λ locale. inl (r, spells, locale)) (λ other. inr (λ is. false≢true (sym other ∙ spelled_locale tag r is spells)))
+      either_way (is_locale_record (as_read r)) (λ locale. inl (r, spells, locale)) (λ other. inr (λ is. false≢true (sym other ∙ spelled_locale tag r is spells)))
   | inr other ↦ inr (λ is. other (is.0, is.1))
 ]
 
 pub whole_of_record : (tag form : List ℕ) → IsWholeForm tag (Some form) → IsOfRecord form
 whole_of_record tag form of = elim (locale_or_not tag) [
-  | inl is ↦ part_of_record tag form (λ r. r) (λ r fits. fits) (of.locale is)
+  | inl is ↦ part_of_record tag form as_read read_fits (of.locale is)
   | inr outside ↦
       some_value (preferred_tag tag)
-      (λ none. part_of_record tag form extlang_replaced replaced_well_formed (of.parts outside none (λ old. none-some form (sym (of.kept outside none old)))))
-      (λ value found. part_of_record value form (λ r. r) (λ r fits. fits) (of.whole outside value found))
+      (λ none. part_of_record tag form (λ r. as_read (extlang_replaced r)) (λ r fits. read_fits (extlang_replaced r) (replaced_well_formed r fits)) (of.parts outside none (λ old. none-some form (sym (of.kept outside none old)))))
+      (λ value found. part_of_record value form as_read read_fits (of.whole outside value found))
 ]
 
 pub whole-own : (tag form : List ℕ) → IsWholeForm tag (Some form) → IsOwnForm form
 whole-own tag form of =
     let (r, fits, locale, text) = whole_of_record tag form of in
     let (is, own) = text-own r form fits locale text in
-    (is, own_form form (Some form) is own)
+    (is, own_form form (Some form) (locale_read form is) own)
 
 -- ---- case
 
-locale_alike : (a b : List ℕ) → Alike a b → IsLocale a → IsLocale b
-locale_alike a b alike (r, spells, locale) = grind (arith, nat_tests, alike_parts a b alike r spells, locale-alike r)
+locale_alike : (a b : List ℕ) → Alike a b → IsReadLocale a → IsReadLocale b
+locale_alike a b alike (r, spells, locale) =
+    let (q, also, same, ends) = alike_parts a b alike r spells in
+    (q, also, sym (locale-alike (as_read r) (as_read q) (read-alike r q same)) ∙ locale)
 
 record_form-alike : (r q : Record) → AlikeRecords r q → record_form r ≡ record_form q
 record_form-alike r q alike = grind (arith, nat_tests, locale-alike r q alike, text-alike r q alike)
+
+read_form-alike : (r q : Record) → AlikeRecords r q → read_form r ≡ read_form q
+read_form-alike r q alike = record_form-alike (as_read r) (as_read q) (read-alike r q alike)
 
 part-alike :
     (f : Record → Option (List ℕ)) → ((r q : Record) → AlikeRecords r q → f r ≡ f q) → (a b : List ℕ) (x y : Option (List ℕ)) → Alike a b → PartOf a f None x → PartOf b f None y → x ≡ y
@@ -167,16 +176,16 @@ replaced-alike : (r q : Record) → AlikeRecords r q → AlikeRecords (extlang_r
 replaced-alike r q alike = replaced-fold r.extended r ∙ ap (λ x. replace_language x.extended x) alike ∙ sym (replaced-fold q.extended q)
 
 module _ (tag other : List ℕ) (alike : Alike tag other) where
-  outside_too : (IsLocale tag → ⊥) → IsLocale other → ⊥
+  outside_too : (IsReadLocale tag → ⊥) → IsReadLocale other → ⊥
   outside_too outside is = outside (locale_alike other tag (sym alike) is)
 
   same_value : preferred_tag other ≡ preferred_tag tag
   same_value = sym (preferred_tag-alike tag other alike)
 
-  module _ (outside : IsLocale tag → ⊥) where
+  module _ (outside : IsReadLocale tag → ⊥) where
     by_parts : preferred_tag tag ≡ None → (IsGrandfathered tag → ⊥) → (x y : Option (List ℕ)) → IsWholeForm tag x → IsWholeForm other y → x ≡ y
     by_parts none new x y p q =
-        part-alike (λ r. record_form (extlang_replaced r)) (λ r s same. record_form-alike (extlang_replaced r) (extlang_replaced s) (replaced-alike r s same)) tag other x y alike
+        part-alike (λ r. read_form (extlang_replaced r)) (λ r s same. read_form-alike (extlang_replaced r) (extlang_replaced s) (replaced-alike r s same)) tag other x y alike
         (p.parts outside none new) (q.parts (outside_too outside) (same_value ∙ none) (λ old. new (grandfathered_alike other tag (sym alike) old)))
 
     by_forms : preferred_tag tag ≡ None → (x y : Option (List ℕ)) → IsWholeForm tag x → IsWholeForm other y → x ≡ y
@@ -187,11 +196,11 @@ module _ (tag other : List ℕ) (alike : Alike tag other) where
 
   pub whole-alike : (x y : Option (List ℕ)) → IsWholeForm tag x → IsWholeForm other y → x ≡ y
   whole-alike x y p q = elim (locale_or_not tag) [
-    | inl is ↦ part-alike record_form record_form-alike tag other x y alike (p.locale is) (q.locale (locale_alike tag other alike is))
+    | inl is ↦ part-alike read_form read_form-alike tag other x y alike (p.locale is) (q.locale (locale_alike tag other alike is))
     | inr outside ↦
         some_value (preferred_tag tag) (λ none. by_forms outside none x y p q)
         (λ value found.
-        part-alike record_form record_form-alike value value x y refl (p.whole outside value found) (q.whole (outside_too outside) value (same_value ∙ found)))
+        part-alike read_form read_form-alike value value x y refl (p.whole outside value found) (q.whole (outside_too outside) value (same_value ∙ found)))
   ]
 
 -- no tag has a form and none

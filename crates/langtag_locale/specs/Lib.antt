@@ -4,3 +4,4 @@ pub mod LocaleForm
 pub mod Allowed
 pub mod Resolved
 pub mod WishTexts
+pub mod ResolvedLaws

@@ -2,6 +2,7 @@
 use Rattle.std.specs.Prelude.{◌≡◌, ℕ, Bool, true, not, ◌&&◌, ◌||◌, ◌==◌, List, length, map, if◌then◌else◌, is_none}
 use Rattle.langtag_scan.specs.Grammar.{list_all, are_alike, Extension, Record, Spells}
 use Rattle.langtag.specs.Definitions.{are_alike_bytes, repeat}
+use Rattle.langtag_likely.specs.Marked.{as_read}
 use Rattle.langtag_keyword.specs.Edit.{is_unicode_key}
 use Rattle.langtag_keyword.specs.Form.{is_of, is_transform, is_unicode_language}
 use Rattle.langtag_keyword.specs.Keywords.{is_key}
@@ -25,3 +26,7 @@ is_locale_record r =
 -- whether a text is a Unicode locale identifier
 abbrev pub IsLocale : List ℕ → Type 0
 IsLocale text = (r : Record) × Spells r text × (is_locale_record r ≡ true)
+
+-- the same of the text as it is read, with Android's mark before a region, as in `es-rUS`
+abbrev pub IsReadLocale : List ℕ → Type 0
+IsReadLocale text = (r : Record) × Spells r text × (is_locale_record (as_read r) ≡ true)

@@ -11,7 +11,8 @@ use Rattle.langtag_scan.specs.Grammar.{Alike, are_alike, Extension, Record, one_
 use Rattle.langtag_text.specs.Alias.{Alias, TypeAlias, alias_for, type_alias_for}
 use Rattle.langtag_keyword.specs.Form.{in_alphabet, is_of, keywords_form, transform_value, unicode_form}
 use Rattle.langtag_keyword.specs.Keywords.{before_key}
-use Rattle.langtag_locale.specs.Locale.{IsLocale, is_locale_record}
+use Rattle.langtag_likely.specs.Marked.{as_read}
+use Rattle.langtag_locale.specs.Locale.{IsLocale, IsReadLocale, is_locale_record}
 use Rattle.langtag_locale.specs.LocaleAliases.{dropped_variants, region_heirs, script_aliases, sign_languages, variant_aliases, variant_languages, variant_pairs, variant_regions}
 use Rattle.langtag_keyword.specs.Transform.{is_field_key}
 use Rattle.langtag_keyword.specs.Identifier.{identifier_flat, identifier_fields, identifier_variants}
@@ -178,9 +179,13 @@ locale_text r = recommended_text (spell (locale_record r))
 abbrev pub record_form : Record → Option (List ℕ)
 record_form r = if is_locale_record r then Some (locale_text r) else None
 
--- the form of a Unicode locale identifier; `None` for a tag that is not a Unicode locale identifier
+-- the form of a record as it is read: `es-US` for `es-rUS`
+abbrev pub read_form : Record → Option (List ℕ)
+read_form r = record_form (as_read r)
+
+-- the form of a Unicode locale identifier; `None` for a tag that is not a Unicode locale identifier as it is read
 abbrev pub IsLocaleForm : List ℕ → Option (List ℕ) → Type 0
-IsLocaleForm tag form = PartOf tag record_form None form
+IsLocaleForm tag form = PartOf tag read_form None form
 
 -- the record in which the extended language, if it is registered and the only one, has replaced the language before it
 -- (RFC 5646 section 4.5): `zh-yue-HK` becomes `yue-HK`
@@ -192,17 +197,18 @@ replace_language (first ∷ second ∷ others) r = r
 abbrev pub extlang_replaced : Record → Record
 extlang_replaced r = replace_language r.extended r
 
--- the form of any tag. A Unicode locale identifier gets its form. A tag with a Preferred-Value in IANA's registry gets the
+-- the form of any tag. A Unicode locale identifier, as the tag is read, gets its form. A tag with a Preferred-Value in IANA's registry gets the
 -- form of that value, any other grandfathered tag has no form, and every other tag gets the form of its record after the
 -- extended language has replaced the language. `None` if no Unicode locale identifier comes of it.
 --
 -- This is the form of the canonical form (RFC 5646 section 4.5) for all tags but those with variants such as in
--- `zh-yue-hepburn-heploc`, which gets the form of `yue-hepburn-heploc`
+-- `zh-yue-hepburn-heploc`, which gets the form of `yue-hepburn-heploc`, and those with Android's mark such as `es-rSL`,
+-- whose canonical form is `rsl`
 pub record IsWholeForm (tag : List ℕ) (form : Option (List ℕ)) : Type 0 where
-  pub locale : IsLocale tag → IsLocaleForm tag form
-  pub whole : (IsLocale tag → ⊥) → (value : List ℕ) → preferred_tag tag ≡ Some value → IsLocaleForm value form
-  pub kept : (IsLocale tag → ⊥) → preferred_tag tag ≡ None → IsGrandfathered tag → form ≡ None
-  pub parts : (IsLocale tag → ⊥) → preferred_tag tag ≡ None → (IsGrandfathered tag → ⊥) → PartOf tag (λ r. record_form (extlang_replaced r)) None form
+  pub locale : IsReadLocale tag → IsLocaleForm tag form
+  pub whole : (IsReadLocale tag → ⊥) → (value : List ℕ) → preferred_tag tag ≡ Some value → IsLocaleForm value form
+  pub kept : (IsReadLocale tag → ⊥) → preferred_tag tag ≡ None → IsGrandfathered tag → form ≡ None
+  pub parts : (IsReadLocale tag → ⊥) → preferred_tag tag ≡ None → (IsGrandfathered tag → ⊥) → PartOf tag (λ r. read_form (extlang_replaced r)) None form
 
 -- the text is a Unicode locale identifier, and its own form
 abbrev pub IsOwnForm : List ℕ → Type 0

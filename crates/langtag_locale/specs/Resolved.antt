@@ -11,15 +11,16 @@ use Rattle.langtag_keyword.specs.Form.{has_subdivision, is_before, keyword_form,
 use Rattle.langtag_keyword.specs.Keywords.{before_key, is_key, subtags_of}
 use Rattle.langtag_likely.specs.Maximal.{fields_of, is_read}
 use Rattle.langtag_posix.specs.Posix.{IsTagOfName, NamesTag}
-use Rattle.langtag_locale.specs.Locale.{IsLocale}
+use Rattle.langtag_likely.specs.Marked.{as_read}
+use Rattle.langtag_locale.specs.Locale.{IsReadLocale}
 use Rattle.langtag_locale.specs.LocaleForm.{IsLocaleForm, IsWholeForm, identifier_form, other_region, record_fields}
 
 -- ---- the range
 
--- a text is a tag, and this is a Unicode locale identifier that has the form of the tag
+-- a text is a tag, and this is a Unicode locale identifier, as it is read, that has the form of the tag
 pub record HasLocale (text locale : List ℕ) : Type 0 where
   pub is_tag : IsTag text
-  pub is_locale : IsLocale locale
+  pub is_locale : IsReadLocale locale
   pub same_form : (form : List ℕ) → IsLocaleForm locale (Some form) → IsWholeForm text (Some form)
 
 -- a text has no form, or is not a tag
@@ -46,7 +47,7 @@ pub record Wish : Type 0 where
 
 -- what a Unicode locale identifier asks for: the region of its form, and its keywords; `ZZ` counts as no region
 abbrev pub wish_of : Record → Wish
-wish_of r = record { region = known (codes "ZZ") (identifier_form r.variants (record_fields r)).region; unicode = subtags_of 117 r }
+wish_of r = record { region = known (codes "ZZ") (identifier_form r.variants (record_fields (as_read r))).region; unicode = subtags_of 117 r }
 
 -- what is asked of a tag: if its language is `und`, its region stays
 abbrev pub wish_for : Record → Wish → Wish
@@ -76,22 +77,23 @@ script_with r region =
 
 -- ---- the keywords
 
--- whether `rg` and `sd` of the tag go: the range has a region, or `rg`
-abbrev pub moves : Wish → Bool
-moves w = not (length w.region == 0) || list_any (are_alike (codes "rg")) w.unicode
+-- whether `rg` and `sd` of the tag are removed: the range has a region, or `rg`
+abbrev pub removes_subdivisions : Wish → Bool
+removes_subdivisions w = not (length w.region == 0) || list_any (are_alike (codes "rg")) w.unicode
 
--- whether the keywords of a key go
+-- whether the keywords of a key are removed
 abbrev pub is_replaced : Wish → List ℕ → Bool
-is_replaced w key = list_any (are_alike key) w.unicode || (moves w && has_subdivision key)
+is_replaced w key = list_any (are_alike key) w.unicode || (removes_subdivisions w && has_subdivision key)
 
--- whether a subtag goes, given whether the subtag before it does
-abbrev pub goes : Wish → Bool → List ℕ → Bool
-goes w gone subtag = if is_key subtag then is_replaced w subtag else gone
+-- whether a subtag belongs to a keyword that is removed; `inside` says whether the subtag before it does
+abbrev pub belongs_to_removed : Wish → Bool → List ℕ → Bool
+belongs_to_removed w inside subtag = if is_key subtag then is_replaced w subtag else inside
 
--- the subtags of `u` that stay
-abbrev pub staying : Wish → Bool → List (List ℕ) → List (List ℕ)
-staying w gone [] = []
-staying w gone (subtag ∷ subtags) = if goes w gone subtag then staying w true subtags else subtag ∷ staying w false subtags
+-- the subtags of `u` without the keywords that are removed
+abbrev pub remaining_subtags : Wish → Bool → List (List ℕ) → List (List ℕ)
+remaining_subtags w inside [] = []
+remaining_subtags w inside (subtag ∷ subtags) =
+    if belongs_to_removed w inside subtag then remaining_subtags w true subtags else subtag ∷ remaining_subtags w false subtags
 
 -- whether a subtag is a key that is greater than a key
 abbrev pub is_greater_key : List ℕ → List ℕ → Bool
@@ -109,7 +111,7 @@ with_keywords keyword (key ∷ keys) others = before_key (is_greater_key key) ot
 
 -- the subtags of `u` that stay, with the keywords of the range in canonical form
 abbrev pub resolved_subtags : Wish → List (List ℕ) → List (List ℕ)
-resolved_subtags w subtags = with_keywords (keyword_form is_key unicode_value w.unicode) (keys_in_order is_key w.unicode) (staying w false subtags)
+resolved_subtags w subtags = with_keywords (keyword_form is_key unicode_value w.unicode) (keys_in_order is_key w.unicode) (remaining_subtags w false subtags)
 
 -- ---- the tag
 

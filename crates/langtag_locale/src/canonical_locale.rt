@@ -8,6 +8,7 @@ ghost use Rattle.langtag.specs.Definitions.{language_text, IsCounted, WritesWhol
 ghost use Rattle.langtag_text.specs.FieldClasses.{is_language_field};
 ghost use Rattle.langtag_cldr.specs.Definitions.{field_texts};
 ghost use Rattle.langtag_scan.specs.Record as model;
+ghost use Rattle.langtag_likely.specs.Marked.{as_read};
 ghost use Rattle.langtag_locale.specs.Locale as identifier;
 ghost use Rattle.langtag_locale.specs.LocaleForm as spec;
 
@@ -17,8 +18,9 @@ use langtag::{
     LangTag, LangTagBuf, Language, NormalLangTag, push_private_use, region_field, script_field,
     tag_of,
 };
-use langtag_cldr::TagFields;
+use langtag_cldr::{TagFields, or_other};
 use langtag_keyword::nonempty;
+use langtag_likely::marked_region;
 use langtag_text::{Output, make_recommended_case};
 use std::alloc::{AllocError, Global};
 
@@ -62,8 +64,8 @@ pub fn locale_form(alloc: Global, tag: LangTag<'_>) -> Result<Option<LangTagBuf>
 /// Returns the bytes of the form of a Unicode locale identifier. The buffer has a guessed length. If it is too short,
 /// the bytes are written again.
 fn form_bytes(alloc: Global, tag: NormalLangTag<'_>) -> Result<Vec<u8>, AllocError>
-    requires { identifier.IsLocale (normal_lang_tag_text tag) }
-    ensures { IfOk result (λ bytes. model.EachRecord (normal_lang_tag_text tag.entry) (λ r. bytes.items ≡ spec.locale_text r)) }
+    requires { identifier.IsReadLocale (normal_lang_tag_text tag) }
+    ensures { IfOk result (λ bytes. model.EachRecord (normal_lang_tag_text tag.entry) (λ r. bytes.items ≡ spec.locale_text (as_read r))) }
 {
     let mut bytes = vec![in alloc; 0; tag.as_str().len().saturating_add(SPARE)]?;
     let len = write_locale_parts(tag, &mut bytes);
@@ -76,8 +78,8 @@ fn form_bytes(alloc: Global, tag: NormalLangTag<'_>) -> Result<Vec<u8>, AllocErr
 
 /// Returns the bytes of the form, which are counted before they are written.
 fn counted_form_bytes(alloc: Global, tag: NormalLangTag<'_>) -> Result<Vec<u8>, AllocError>
-    requires { identifier.IsLocale (normal_lang_tag_text tag) }
-    ensures { IfOk result (λ bytes. model.EachRecord (normal_lang_tag_text tag.entry) (λ r. bytes.items ≡ spec.locale_text r)) }
+    requires { identifier.IsReadLocale (normal_lang_tag_text tag) }
+    ensures { IfOk result (λ bytes. model.EachRecord (normal_lang_tag_text tag.entry) (λ r. bytes.items ≡ spec.locale_text (as_read r))) }
 {
     let mut bytes = vec![in alloc; 0; put_parts(tag, &mut [])]?;
     put_parts(tag, &mut bytes);
@@ -92,6 +94,9 @@ fn counted_form_bytes(alloc: Global, tag: NormalLangTag<'_>) -> Result<Vec<u8>, 
 /// of `t`. Variants are put in alphabetical order, and extensions in the order of their singletons. `u` and the fields of
 /// `t` get the form of `extensions_form`. The script is in titlecase, the region in uppercase, and everything else in
 /// lowercase. Other extensions and private use stay, except for their case: `en-x-true` is its own form.
+///
+/// `r` before a region, as Android writes it, is left out: `es-rUS` becomes `es-US`. But an extended language that is
+/// registered for the language before it is one, as in `sgn-rsl`.
 ///
 /// Norwegian Sign Language, `sgn-NO`, becomes `nsl`, as in IANA's registry. CLDR has `nsi` there, which is Nigerian.
 ///
@@ -127,9 +132,9 @@ pub fn write_locale_form(tag: LangTag<'_>, buffer: &mut [u8]) -> Option<usize>
 
 /// Writes the form of a Unicode locale identifier.
 fn write_locale_parts(tag: NormalLangTag<'_>, buffer: &mut [u8]) -> usize
-    requires { identifier.IsLocale (normal_lang_tag_text tag) }
+    requires { identifier.IsReadLocale (normal_lang_tag_text tag) }
     ensures { model.EachRecord (normal_lang_tag_text tag.entry)
-        (λ r. WritesWhole (λ form. form ≡ spec.locale_text r) buffer.old buffer.new result) }
+        (λ r. WritesWhole (λ form. form ≡ spec.locale_text (as_read r)) buffer.old buffer.new result) }
 {
     let len = put_parts(tag, buffer);
     if len > buffer.len() {
@@ -141,9 +146,9 @@ fn write_locale_parts(tag: NormalLangTag<'_>, buffer: &mut [u8]) -> usize
 
 /// Writes as much of the form, before its case is changed, as fits into a buffer, and returns its full length.
 fn put_parts(tag: NormalLangTag<'_>, buffer: &mut [u8]) -> usize
-    requires { identifier.IsLocale (normal_lang_tag_text tag) }
+    requires { identifier.IsReadLocale (normal_lang_tag_text tag) }
     ensures { model.EachRecord (normal_lang_tag_text tag.entry)
-        (λ r. IsCounted (model.spell (spec.locale_record r)) buffer.old buffer.new result) }
+        (λ r. IsCounted (model.spell (spec.locale_record (as_read r))) buffer.old buffer.new result) }
 {
     let mut out = Output::new(buffer);
     push_identifier(&mut out, fields_of(tag), nonempty(tag.variants().as_str()));
@@ -152,14 +157,16 @@ fn put_parts(tag: NormalLangTag<'_>, buffer: &mut [u8]) -> usize
     out.len()
 }
 
-/// Returns the primary language, the script and the region of a tag.
+/// Returns the primary language, the script and the region of a tag. After a language, `r` and a region are read as Android
+/// writes them.
+#[tactic(auto, using(crate::proofs::ReadRecords::read_fields, langtag_likely::proofs::MarkLaws::either_region))]
 pub(crate) fn fields_of<'a>(tag: NormalLangTag<'a>) -> TagFields<'a>
-    ensures { model.EachRecord (normal_lang_tag_text tag.entry) (λ r. field_texts result ≡ spec.record_fields r) }
+    ensures { model.EachRecord (normal_lang_tag_text tag.entry) (λ r. field_texts result ≡ spec.record_fields (as_read r)) }
 {
     TagFields {
         language: primary_field(tag.language()),
         script: script_field(tag.script()),
-        region: region_field(tag.region()),
+        region: or_other(region_field(tag.region()), marked_region(tag)),
     }
 }
 

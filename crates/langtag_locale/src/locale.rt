@@ -1,14 +1,16 @@
 //! Unicode locale identifiers (UTS #35, part 1, section 'Unicode Locale Identifier').
-ghost use Rattle.std.specs.Prelude.{◌≡◌, ◌&&◌, ◌==◌, List, false, length};
-ghost use Rattle.langtag_scan.specs.Grammar.{list_all, subtags};
-ghost use Rattle.langtag.specs.Definitions.{PartOf, lang_tag_text, normal_lang_tag_text, SpellsExtension};
+ghost use Rattle.std.specs.Prelude.{◌≡◌, ◌&&◌, ◌==◌, List, false, is_none, length, map};
+ghost use Rattle.langtag_scan.specs.Grammar.{are_alike, list_all, subtags};
+ghost use Rattle.langtag.specs.Definitions.{PartOf, are_alike_bytes, lang_tag_text, normal_lang_tag_text, repeat, SpellsExtension};
 ghost use Rattle.langtag.specs.Definitions.{SpellsExtensions, extension_text, extensions_text};
 ghost use Rattle.langtag_scan.specs.Record as model;
 ghost use Rattle.langtag_keyword.specs.Form.{is_unicode_language};
+ghost use Rattle.langtag_likely.specs.Marked.{as_read};
 ghost use Rattle.langtag_locale.specs.Locale as spec;
 
 use langtag::{Extension, Extensions, LangTag, NormalLangTag, Subtags};
 use langtag_keyword::{Keys, is_of, is_transform, is_unicode_key, is_unicode_language, subtags_of};
+use langtag_likely::marked_region;
 
 /// Returns whether a tag is a Unicode locale identifier (UTS #35, part 1, section 'Unicode Locale Identifier'), as
 /// JavaScript's `Intl` requires.
@@ -44,10 +46,15 @@ pub fn is_locale(tag: LangTag<'_>) -> bool
 pub(crate) fn is_locale_record(tag: NormalLangTag<'_>) -> bool
     ensures { model.EachRecord (normal_lang_tag_text tag.entry) (λ r. result ≡ spec.is_locale_record r) }
 {
-    has_unicode_language(tag)
-        && tag.repeated_variant().is_none()
-        && tag.repeated_singleton().is_none()
-        && are_locale_extensions(tag.extensions())
+    has_unicode_language(tag) && has_locale_parts(tag)
+}
+
+/// Returns whether a normal tag is a Unicode locale identifier, as it is read: `es-rUS` is read as `es-US`.
+#[tactic(auto, using(crate::proofs::ReadRecords::parts_read))]
+pub(crate) fn is_read_record(tag: NormalLangTag<'_>) -> bool
+    ensures { model.EachRecord (normal_lang_tag_text tag.entry) (λ r. result ≡ spec.is_locale_record (as_read r)) }
+{
+    has_read_language(tag) && has_locale_parts(tag)
 }
 
 /// Returns whether the language of a tag is allowed, and has no extended subtags.
@@ -57,6 +64,27 @@ fn has_unicode_language(tag: NormalLangTag<'_>) -> bool
 {
     let language = tag.language();
     is_unicode_language(language.primary().as_str()) && language.extension().is_none()
+}
+
+/// Returns whether the language of a tag is allowed, and has no extended subtags but a region with Android's mark.
+#[tactic(auto, using(crate::proofs::ReadRecords::language_read))]
+fn has_read_language(tag: NormalLangTag<'_>) -> bool
+    ensures { model.EachRecord (normal_lang_tag_text tag.entry)
+        (λ r. result ≡ (is_unicode_language (as_read r).primary && length (as_read r).extended == 0)) }
+{
+    has_unicode_language(tag)
+        || (!marked_region(tag).is_empty()
+            && is_unicode_language(tag.language().primary().as_str()))
+}
+
+/// Returns whether no variant and no singleton is repeated, and each extension is allowed.
+fn has_locale_parts(tag: NormalLangTag<'_>) -> bool
+    ensures { model.EachRecord (normal_lang_tag_text tag.entry) (λ r. result ≡ (is_none (repeat are_alike r.variants)
+        && is_none (repeat are_alike_bytes (map (λ e. e.singleton) r.extensions)) && list_all spec.is_locale_extension r.extensions)) }
+{
+    tag.repeated_variant().is_none()
+        && tag.repeated_singleton().is_none()
+        && are_locale_extensions(tag.extensions())
 }
 
 /// Returns whether each extension is allowed.

@@ -5,17 +5,17 @@
 ghost use Rattle.std.specs.Prelude.{◌≡◌, IfSome, List, None, Some, ℕ};
 ghost use Rattle.langtag_scan.specs.Grammar.{EachRecord, Spells};
 ghost use Rattle.langtag.specs.Definitions.{lang_tag_text, normal_lang_tag_text};
-ghost use Rattle.langtag_locale.specs.Locale.{IsLocale};
+ghost use Rattle.langtag_locale.specs.Locale.{IsReadLocale};
 ghost use Rattle.langtag_locale.specs.LocaleForm as spec;
 
-use crate::locale::is_locale_record;
+use crate::locale::is_read_record;
 use langtag::{ExtendedLangTag, LangTag, NormalLangTag};
 use langtag_fields::{is_registered_extlang, preferred_tag};
 
-/// Returns the Unicode locale identifier whose form is the form of a tag: the tag itself, its Preferred-Value, or the tag
-/// from its extended language on. Returns `None` if the tag has no form.
+/// Returns the Unicode locale identifier, as it is read, whose form is the form of a tag: the tag itself, its
+/// Preferred-Value, or the tag from its extended language on. Returns `None` if the tag has no form.
 pub(crate) fn locale_for<'a>(tag: LangTag<'a>) -> Option<NormalLangTag<'a>>
-    ensures is_locale { IfSome result (λ locale. IsLocale (normal_lang_tag_text locale)) }
+    ensures is_locale { IfSome result (λ locale. IsReadLocale (normal_lang_tag_text locale)) }
     ensures form { IfSome result (λ locale. (form : List ℕ) → spec.IsLocaleForm (normal_lang_tag_text locale) (Some form)
         → spec.IsWholeForm (lang_tag_text tag.entry) (Some form)) }
     ensures none { result ≡ None → spec.IsWholeForm (lang_tag_text tag.entry) None }
@@ -32,14 +32,14 @@ pub(crate) fn locale_for<'a>(tag: LangTag<'a>) -> Option<NormalLangTag<'a>>
     as_locale(from_extlang(tag.as_normal()?)?)
 }
 
-/// Returns a tag as a normal tag if it is a Unicode locale identifier.
+/// Returns a tag as a normal tag if it is a Unicode locale identifier as it is read.
 fn as_locale<'a>(tag: LangTag<'a>) -> Option<NormalLangTag<'a>>
-    ensures some { IfSome result (λ locale. (normal_lang_tag_text locale ≡ lang_tag_text tag.entry) × IsLocale
+    ensures some { IfSome result (λ locale. (normal_lang_tag_text locale ≡ lang_tag_text tag.entry) × IsReadLocale
         (lang_tag_text tag.entry)) }
-    ensures none { result ≡ None → IsLocale (lang_tag_text tag.entry) → ⊥ }
+    ensures none { result ≡ None → IsReadLocale (lang_tag_text tag.entry) → ⊥ }
 {
     let normal = tag.as_normal()?;
-    if !is_locale_record(normal) {
+    if !is_read_record(normal) {
         return None;
     }
     Some(normal)

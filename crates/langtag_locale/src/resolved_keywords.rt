@@ -32,7 +32,7 @@ pub(crate) fn push_resolved(out: &mut Output<'_>, wish: Wish<'_>, text: &str)
         rest = push_each(out, wish, rest, least.kept());
         more = least.advance();
     }
-    push_staying(out, wish, rest);
+    push_remaining(out, wish, rest);
 }
 
 /// Appends the keywords whose keys have these numbers, each after the subtags that stay before it. Returns the rest.
@@ -44,9 +44,9 @@ fn push_each<'a>(
 ) -> Option<&'a str>
     ensures { (keys : List (List ℕ)) (end : Output) →
         Pushes (spec.with_keywords (keyword_form is_key unicode_value (wish_texts wish.entry).unicode) keys
-        (spec.staying (wish_texts wish.entry) false (segments_left result))) out.new end →
+        (spec.remaining_subtags (wish_texts wish.entry) false (segments_left result))) out.new end →
         Pushes (spec.with_keywords (keyword_form is_key unicode_value (wish_texts wish.entry).unicode) (map key_of numbers.now ++ keys)
-        (spec.staying (wish_texts wish.entry) false (segments_left rest.entry))) out.old end }
+        (spec.remaining_subtags (wish_texts wish.entry) false (segments_left rest.entry))) out.old end }
 {
     let mut rest = rest;
     for number in numbers {
@@ -70,16 +70,16 @@ fn push_before<'a>(
     key: &[u8],
 ) -> Option<&'a str>
     ensures before { Pushes (before_key (spec.is_greater_key key.now)
-        (spec.staying (wish_texts wish.entry) false (segments_left rest.entry))) out.old out.new }
-    ensures rest { spec.staying (wish_texts wish.entry) false (segments_left result)
-        ≡ spec.from_greater key.now (spec.staying (wish_texts wish.entry) false (segments_left rest.entry)) }
+        (spec.remaining_subtags (wish_texts wish.entry) false (segments_left rest.entry))) out.old out.new }
+    ensures rest { spec.remaining_subtags (wish_texts wish.entry) false (segments_left result)
+        ≡ spec.from_greater key.now (spec.remaining_subtags (wish_texts wish.entry) false (segments_left rest.entry)) }
 {
     let mut rest = rest;
-    let mut is_gone = false;
+    let mut is_removed = false;
     while let Some(text) = rest {
         let (subtag, after) = split_first(text);
-        is_gone = goes(wish, is_gone, subtag);
-        if !is_gone {
+        is_removed = belongs_to_removed(wish, is_removed, subtag);
+        if !is_removed {
             if is_greater_key(key, subtag.as_bytes()) {
                 return rest;
             }
@@ -98,15 +98,15 @@ fn is_greater_key(key: &[u8], subtag: &[u8]) -> bool
 }
 
 /// Appends the subtags that stay.
-fn push_staying(out: &mut Output<'_>, wish: Wish<'_>, rest: Option<&str>)
-    ensures { Pushes (spec.staying (wish_texts wish.entry) false (segments_left rest.entry)) out.old out.new }
+fn push_remaining(out: &mut Output<'_>, wish: Wish<'_>, rest: Option<&str>)
+    ensures { Pushes (spec.remaining_subtags (wish_texts wish.entry) false (segments_left rest.entry)) out.old out.new }
 {
     let mut rest = rest;
-    let mut is_gone = false;
+    let mut is_removed = false;
     while let Some(text) = rest {
         let (subtag, after) = split_first(text);
-        is_gone = goes(wish, is_gone, subtag);
-        if !is_gone {
+        is_removed = belongs_to_removed(wish, is_removed, subtag);
+        if !is_removed {
             out.push_subtag(subtag.as_bytes());
         }
         rest = after;
@@ -120,7 +120,7 @@ pub(crate) fn is_resolved_empty(wish: Wish<'_>, text: &str) -> bool
     if has_key(wish.unicode) {
         return false;
     }
-    !has_staying(wish, text)
+    !has_remaining(wish, text)
 }
 
 /// Returns whether a string has a key.
@@ -136,34 +136,34 @@ fn has_key(text: &str) -> bool
 }
 
 /// Returns whether any subtag stays.
-fn has_staying(wish: Wish<'_>, text: &str) -> bool
-    ensures { result ≡ nat_lt 0 (length (spec.staying (wish_texts wish.entry) false (subtags text.now))) }
+fn has_remaining(wish: Wish<'_>, text: &str) -> bool
+    ensures { result ≡ nat_lt 0 (length (spec.remaining_subtags (wish_texts wish.entry) false (subtags text.now))) }
 {
-    let mut is_gone = false;
+    let mut is_removed = false;
     for subtag in Subtags::new(text) {
-        is_gone = goes(wish, is_gone, subtag);
-        if !is_gone {
+        is_removed = belongs_to_removed(wish, is_removed, subtag);
+        if !is_removed {
             return true;
         }
     }
     false
 }
 
-/// Returns whether a subtag goes, given whether the subtag before it does.
-fn goes(wish: Wish<'_>, is_gone: bool, subtag: &str) -> bool
-    ensures { result ≡ spec.goes (wish_texts wish.entry) is_gone subtag.now }
+/// Returns whether a subtag belongs to a keyword that is removed, given whether the subtag before it does.
+fn belongs_to_removed(wish: Wish<'_>, is_removed: bool, subtag: &str) -> bool
+    ensures { result ≡ spec.belongs_to_removed (wish_texts wish.entry) is_removed subtag.now }
 {
     if Keys::Unicode.has(subtag.as_bytes()) {
         return is_replaced(wish, subtag.as_bytes());
     }
-    is_gone
+    is_removed
 }
 
-/// Returns whether the keywords of a key go.
+/// Returns whether the keywords of a key are removed.
 fn is_replaced(wish: Wish<'_>, key: &[u8]) -> bool
     ensures { result ≡ spec.is_replaced (wish_texts wish.entry) key.now }
 {
-    is_among(nonempty(wish.unicode), key) || (wish.moves() && has_subdivision(key))
+    is_among(nonempty(wish.unicode), key) || (wish.removes_subdivisions() && has_subdivision(key))
 }
 
 /// Returns whether the values of a key are subdivisions.

@@ -52,9 +52,9 @@ impl<'a> Wish<'a> {
         self
     }
 
-    /// Returns whether `rg` and `sd` of a tag go, because the range says where its user is.
-    pub(crate) fn moves(self) -> bool
-        ensures { result ≡ spec.moves (wish_texts self.entry) }
+    /// Returns whether `rg` and `sd` of a tag are removed, because the range says where its user is.
+    pub(crate) fn removes_subdivisions(self) -> bool
+        ensures { result ≡ spec.removes_subdivisions (wish_texts self.entry) }
     {
         !self.region.is_empty() || is_among(nonempty(self.unicode), b"rg")
     }

@@ -1,6 +1,6 @@
 -- Each member of the chain of a normal tag is a normal tag in the script of the tag, and adds nothing to it but what CLDR lists.
 use Rattle.langtag_scan.proofs.Prelude.{◌≡◌, ℕ, zero, suc, eqb, nil_from_length, ◌⊎◌, inl, inr, true, false, Bool, cond, IsTrue, List, [], ◌∷◌, ◌++◌, length, map, flat_map, Option, None, Some, IfSome, MatchOption, refl, sym, ap, ◌∙◌, subst, arith, ◌&&◌, not, option_map, option_map_or, nat_lt, AllByRecursion, append_assoc, append-nil, length-append, and_parts, nat_tests}
-use Rattle.langtag_scan.specs.Grammar.{Alike, EachRecord, Extension, IsNormal, IsWellFormed, IsWellFormedExtension, IsWellFormedPrivateUse, PrivateUse, Record, Spells, are_alike, are_alike-decides, extension_flat, is_script, is_variant, join, language_part, one_flat, private_part_flat}
+use Rattle.langtag_scan.specs.Grammar.{Alike, EachRecord, Extension, IsNormal, IsWellFormed, IsWellFormedExtension, IsWellFormedPrivateUse, PrivateUse, Record, Spells, are_alike, are_alike-decides, extension_flat, is_script, is_variant, join, language_part, one_flat, private_part_flat, spell}
 use Rattle.langtag_scan.proofs.Laws.{each-append, hyphenated-append, join-hyphenated, no_hyphen_each, of_variant, spelled_once}
 use Rattle.langtag_text.proofs.Alike.{AlikeFields, alike_is, same_fields}
 use Rattle.langtag.specs.Definitions.{IsLanguage, SpellsLanguage}
@@ -12,7 +12,9 @@ use Rattle.langtag_cldr.specs.Definitions.{Likely, are_alike_fields, language_al
 use Rattle.langtag_cldr.proofs.AddedTwice.{either_way, found_of, found_row, some_value}
 use Rattle.langtag_cldr.proofs.AlikeFields.{alike_fields, looked_up-alike}
 use Rattle.langtag_cldr.proofs.TableRows.{are_good, is_settled, is_there, rows_listed}
-use Rattle.langtag_parent.specs.Chain.{IsChain, above, chain_of, endings, forms, given_form, hyphenated, line, rest_of, shorter, text_of, with_each}
+use Rattle.langtag_likely.specs.Marked.{as_read, mark_of}
+use Rattle.langtag_likely.proofs.MarkLaws.{read_fits}
+use Rattle.langtag_parent.specs.Chain.{IsChain, above, as_written, chain_of, endings, forms, given_form, hyphenated, line, rest_of, shorter, text_of, with_each}
 use Rattle.langtag_parent.specs.Parent.{fields_of, has_likely_script, is_empty, likely_script, named, other_script, parent_in_script, parent_of, parent_of_region, short, stated, stated_or, unless_alike, usual_parent, with_script}
 use Rattle.langtag_parent.specs.ParentLaws.{AddsNothing, ComesFrom, EachMember, IsInOneScript, IsKept, IsWrittenAs, of_fields, of_parent, script_of}
 use Rattle.langtag_parent.specs.ParentLocales.{parent_locales}
@@ -346,24 +348,39 @@ members r well =
     each-append (Member r) (given_form f (rest_of r)) (with_rest ++ parents) (given_member r well first (has_likely_script f && not (is_empty f.region)))
     (each-append (Member r) with_rest parents (members_with r (named f (short f)) well third) (members_above r (short f) well own second))
 
-chain_members : (tag : List ℕ) (chain : List (List ℕ)) (r : Record) → IsChain tag chain → Spells r tag → AllByRecursion (Member r) chain
-chain_members tag chain r is spells = subst (AllByRecursion (Member r)) (sym (is.part r spells)) (members r spells.0)
-
--- ---- the laws
-
 each_by : (P Q : List ℕ → Type 0) (xs : List (List ℕ)) → ((x : List ℕ) → P x → Q x) → AllByRecursion P xs → AllByRecursion Q xs
 each_by P Q [] of_p all = tt
 each_by P Q (x ∷ xs) of_p all = (of_p x all.0, each_by P Q xs of_p all.1)
 
+-- the tag itself, or a member of the chain of the tag as it is read
+abbrev TagOrMember : List ℕ → Record → List ℕ → Type 0
+TagOrMember tag r member = (member ≡ tag) ⊎ Member (as_read r) member
+
+chain_members : (tag : List ℕ) (chain : List (List ℕ)) (r : Record) → IsChain tag chain → Spells r tag → AllByRecursion (TagOrMember tag r) chain
+chain_members tag chain r is spells =
+    let written : (b : Bool) → AllByRecursion (TagOrMember tag r) (cond b [] (spell r ∷ [])) = λ b. grind (arith, spells.1) in
+    let parents = each_by (Member (as_read r)) (TagOrMember tag r) (chain_of (as_read r)) (λ x m. inr m) (members (as_read r) (read_fits r spells.0)) in
+    subst (AllByRecursion (TagOrMember tag r)) (sym (is.part r spells)) (each-append (TagOrMember tag r) (as_written r) (chain_of (as_read r)) (written (is_empty (mark_of r))) parents)
+
+-- ---- the laws
+
 pub normal_members : (tag : List ℕ) (chain : List (List ℕ)) → IsNormal tag → IsChain tag chain → AllByRecursion IsNormal chain
 unfolding IsNormal
-normal_members tag chain normal is = each_by (Member normal.0) (λ m. (q : Record) × Spells q m) chain (λ x m. (m.q, m.spells)) (chain_members tag chain normal.0 is normal.1)
+normal_members tag chain normal is =
+    each_by (TagOrMember tag normal.0) (λ m. (q : Record) × Spells q m) chain
+    (λ x is. elim is [
+      | inl same ↦ subst (λ m. (q : Record) × Spells q m) (sym same) normal
+      | inr m ↦ (m.q, m.spells)
+    ]) (chain_members tag chain normal.0 is normal.1)
 
 -- what holds of the record that was found, holds of each record
 each_member : (P : Record → Record → Type 0) → ((r : Record) (x : List ℕ) (m : Member r x) → P r m.q) → EachMember P
 each_member P of_member = λ tag chain is r spells.
-    each_by (Member r) (λ x. EachRecord x (P r)) chain
-    (λ x m q also. subst (P r) (spelled_once m.q q m.spells.0 also.0 (m.spells.1 ∙ sym also.1)) (of_member r x m)) (chain_members tag chain r is spells)
+    each_by (TagOrMember tag r) (λ x. (x ≡ tag) ⊎ EachRecord x (P (as_read r))) chain
+    (λ x is. elim is [
+      | inl same ↦ inl same
+      | inr m ↦ inr (λ q also. subst (P (as_read r)) (spelled_once m.q q m.spells.0 also.0 (m.spells.1 ∙ sym also.1)) (of_member (as_read r) x m))
+    ]) (chain_members tag chain r is spells)
 
 pub in_one_script : EachMember IsInOneScript
 in_one_script = each_member IsInOneScript (λ r x m. m.written)

@@ -4,6 +4,8 @@ use Rattle.langtag_scan.specs.Grammar.{IsHyphenFree, IsWellFormed, ends_of, Reco
 use Rattle.langtag_scan.proofs.Laws.{join-append, drop-join, ends_in_order}
 use Rattle.langtag_text.specs.Fields.{Fields, subtag_of}
 use Rattle.langtag.specs.Definitions.{base_record}
+use Rattle.langtag_likely.specs.Marked.{as_read}
+use Rattle.langtag_likely.proofs.MarkLaws.{read_keeps}
 use Rattle.langtag_parent.specs.Chain.{endings, hyphenated, rest_of, shorter, text_of}
 
 -- ---- without the last subtag
@@ -46,6 +48,13 @@ rest_is r = grind (arith, nat_tests, flat_map extension_flat r.extensions, drop-
 
 pub variants_are : (r : Record) → rest_of (base_record r) ≡ hyphenated r.variants
 variants_are r = ap hyphenated (append-nil r.variants)
+
+-- the same stands there as the tag is read
+pub read_rest : (r : Record) → rest_of (as_read r) ≡ rest_of r
+read_rest r = let kept = read_keeps r in rw (kept.variants, kept.extensions, kept.private_use) refl
+
+pub read_variants : (r : Record) → hyphenated (as_read r).variants ≡ hyphenated r.variants
+read_variants r = ap hyphenated (read_keeps r).variants
 
 -- ---- a text in pieces
 

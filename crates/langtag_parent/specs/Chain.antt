@@ -1,8 +1,9 @@
 -- A tag and its parents, the nearest first: the order in which a catalogue looks for a string.
 use Rattle.std.specs.Prelude.{ℕ, zero, suc, ◌==◌, ◌&&◌, not, nat_lt, List, [], ◌∷◌, ◌++◌, length, Option, flat_map, map, if◌then◌else◌}
-use Rattle.langtag_scan.specs.Grammar.{option_map_or, Record, extension_flat, one_flat, private_part_flat, join}
+use Rattle.langtag_scan.specs.Grammar.{option_map_or, Record, extension_flat, one_flat, private_part_flat, join, spell}
 use Rattle.langtag.specs.Definitions.{PartOf}
 use Rattle.langtag_text.specs.Fields.{Fields, subtag_of}
+use Rattle.langtag_likely.specs.Marked.{as_read, mark_of}
 use Rattle.langtag_parent.specs.declared.parent_tag.ParentTag.{ParentTag}
 use Rattle.langtag_parent.specs.declared.parents.Parents.{Parents}
 use Rattle.langtag_parent.specs.Base.{base_fields}
@@ -67,9 +68,17 @@ chain_of r =
     ++ (with_each (endings (hyphenated r.variants) (rest_of r)) (named (fields_of r) (short (fields_of r)))
     ++ above (fields_of r) (hyphenated r.variants) (parent_of (short (fields_of r))))
 
+-- a tag in which Android's mark stands before the region, as it is written
+abbrev pub as_written : Record → List (List ℕ)
+as_written r = if is_empty (mark_of r) then [] else spell r ∷ []
+
+-- a tag and its parents. They are those of the tag as it is read: `es-rUS`, and then `es-US` and its parents
+abbrev pub whole_chain : Record → List (List ℕ)
+whole_chain r = as_written r ++ chain_of (as_read r)
+
 -- a tag and its parents; a private use tag and an irregular tag have none
 abbrev pub IsChain : List ℕ → List (List ℕ) → Type 0
-IsChain tag chain = PartOf tag chain_of (tag ∷ []) chain
+IsChain tag chain = PartOf tag whole_chain (tag ∷ []) chain
 
 -- ---- the types
 
@@ -82,6 +91,10 @@ abbrev pub bases_left : Fields → Option Base → List ℕ → List ℕ → Lis
 bases_left tag base rest variants =
     option_map_or (λ base. with_each (endings variants rest) (named tag (base_fields base)) ++ above tag variants (parent_of (short (base_fields base)))) base []
 
+-- a text, unless it is empty
+abbrev pub unless_empty : List ℕ → List (List ℕ)
+unless_empty text = if is_empty text then [] else text ∷ []
+
 -- the tags that an iterator has not returned yet
 abbrev pub parents_left : Parents → List (List ℕ)
-parents_left walk = option_map_or (λ tag. parent_text tag ∷ []) walk.pending [] ++ bases_left (base_fields walk.tag) walk.base walk.rest.now walk.variants.now
+parents_left walk = unless_empty walk.written.now ++ (option_map_or (λ tag. parent_text tag ∷ []) walk.pending [] ++ bases_left (base_fields walk.tag) walk.base walk.rest.now walk.variants.now)

@@ -3,6 +3,7 @@ use Rattle.std.specs.Prelude.{◌≡◌, ℕ, zero, suc, ◌⊎◌, List, [], �
 use Rattle.langtag_scan.specs.Grammar.{Alike, AllByRecursion, EachRecord, Record}
 use Rattle.langtag_text.specs.Fields.{Fields}
 use Rattle.langtag_cldr.specs.Definitions.{likely_for}
+use Rattle.langtag_likely.specs.Marked.{as_read}
 use Rattle.langtag_parent.specs.Chain.{IsChain}
 use Rattle.langtag_parent.specs.Parent.{fields_of, is_empty, likely_script, parent_of, short}
 use Rattle.langtag_parent.specs.ParentLocales.{parent_locales}
@@ -16,9 +17,11 @@ EndsWithin (suc most) f = (parent : Fields) → parent_of (short f) ≡ Some par
 
 -- ---- each member of the chain of a tag
 
--- what holds of the record of the tag, and of the record of each member of its chain
+-- what holds of the record of the tag, as it is read, and of the record of each member of its chain but the tag itself
 abbrev pub EachMember : (Record → Record → Type 0) → Type 0
-EachMember P = (tag : List ℕ) (chain : List (List ℕ)) → IsChain tag chain → EachRecord tag (λ r. AllByRecursion (λ member. EachRecord member (P r)) chain)
+EachMember P =
+    (tag : List ℕ) (chain : List (List ℕ)) → IsChain tag chain →
+    EachRecord tag (λ r. AllByRecursion (λ member. (member ≡ tag) ⊎ EachRecord member (P (as_read r))) chain)
 
 -- ---- one script
 

@@ -1,12 +1,15 @@
 //! The language, the script and the region of a tag.
-ghost use Rattle.std.specs.Prelude.{◌≡◌, ◌≤◌, IsTrue, [], nat_lt, None, Some, length, if◌then◌else◌, option_map};
-ghost use Rattle.langtag_scan.specs.Grammar.{EachRecord};
-ghost use Rattle.langtag.specs.Definitions.{normal_lang_tag_text};
+ghost use Rattle.std.specs.Prelude.{◌≡◌, ◌≤◌, ◌∷◌, IsTrue, [], nat_lt, None, Some, length, if◌then◌else◌, option_map};
+ghost use Rattle.langtag_scan.specs.Grammar.{EachRecord, join};
+ghost use Rattle.langtag.specs.Definitions.{EachLanguageSpelling, language_text, normal_lang_tag_text};
 ghost use Rattle.langtag_text.specs.FieldClasses.{is_language_field, is_script_field, is_region_field};
 ghost use Rattle.langtag_cldr.specs.Definitions.{field_texts};
+ghost use Rattle.langtag_likely.specs.Marked.{as_read, mark_of};
+ghost use Rattle.langtag_parent.specs.Parent.{is_empty};
 
 use langtag::{NormalLangTag, region_field, script_field};
-use langtag_cldr::TagFields;
+use langtag_cldr::{TagFields, or_other};
+use langtag_language::Language;
 
 /// A language with its extended subtags, a script and a region. The script and the region are empty if they are absent.
 #[derive(Clone, Copy, Debug)]
@@ -27,15 +30,17 @@ impl<'a> Base<'a> {
     ghost use Rattle.langtag_parent.specs.Base.{base_fields};
     ghost use Rattle.langtag_parent.specs.Parent.{fields_of, with_script};
 
-    /// Returns the language, the script and the region of a tag.
-    #[tactic(auto, using(crate::proofs::Bases::of_language_test))]
-    pub(crate) fn of(tag: NormalLangTag<'a>) -> Base<'a>
-        ensures { EachRecord (normal_lang_tag_text tag.entry) (λ r. base_fields result ≡ fields_of r) }
+    /// Returns the language, the script and the region of a tag, which may have a region with Android's mark.
+    #[tactic(auto, using(crate::proofs::Bases::read_fields, langtag_likely::proofs::MarkLaws::either_region))]
+    pub(crate) fn of(tag: NormalLangTag<'a>, marked: &'a [u8]) -> Base<'a>
+        requires mark { EachRecord (normal_lang_tag_text tag) (λ r. marked.now ≡ mark_of r) }
+        requires in_class { IsTrue (is_region_field marked.now) }
+        ensures { EachRecord (normal_lang_tag_text tag.entry) (λ r. base_fields result ≡ fields_of (as_read r)) }
     {
         Base {
-            language: tag.language().as_bytes(),
+            language: language_before(tag.language(), marked),
             script: script_field(tag.script()),
-            region: region_field(tag.region()),
+            region: or_other(region_field(tag.region()), marked),
         }
     }
 
@@ -111,5 +116,21 @@ impl<'a> Base<'a> {
             script,
             region: self.region,
         }
+    }
+}
+
+/// Returns a language with its extended subtags, or without them if they are a region with Android's mark.
+#[tactic(auto, using(crate::proofs::Bases::of_language_test, crate::proofs::Bases::of_primary_test))]
+fn language_before<'a>(language: Language<'a>, marked: &[u8]) -> &'a [u8]
+    ensures text { EachLanguageSpelling (language_text language.entry)
+        (λ primary extended. result.now ≡ if is_empty marked.now then join (primary ∷ extended) else primary) }
+    ensures in_class { length result.now ≤ 3 → IsTrue (is_language_field result.now) }
+    ensures some { 1 ≤ length result.now }
+    ensures short { length result.now ≤ 15 }
+{
+    if marked.is_empty() {
+        language.as_bytes()
+    } else {
+        language.primary().as_bytes()
     }
 }

@@ -22,7 +22,7 @@ fn members_are_normal()
 /// Each member whose script is known is written in the script of the tag.
 #[tactic(auto, using(crate::proofs::Members::in_one_script))]
 fn one_script()
-    // law: each member whose script is known is written in the script of the tag. The script is its own, or else its likely script
+    // law: each member whose script is known is written in the script of the tag, as it is read. The script is its own, or else its likely script
     ensures one_script { EachMember IsInOneScript }
 {}
 
@@ -30,6 +30,6 @@ fn one_script()
 /// CLDR's parents.
 #[tactic(auto, using(crate::proofs::Members::adds_nothing))]
 fn nothing_added()
-    // law: a member has no variant, extension or private use but the tag's, and no language or region but the tag's or those of CLDR's parents
+    // law: a parent has no variant, extension or private use but the tag's, and no language or region but those of the tag as it is read or of CLDR's parents
     ensures nothing_added { EachMember AddsNothing }
 {}

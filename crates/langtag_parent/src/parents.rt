@@ -5,8 +5,9 @@ ghost use Rattle.std.specs.Prelude.{◌≡◌, ◌∷◌, ◌++◌, ◌≤◌, [
 ghost use Rattle.langtag_scan.specs.Grammar.{EachRecord, IsHyphenFree, YieldsFirstBy, ends_of, item_count, option_map_or, spell};
 ghost use Rattle.langtag.specs.Definitions.{lang_tag_text, normal_lang_tag_text};
 ghost use Rattle.langtag_text.specs.Fields.{Fields};
+ghost use Rattle.langtag_likely.specs.Marked.{mark_of};
 ghost use Rattle.langtag_parent.specs.Base.{base_fields};
-ghost use Rattle.langtag_parent.specs.Chain.{IsChain, above, bases_left, chain_of, endings, forms, given_form};
+ghost use Rattle.langtag_parent.specs.Chain.{IsChain, above, as_written, bases_left, endings, forms, given_form, unless_empty, whole_chain};
 ghost use Rattle.langtag_parent.specs.Chain.{parent_text, parents_left, shorter, text_of, with_each};
 ghost use Rattle.langtag_parent.specs.Parent.{has_likely_script, named, parent_of, short};
 
@@ -15,9 +16,11 @@ use crate::parent_base::parent_of;
 use crate::parent_tag::ParentTag;
 use crate::scripts::{has_likely_script, named, short};
 use langtag::{LangTag, NormalLangTag};
+use langtag_likely::marked_region;
 use langtag_scan::segment_start;
 
-/// An iterator over a tag and its parents, the nearest first.
+/// An iterator over a tag and its parents, the nearest first. `es-rUS`, as Android writes `es-US`, is followed by `es-US` and
+/// its parents.
 ///
 /// ```
 /// use langtag::LangTag;
@@ -27,6 +30,8 @@ use langtag_scan::segment_start;
 /// ```
 #[derive(Clone, Debug, Drop)]
 pub struct Parents<'a> {
+    // A tag that comes before all others, or the empty string.
+    written: &'a [u8],
     // A tag that comes before those of `base`.
     pending: Option<ParentTag<'a>>,
     base: Option<Base<'a>>,
@@ -40,7 +45,7 @@ pub struct Parents<'a> {
 
 impl<'a> Parents<'a> {
     /// Returns an iterator that starts at the tag itself.
-    #[tactic(auto, unfolding(langtag_scan::specs::Class::is_primary, langtag_scan::specs::Class::is_letter), using(crate::proofs::Chains::some_tag, crate::proofs::Chains::other_chain, crate::proofs::Chains::normal_chain))]
+    #[tactic(auto, unfolding(langtag_scan::specs::Class::is_primary, langtag_scan::specs::Class::is_letter), using(crate::proofs::Chains::some_tag, crate::proofs::Chains::not_empty, crate::proofs::Chains::other_chain, crate::proofs::Chains::normal_chain))]
     pub fn new(tag: LangTag<'a>) -> Self
         ensures chain { IsChain (lang_tag_text tag.entry) (parents_left result) }
         ensures cloned { (walk copy : Parents) → ⟦<Parents<'a> as Clone>⟧.is_clone walk copy
@@ -50,7 +55,8 @@ impl<'a> Parents<'a> {
         match tag.as_normal() {
             Some(tag) => Parents::of_normal(tag),
             None => Parents {
-                pending: Some(ParentTag::whole(tag.as_str().as_bytes())),
+                written: tag.as_str().as_bytes(),
+                pending: None,
                 base: None,
                 tag: Base {
                     language: b"und",
@@ -65,11 +71,13 @@ impl<'a> Parents<'a> {
 
     /// Returns an iterator that starts at a normal tag.
     fn of_normal(tag: NormalLangTag<'a>) -> Self
-        ensures { EachRecord (normal_lang_tag_text tag.entry) (λ r. parents_left result ≡ chain_of r) }
+        ensures { EachRecord (normal_lang_tag_text tag.entry) (λ r. parents_left result ≡ whole_chain r) }
     {
-        let base = Base::of(tag);
+        let marked = marked_region(tag);
+        let base = Base::of(tag, marked);
         let rest = after_region(tag);
         Parents {
+            written: as_written(tag, marked),
             pending: given_form(base, rest),
             base: Some(short(base)),
             tag: base,
@@ -87,6 +95,11 @@ impl<'a> Iterator for Parents<'a> {
     ghost remaining = { item_count parents_left };
 
     fn next(&mut self) -> Option<ParentTag<'a>> {
+        if !self.written.is_empty() {
+            let written = self.written;
+            self.written = b"";
+            return Some(ParentTag::whole(written));
+        }
         if let Some(pending) = self.pending {
             self.pending = None;
             return Some(pending);
@@ -97,6 +110,19 @@ impl<'a> Iterator for Parents<'a> {
         let base = named(base, self.tag);
         self.pending = short_form(base, rest);
         Some(ParentTag::new(base, rest))
+    }
+}
+
+/// Returns the tag as it is written if Android's mark stands before its region, and otherwise the empty string.
+#[tactic(auto, using(crate::proofs::Chains::some_tag, crate::proofs::Chains::not_empty))]
+fn as_written<'a>(tag: NormalLangTag<'a>, marked: &[u8]) -> &'a [u8]
+    requires { EachRecord (normal_lang_tag_text tag) (λ r. marked.now ≡ mark_of r) }
+    ensures { EachRecord (normal_lang_tag_text tag.entry) (λ r. unless_empty result.now ≡ as_written r) }
+{
+    if marked.is_empty() {
+        b""
+    } else {
+        tag.as_str().as_bytes()
     }
 }
 

@@ -130,7 +130,7 @@ modifier_cases f script variants modifier is =
 
 -- ---- the place is a tag
 
-capital-fold : (text : List ℕ) → fold_text (capital_text text) ≡ fold_text text
+pub capital-fold : (text : List ℕ) → fold_text (capital_text text) ≡ fold_text text
 unfolding fold_byte
 capital-fold [] = refl
 capital-fold (b ∷ text) = rw (lowercase-uppercase b, capital-fold text) refl

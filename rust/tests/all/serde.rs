@@ -74,6 +74,20 @@ fn refusals() {
 }
 
 #[test]
+fn kinds() {
+    for text in ["de", "x-a", "i-lux"] {
+        let kind = LangTag::new(text).unwrap().kind();
+        let json = serde_json::to_string(&kind).unwrap();
+        assert_eq!(json, format!("\"{kind}\""));
+        assert_eq!(serde_json::from_str::<Kind>(&json).unwrap(), kind);
+    }
+    assert_eq!(
+        refused::<Kind>(r#""Normal""#),
+        "`Normal` is not a kind of tags"
+    );
+}
+
+#[test]
 fn oxilangtag() {
     let tag: LanguageTag<String> = serde_json::from_str(r#""EN-us""#).unwrap();
     assert_eq!(tag, "EN-us");

@@ -34,7 +34,7 @@ pub fn langtag_parent(bytes: &[u8], buffer: &mut [u8]) -> usize {
 /// likely anyway goes first, and comes back before the language alone: zh-Hans-CN, zh-CN, zh-Hans,
 /// zh. Extensions and private use are removed next, then each variant, the last one first, and then
 /// the region. The variants come back with each parent: ca-ES-valencia, ca-ES, ca-valencia, ca.
-/// Case is ignored.
+/// Case is ignored. es-rUS, as Android writes es-US, stands before es-US and its parents.
 ///
 /// If the folders of a catalogue name scripts, such as zh-Hans, call this function with the result
 /// of `langtag_maximized`, which names the script of zh-CN. CLDR does not list replaced codes such

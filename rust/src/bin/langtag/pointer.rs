@@ -19,7 +19,7 @@ pub fn refused(text: &[u8]) -> String {
 }
 
 /// Says why a tag is not valid.
-pub fn invalid(tag: LangTag<'_>, invalid: &InvalidSubtag<&str>) -> String {
+pub fn invalid(tag: LangTag<'_>, invalid: &InvalidSubtag) -> String {
     let marked = underlined(tag.as_bytes(), invalid.start()..invalid.end());
     format!(
         "`{}` is not valid: {invalid}{marked}",

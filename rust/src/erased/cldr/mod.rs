@@ -37,3 +37,4 @@ pub(crate) use replacement::may_change_language;
 pub(crate) use rows::{key_number, language_number};
 pub(crate) use suggestion::region_replacement;
 pub(crate) use tag_fields::TagFields;
+pub(crate) use text_fields::after_mark;

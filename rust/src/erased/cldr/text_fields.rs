@@ -13,6 +13,7 @@ impl<'a> TagFields<'a> {
     /// Returns the fields of a string in which `_` is read as `-`, or `None` if it does not begin
     /// with a language. A tag that the registry replaces as a whole has the fields of its
     /// replacement.
+    #[inline(always)]
     pub(crate) fn of_text(text: &'a [u8]) -> Option<TagFields<'a>> {
         let (first, rest) = current_parts(text);
         if !is_primary(first) {
@@ -93,7 +94,8 @@ fn may_be_marked(text: &[u8]) -> bool {
 }
 
 /// Returns the region after the letter `r`, or the empty string if the subtag is none of these.
-fn after_mark(subtag: &[u8]) -> &[u8] {
+#[must_use]
+pub fn after_mark(subtag: &[u8]) -> &[u8] {
     let [mark, region @ ..] = subtag else {
         return b"";
     };

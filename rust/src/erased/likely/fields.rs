@@ -2,7 +2,7 @@
 
 //! The fields of a tag that likely subtags fill in: its language, its script and its region.
 
-use crate::erased::cldr::{known, TagFields};
+use crate::erased::cldr::{after_mark, known, TagFields};
 use crate::erased::fields::is_prefix_of;
 use crate::erased::language::Language;
 use crate::erased::tag::{region_field, script_field, NormalLangTag};
@@ -27,6 +27,27 @@ pub fn is_read(tag: NormalLangTag<'_>) -> bool {
         return true;
     }
     is_language_read(tag.language())
+}
+
+/// Returns the region that Android writes after the language of a tag: `US` for `es-rUS`. Returns
+/// the empty string if there is none. An extended language that is registered for the language
+/// before it is none, such as that of `sgn-rsl`.
+#[inline(always)]
+#[must_use]
+pub fn marked_region(tag: NormalLangTag<'_>) -> &[u8] {
+    if is_read(tag) {
+        return b"";
+    }
+    first_marked(tag.language())
+}
+
+/// Returns the region in the first extended subtag as Android writes it.
+#[inline]
+fn first_marked(language: Language<'_>) -> &[u8] {
+    match language.extension_subtags().next() {
+        Some(first) => after_mark(first.as_bytes()),
+        None => b"",
+    }
 }
 
 /// Returns whether the last extended subtag, if there is any, is registered for the primary subtag.

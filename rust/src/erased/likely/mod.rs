@@ -31,4 +31,4 @@ pub use forms::{maximized, minimized};
 pub use forms::{write_maximized, write_minimized};
 
 // For this repository.
-pub(crate) use fields::{fields_of, is_read};
+pub(crate) use fields::{fields_of, is_read, marked_region};

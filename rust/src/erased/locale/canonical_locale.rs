@@ -6,8 +6,9 @@
 //! among them. `maximized` takes the first, as Add Likely Subtags says; over CLDR's languages the
 //! two differ only for Azerbaijani.
 
-use crate::erased::cldr::TagFields;
+use crate::erased::cldr::{or_other, TagFields};
 use crate::erased::keyword::nonempty;
+use crate::erased::likely::marked_region;
 use crate::erased::locale::locale_extensions::{push_identifier, push_locale_extensions};
 use crate::erased::locale::locale_for::locale_for;
 use crate::erased::tag::{
@@ -89,6 +90,9 @@ fn counted_form_bytes(tag: NormalLangTag<'_>) -> Result<Vec<u8>, AllocError> {
 /// in titlecase, the region in uppercase, and everything else in lowercase. Other extensions and
 /// private use stay, except for their case: `en-x-true` is its own form.
 ///
+/// `r` before a region, as Android writes it, is left out: `es-rUS` becomes `es-US`. But an
+/// extended language that is registered for the language before it is one, as in `sgn-rsl`.
+///
 /// Norwegian Sign Language, `sgn-NO`, becomes `nsl`, as in IANA's registry. CLDR has `nsi` there,
 /// which is Nigerian.
 ///
@@ -142,13 +146,13 @@ fn put_parts(tag: NormalLangTag<'_>, buffer: &mut [u8]) -> usize {
     out.len()
 }
 
-/// Returns the primary language, the script and the region of a tag.
-#[inline]
+/// Returns the primary language, the script and the region of a tag. After a language, `r` and a
+/// region are read as Android writes them.
 pub(crate) fn fields_of(tag: NormalLangTag<'_>) -> TagFields<'_> {
     TagFields {
         language: primary_field(tag.language()),
         script: script_field(tag.script()),
-        region: region_field(tag.region()),
+        region: or_other(region_field(tag.region()), marked_region(tag)),
     }
 }
 

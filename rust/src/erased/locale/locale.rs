@@ -5,6 +5,7 @@
 use crate::erased::keyword::{
     is_of, is_transform, is_unicode_key, is_unicode_language, subtags_of, Keys,
 };
+use crate::erased::likely::marked_region;
 use crate::erased::tag::{Extension, Extensions, LangTag, NormalLangTag, Subtags};
 
 /// Returns whether a tag is a Unicode locale identifier (UTS #35, part 1, section 'Unicode Locale
@@ -42,10 +43,14 @@ pub fn is_locale(tag: LangTag<'_>) -> bool {
 /// Returns whether a normal tag is a Unicode locale identifier.
 #[inline]
 pub(crate) fn is_locale_record(tag: NormalLangTag<'_>) -> bool {
-    has_unicode_language(tag)
-        && tag.repeated_variant().is_none()
-        && tag.repeated_singleton().is_none()
-        && are_locale_extensions(tag.extensions())
+    has_unicode_language(tag) && has_locale_parts(tag)
+}
+
+/// Returns whether a normal tag is a Unicode locale identifier, as it is read: `es-rUS` is read as
+/// `es-US`.
+#[inline]
+pub(crate) fn is_read_record(tag: NormalLangTag<'_>) -> bool {
+    has_read_language(tag) && has_locale_parts(tag)
 }
 
 /// Returns whether the language of a tag is allowed, and has no extended subtags.
@@ -53,6 +58,23 @@ pub(crate) fn is_locale_record(tag: NormalLangTag<'_>) -> bool {
 fn has_unicode_language(tag: NormalLangTag<'_>) -> bool {
     let language = tag.language();
     is_unicode_language(language.primary().as_str()) && language.extension().is_none()
+}
+
+/// Returns whether the language of a tag is allowed, and has no extended subtags but a region with
+/// Android's mark.
+#[inline]
+fn has_read_language(tag: NormalLangTag<'_>) -> bool {
+    has_unicode_language(tag)
+        || (!marked_region(tag).is_empty()
+            && is_unicode_language(tag.language().primary().as_str()))
+}
+
+/// Returns whether no variant and no singleton is repeated, and each extension is allowed.
+#[inline]
+fn has_locale_parts(tag: NormalLangTag<'_>) -> bool {
+    tag.repeated_variant().is_none()
+        && tag.repeated_singleton().is_none()
+        && are_locale_extensions(tag.extensions())
 }
 
 /// Returns whether each extension is allowed.

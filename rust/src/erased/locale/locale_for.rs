@@ -7,12 +7,12 @@
 //! `yue-hepburn-heploc`.
 
 use crate::erased::fields::{is_registered_extlang, preferred_tag};
-use crate::erased::locale::locale::is_locale_record;
+use crate::erased::locale::locale::is_read_record;
 use crate::erased::tag::{ExtendedLangTag, LangTag, NormalLangTag};
 
-/// Returns the Unicode locale identifier whose form is the form of a tag: the tag itself, its
-/// Preferred-Value, or the tag from its extended language on. Returns `None` if the tag has no
-/// form.
+/// Returns the Unicode locale identifier, as it is read, whose form is the form of a tag: the tag
+/// itself, its Preferred-Value, or the tag from its extended language on. Returns `None` if the tag
+/// has no form.
 pub(crate) fn locale_for(tag: LangTag<'_>) -> Option<NormalLangTag<'_>> {
     if let Some(locale) = as_locale(tag) {
         return Some(locale);
@@ -26,11 +26,11 @@ pub(crate) fn locale_for(tag: LangTag<'_>) -> Option<NormalLangTag<'_>> {
     as_locale(from_extlang(tag.as_normal()?)?)
 }
 
-/// Returns a tag as a normal tag if it is a Unicode locale identifier.
+/// Returns a tag as a normal tag if it is a Unicode locale identifier as it is read.
 #[inline]
 fn as_locale(tag: LangTag<'_>) -> Option<NormalLangTag<'_>> {
     let normal = tag.as_normal()?;
-    if !is_locale_record(normal) {
+    if !is_read_record(normal) {
         return None;
     }
     Some(normal)

@@ -23,7 +23,7 @@ pub(crate) fn push_resolved(out: &mut Output<'_>, wish: Wish<'_>, text: &str) {
         rest = push_each(out, wish, rest, least.kept());
         more = least.advance();
     }
-    push_staying(out, wish, rest);
+    push_remaining(out, wish, rest);
 }
 
 /// Appends the keywords whose keys have these numbers, each after the subtags that stay before it.
@@ -57,11 +57,11 @@ fn push_before<'a>(
     key: &[u8],
 ) -> Option<&'a str> {
     let mut rest = rest;
-    let mut is_gone = false;
+    let mut is_removed = false;
     while let Some(text) = rest {
         let (subtag, after) = split_first(text);
-        is_gone = goes(wish, is_gone, subtag);
-        if !is_gone {
+        is_removed = belongs_to_removed(wish, is_removed, subtag);
+        if !is_removed {
             if is_greater_key(key, subtag.as_bytes()) {
                 return rest;
             }
@@ -79,13 +79,13 @@ fn is_greater_key(key: &[u8], subtag: &[u8]) -> bool {
 }
 
 /// Appends the subtags that stay.
-fn push_staying(out: &mut Output<'_>, wish: Wish<'_>, rest: Option<&str>) {
+fn push_remaining(out: &mut Output<'_>, wish: Wish<'_>, rest: Option<&str>) {
     let mut rest = rest;
-    let mut is_gone = false;
+    let mut is_removed = false;
     while let Some(text) = rest {
         let (subtag, after) = split_first(text);
-        is_gone = goes(wish, is_gone, subtag);
-        if !is_gone {
+        is_removed = belongs_to_removed(wish, is_removed, subtag);
+        if !is_removed {
             out.push_subtag(subtag.as_bytes());
         }
         rest = after;
@@ -98,7 +98,7 @@ pub(crate) fn is_resolved_empty(wish: Wish<'_>, text: &str) -> bool {
     if has_key(wish.unicode) {
         return false;
     }
-    !has_staying(wish, text)
+    !has_remaining(wish, text)
 }
 
 /// Returns whether a string has a key.
@@ -114,30 +114,31 @@ fn has_key(text: &str) -> bool {
 
 /// Returns whether any subtag stays.
 #[inline]
-fn has_staying(wish: Wish<'_>, text: &str) -> bool {
-    let mut is_gone = false;
+fn has_remaining(wish: Wish<'_>, text: &str) -> bool {
+    let mut is_removed = false;
     for subtag in Subtags::new(text) {
-        is_gone = goes(wish, is_gone, subtag);
-        if !is_gone {
+        is_removed = belongs_to_removed(wish, is_removed, subtag);
+        if !is_removed {
             return true;
         }
     }
     false
 }
 
-/// Returns whether a subtag goes, given whether the subtag before it does.
+/// Returns whether a subtag belongs to a keyword that is removed, given whether the subtag before
+/// it does.
 #[inline]
-fn goes(wish: Wish<'_>, is_gone: bool, subtag: &str) -> bool {
+fn belongs_to_removed(wish: Wish<'_>, is_removed: bool, subtag: &str) -> bool {
     if Keys::Unicode.has(subtag.as_bytes()) {
         return is_replaced(wish, subtag.as_bytes());
     }
-    is_gone
+    is_removed
 }
 
-/// Returns whether the keywords of a key go.
+/// Returns whether the keywords of a key are removed.
 #[inline]
 fn is_replaced(wish: Wish<'_>, key: &[u8]) -> bool {
-    is_among(nonempty(wish.unicode), key) || (wish.moves() && has_subdivision(key))
+    is_among(nonempty(wish.unicode), key) || (wish.removes_subdivisions() && has_subdivision(key))
 }
 
 /// Returns whether the values of a key are subdivisions.

@@ -39,9 +39,10 @@ impl<'a> Wish<'a> {
         self
     }
 
-    /// Returns whether `rg` and `sd` of a tag go, because the range says where its user is.
+    /// Returns whether `rg` and `sd` of a tag are removed, because the range says where its user
+    /// is.
     #[inline]
-    pub(crate) fn moves(self) -> bool {
+    pub(crate) fn removes_subdivisions(self) -> bool {
         !self.region.is_empty() || is_among(nonempty(self.unicode), b"rg")
     }
 }

@@ -2,7 +2,8 @@
 
 //! The language, the script and the region of a tag.
 
-use crate::erased::cldr::TagFields;
+use crate::erased::cldr::{or_other, TagFields};
+use crate::erased::language::Language;
 use crate::erased::tag::{region_field, script_field, NormalLangTag};
 
 /// A language with its extended subtags, a script and a region. The script and the region are empty
@@ -15,13 +16,13 @@ pub(crate) struct Base<'a> {
 }
 
 impl<'a> Base<'a> {
-    /// Returns the language, the script and the region of a tag.
-    #[inline]
-    pub(crate) fn of(tag: NormalLangTag<'a>) -> Base<'a> {
+    /// Returns the language, the script and the region of a tag, which may have a region with
+    /// Android's mark.
+    pub(crate) fn of(tag: NormalLangTag<'a>, marked: &'a [u8]) -> Base<'a> {
         Base {
-            language: tag.language().as_bytes(),
+            language: language_before(tag.language(), marked),
             script: script_field(tag.script()),
-            region: region_field(tag.region()),
+            region: or_other(region_field(tag.region()), marked),
         }
     }
 
@@ -87,5 +88,16 @@ impl<'a> Base<'a> {
             script,
             region: self.region,
         }
+    }
+}
+
+/// Returns a language with its extended subtags, or without them if they are a region with
+/// Android's mark.
+#[inline]
+fn language_before<'a>(language: Language<'a>, marked: &[u8]) -> &'a [u8] {
+    if marked.is_empty() {
+        language.as_bytes()
+    } else {
+        language.primary().as_bytes()
     }
 }

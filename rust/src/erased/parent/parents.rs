@@ -5,6 +5,7 @@
 //! records. `zh-Hans-CN` leads to `zh-Hans` before `zh`, as in CLDR's own chains; ICU4X's data have
 //! no `zh-Hans`.
 
+use crate::erased::likely::marked_region;
 use crate::erased::parent::base::Base;
 use crate::erased::parent::parent_base::parent_of;
 use crate::erased::parent::parent_tag::ParentTag;
@@ -12,7 +13,8 @@ use crate::erased::parent::scripts::{has_likely_script, named, short};
 use crate::erased::scan::segment_start;
 use crate::erased::tag::{LangTag, NormalLangTag};
 
-/// An iterator over a tag and its parents, the nearest first.
+/// An iterator over a tag and its parents, the nearest first. `es-rUS`, as Android writes `es-US`,
+/// is followed by `es-US` and its parents.
 ///
 /// ```
 /// # fn main() -> Result<(), Box<dyn std::error::Error>> {
@@ -25,6 +27,8 @@ use crate::erased::tag::{LangTag, NormalLangTag};
 /// ```
 #[derive(Clone, Debug)]
 pub struct Parents<'a> {
+    // A tag that comes before all others, or the empty string.
+    written: &'a [u8],
     // A tag that comes before those of `base`.
     pending: Option<ParentTag<'a>>,
     base: Option<Base<'a>>,
@@ -43,7 +47,8 @@ impl<'a> Parents<'a> {
         match tag.as_normal() {
             Some(tag) => Parents::of_normal(tag),
             None => Parents {
-                pending: Some(ParentTag::whole(tag.as_str().as_bytes())),
+                written: tag.as_str().as_bytes(),
+                pending: None,
                 base: None,
                 tag: Base {
                     language: b"und",
@@ -58,9 +63,11 @@ impl<'a> Parents<'a> {
 
     /// Returns an iterator that starts at a normal tag.
     fn of_normal(tag: NormalLangTag<'a>) -> Self {
-        let base = Base::of(tag);
+        let marked = marked_region(tag);
+        let base = Base::of(tag, marked);
         let rest = after_region(tag);
         Parents {
+            written: as_written(tag, marked),
             pending: given_form(base, rest),
             base: Some(short(base)),
             tag: base,
@@ -74,6 +81,11 @@ impl<'a> Iterator for Parents<'a> {
     type Item = ParentTag<'a>;
 
     fn next(&mut self) -> Option<ParentTag<'a>> {
+        if !self.written.is_empty() {
+            let written = self.written;
+            self.written = b"";
+            return Some(ParentTag::whole(written));
+        }
         if let Some(pending) = self.pending {
             self.pending = None;
             return Some(pending);
@@ -84,6 +96,17 @@ impl<'a> Iterator for Parents<'a> {
         let base = named(base, self.tag);
         self.pending = short_form(base, rest);
         Some(ParentTag::new(base, rest))
+    }
+}
+
+/// Returns the tag as it is written if Android's mark stands before its region, and otherwise the
+/// empty string.
+#[inline]
+fn as_written<'a>(tag: NormalLangTag<'a>, marked: &[u8]) -> &'a [u8] {
+    if marked.is_empty() {
+        b""
+    } else {
+        tag.as_str().as_bytes()
     }
 }
 

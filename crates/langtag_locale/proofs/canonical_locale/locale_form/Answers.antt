@@ -1,13 +1,18 @@
 use Rattle.std.proofs.lemmas.Bool.Decides.{nat_tests}
 use Rattle.std.proofs.Common.{None, Some, refl, ◌∙◌, arith}
 use Rattle.langtag.specs.Text.{lang_tag_buf_text, lang_tag_text}
+use Rattle.langtag_likely.specs.Marked.{as_read}
+use Rattle.langtag_likely.proofs.MarkLaws.{read_fits}
 use Rattle.langtag_locale.proofs.IdentifierForms.{form_is}
 use Rattle.langtag_locale.proofs.LocaleRecords.{locale_tag}
 use Rattle.langtag_locale.proofs.WholeLaws.{whole-alike, whole-own}
 use Rattle.langtag_locale.proofs.canonical_locale.locale_form.Goals as goal
 
 pub tag_of-requires : goal.tag_of-requires
-tag_of-requires c = grind (arith, nat_tests, c.in-Some.ensures.is_locale, c.in_ok-form_bytes.ensures, locale_tag)
+tag_of-requires c =
+    let (r, spells, locale) = c.in-Some.ensures.is_locale in
+    let tag = locale_tag (as_read r) (read_fits r spells.0) locale in
+    grind (arith, nat_tests, c.in_ok-form_bytes.ensures r spells, tag)
 
 pub returns : goal.returns
 returns c =

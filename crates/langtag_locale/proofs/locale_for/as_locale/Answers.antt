@@ -10,4 +10,4 @@ returns-in_err-normal-clause-none c = λ is locale. let found = c.in_err-normal.
 pub returns-clause-some : goal.returns-clause-some
 unfolding IsNormal
 returns-clause-some c =
-    grind (arith, nat_tests, c.in_ok-normal.ensures.kind.0, c.in_ok-normal.ensures.same_text, c.is_locale_record.ensures, c.if-not-is_locale_record.false)
+    grind (arith, nat_tests, c.in_ok-normal.ensures.kind.0, c.in_ok-normal.ensures.same_text, c.is_read_record.ensures, c.if-not-is_read_record.false)

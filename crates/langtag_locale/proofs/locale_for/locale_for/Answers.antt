@@ -4,7 +4,7 @@ use Rattle.langtag_keyword.proofs.Common.{Some, None, refl, sym, subst, ◌∙�
 use Rattle.std.proofs.lemmas.Option.{IfSome_then}
 use Rattle.langtag.specs.Text.{lang_tag_text}
 use Rattle.langtag_scan.specs.Tag.{IsNormal}
-use Rattle.langtag_locale.specs.Locale.{IsLocale}
+use Rattle.langtag_locale.specs.Locale.{IsReadLocale}
 use Rattle.langtag_locale.specs.LocaleForm.{IsLocaleForm}
 use Rattle.langtag_locale.proofs.WholeLaws.{none_form, own_form, rest_form, stays_none, value_form}
 use Rattle.langtag_locale.proofs.locale_for.locale_for.Goals as goal
@@ -13,7 +13,8 @@ pub returns-in-Some-clause-form : goal.returns-in-Some-clause-form
 returns-in-Some-clause-form c = λ form of. own_form _ (Some form) c.in-Some.ensures.some.1 (subst (λ t. IsLocaleForm t (Some form)) c.in-Some.ensures.some.0 of)
 
 pub returns-in-Some-preferred_tag-clause-is_locale : goal.returns-in-Some-preferred_tag-clause-is_locale
-returns-in-Some-preferred_tag-clause-is_locale c = grind (arith, nat_tests)
+returns-in-Some-preferred_tag-clause-is_locale c =
+    IfSome_then c.as_locale-in-Some-preferred_tag.result c.as_locale-in-Some-preferred_tag.ensures.some (λ locale is. subst IsReadLocale (sym is.0) is.1)
 
 pub returns-in-Some-preferred_tag-clause-form : goal.returns-in-Some-preferred_tag-clause-form
 returns-in-Some-preferred_tag-clause-form c = grind (arith, nat_tests, value_form, c.in_default.ensures.none, c.in-Some-preferred_tag.ensures)
@@ -36,7 +37,7 @@ returns-in_err-from_extlang-clause-none c = λ is.
     (λ r spells. c.in_err-from_extlang.ensures.none refl r (spells.0, spells.1 ∙ sym c.in_ok-as_normal.ensures.same_text))
 
 pub returns-clause-is_locale : goal.returns-clause-is_locale
-returns-clause-is_locale c = IfSome_then c.as_locale-2.result c.as_locale-2.ensures.some (λ locale is. subst IsLocale (sym is.0) is.1)
+returns-clause-is_locale c = IfSome_then c.as_locale-2.result c.as_locale-2.ensures.some (λ locale is. subst IsReadLocale (sym is.0) is.1)
 
 pub returns-clause-form : goal.returns-clause-form
 returns-clause-form c =

@@ -8,4 +8,4 @@ pub returns-then-has_key : goal.returns-then-has_key
 returns-then-has_key c = grind (arith, nat_tests, resolved-some (wish_texts c.args.wish) (subtags c.args.text.now) (sym c.has_key.ensures ∙ c.if-has_key.true))
 
 pub returns : goal.returns
-returns c = grind (arith, nat_tests, resolved-none (wish_texts c.args.wish) (subtags c.args.text.now) (sym c.has_key.ensures ∙ c.if-has_key.false), c.has_staying.ensures)
+returns c = grind (arith, nat_tests, resolved-none (wish_texts c.args.wish) (subtags c.args.text.now) (sym c.has_key.ensures ∙ c.if-has_key.false), c.has_remaining.ensures)

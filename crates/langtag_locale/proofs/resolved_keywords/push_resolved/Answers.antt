@@ -5,7 +5,7 @@ use Rattle.langtag_keyword.proofs.KeySetLaws.{are-keys}
 use Rattle.langtag_keyword.proofs.LeastLaws.{above, above-all}
 use Rattle.langtag_keyword.proofs.LeastTexts.{keys-fit, numbers, rise-in_order, rounds-first, rounds-kept, rounds-next, rounds-smaller}
 use Rattle.langtag_locale.proofs.ResolvedLaws.{above-greatest, flat-nothing, kept-split, keys_named, nothing}
-use Rattle.langtag_locale.specs.Resolved.{staying, with_keywords}
+use Rattle.langtag_locale.specs.Resolved.{remaining_subtags, with_keywords}
 use Rattle.langtag_locale.specs.WishTexts.{wish_texts}
 use Rattle.langtag_locale.proofs.resolved_keywords.push_resolved.Goals as goal
 
@@ -19,9 +19,9 @@ loop-more-init c =
       rounds = rounds-first nothing keys _ _ fits c.new-least.ensures.empty c.new-least.ensures.last;
       so_far = λ end those.
           pushes_same _ _ _ end
-          (ap (λ n. with_keywords (keyword_form is_key unicode_value w.unicode) (map key_of (above n ns)) (staying w false (segments_left c.nonempty-rest.result))) c.new-least.ensures.last
-          ∙ ap (λ ks. with_keywords (keyword_form is_key unicode_value w.unicode) (map key_of ks) (staying w false (segments_left c.nonempty-rest.result))) (above-all 0 0 ns (omega arith) (rise-in_order keys fits))
-          ∙ ap (λ ss. with_keywords (keyword_form is_key unicode_value w.unicode) (map key_of ns) (staying w false ss)) c.nonempty-rest.ensures.segments)
+          (ap (λ n. with_keywords (keyword_form is_key unicode_value w.unicode) (map key_of (above n ns)) (remaining_subtags w false (segments_left c.nonempty-rest.result))) c.new-least.ensures.last
+          ∙ ap (λ ks. with_keywords (keyword_form is_key unicode_value w.unicode) (map key_of ks) (remaining_subtags w false (segments_left c.nonempty-rest.result))) (above-all 0 0 ns (omega arith) (rise-in_order keys fits))
+          ∙ ap (λ ss. with_keywords (keyword_form is_key unicode_value w.unicode) (map key_of ns) (remaining_subtags w false ss)) c.nonempty-rest.ensures.segments)
           those;
     }
 
@@ -44,7 +44,7 @@ loop-more-preserved c =
       so_far = λ end those.
           c.loop-more.invariant.so_far end
           (pushes_same _ _ _ end
-          (ap (λ ks. with_keywords (keyword_form is_key unicode_value w.unicode) ks (staying w false (segments_left c.loop-more.rest)))
+          (ap (λ ks. with_keywords (keyword_form is_key unicode_value w.unicode) ks (remaining_subtags w false (segments_left c.loop-more.rest)))
           (split ∙ ap (λ n. map key_of (above n ns)) last))
           (c.push_each-rest.ensures (map key_of (above c.advance-more.new.self.last ns)) end those));
     }
@@ -61,6 +61,6 @@ returns c =
     let ns = numbers (in_alphabet keys) in
     let now = c.loop-more.invariant.rounds in
     let none = above-greatest c.loop-more.least.last keys now.fits (ltb-false c.loop-more.least.last 18446744073709551615 (sym now.ended ∙ c.loop-more-test.false)) in
-    pushes_same _ _ _ _ (ap (λ ks. with_keywords (keyword_form is_key unicode_value w.unicode) ks (staying w false (subtags c.args.text.now))) (keys_named keys (are-keys Unicode w.unicode c.requires)))
+    pushes_same _ _ _ _ (ap (λ ks. with_keywords (keyword_form is_key unicode_value w.unicode) ks (remaining_subtags w false (subtags c.args.text.now))) (keys_named keys (are-keys Unicode w.unicode c.requires)))
     (c.loop-more.invariant.so_far _
-    (pushes_same _ _ _ _ (sym (ap (λ ks. with_keywords (keyword_form is_key unicode_value w.unicode) (map key_of ks) (staying w false (segments_left c.loop-more.rest))) none)) c.push_staying.ensures))
+    (pushes_same _ _ _ _ (sym (ap (λ ks. with_keywords (keyword_form is_key unicode_value w.unicode) (map key_of ks) (remaining_subtags w false (segments_left c.loop-more.rest))) none)) c.push_remaining.ensures))

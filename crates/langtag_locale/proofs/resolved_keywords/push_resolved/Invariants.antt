@@ -2,7 +2,7 @@ use Rattle.langtag_keyword.proofs.Common.{◌-◌, ℕ, List, false, filter, map
 use Rattle.langtag_keyword.proofs.LeastLaws.{above}
 use Rattle.langtag_keyword.proofs.LeastTexts.{Rounds, numbers}
 use Rattle.langtag_locale.proofs.ResolvedLaws.{nothing}
-use Rattle.langtag_locale.specs.Resolved.{staying, with_keywords}
+use Rattle.langtag_locale.specs.Resolved.{remaining_subtags, with_keywords}
 use Rattle.langtag_locale.specs.WishTexts.{wish_texts}
 use Rattle.langtag_locale.proofs.resolved_keywords.push_resolved.Given as goal
 
@@ -15,8 +15,8 @@ invariant-loop-more l =
     record {
       rounds : Rounds nothing keys l.least l.more l.fn.out l.fn.out;
       so_far : (end : Output) →
-          Pushes (put (above l.least.last (numbers (in_alphabet keys))) (staying w false (segments_left l.rest))) l.out end →
-          Pushes (put (numbers (in_alphabet keys)) (staying w false (subtags l.text))) l.fn.out end;
+          Pushes (put (above l.least.last (numbers (in_alphabet keys))) (remaining_subtags w false (segments_left l.rest))) l.out end →
+          Pushes (put (numbers (in_alphabet keys)) (remaining_subtags w false (subtags l.text))) l.fn.out end;
     }
 
 abbrev pub decreases-loop-more : goal.decreases-loop-more
