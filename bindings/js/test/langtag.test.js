@@ -57,7 +57,8 @@ test("texts that are refused, of any units", () => {
 
 test("lists of tags and of ranges", () => {
     assert.deepEqual([bestForHeader("fr", [], "en"), bestForHeader("no", [LanguageTag.parse("nb")])?.text], ["en", "nb"]);
-    assert.deepEqual([-1, 0, 1.9, NaN, 2 ** 32, null].map((most) => langtag.suitableForHeader("de,fr", ["fr", "de"], most).length), [0, 0, 1, 0, 2, 2]);
+    const many = Array(150).fill("de"), suitable = (most) => [langtag.suitableForHeader("de", many, most).length, langtag.suitableForRanges(["de"], many, most).length];
+    assert.deepEqual([-1, 0, 1.9, NaN, 2 ** 32, null].map(suitable), [0, 0, 1, 0, 150, 150].map((count) => [count, count]));
     assert.equal(bestForRanges(new Set([LanguageRange.parse("*-DE"), LanguageRange.parse("de-*-DE")]), ["en", "de"]), "de");
     assert.throws(() => unknownModifier(null), TypeError);
 });
