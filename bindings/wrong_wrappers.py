@@ -155,7 +155,7 @@ index.js unicode.txt: if (key !== ""` && !found.has(key)``)
 index.js keywords.txt: tag = tag.#withKeyword(key, value `??`||` undefined)
 index.js locale.txt: `form === "" ? undefined : ``new
 index.js parents.txt: calls.nthParent(this.text, found.length`` + 1`)
-index.js names.txt: `read.localeForm() ?? LanguageTag.fromPosix(read.text)?.localeForm() ?? ``read.canonical()
+index.js names.txt: LONGEST_NAMED ? undefined : `read.localeForm()`undefined`) ?? read.canonical()
 index.js posix.txt: return found && text.slice(found[`0], found[0] + found[``1]);
 index.js keywords that are set and removed: `Array.isArray(pair) && ``[pair[0]
 index.js negotiation.txt: AcceptLanguageError, text, `index, offset`offset, index`,
@@ -195,7 +195,7 @@ sqlite_langtag.c test_statements: `memcmp(rows->header, header.at, header.len) =
 sqlite_langtag.c test_statements: return `langtag_kind(tag, len) != LANGTAG_NONE`true`; ;; `strlen(named[k].name) == name.len &&``
 sqlite_langtag.c test_statements: | SQLITE_DETERMINISTIC` | SQLITE_INNOCUOUS`` ;; both, 2) `!= 1`== 0`) return;
 sqlite_langtag.c lengths.txt: (len <= `sizeof room`2000`) {
-sqlite_langtag.c test_lengths: `!called(context)->is_quadratic || tag.len <= LANGTAG_NAME_LONGEST`true`
+sqlite_langtag.c test_lengths: return `called(context)->is_quadratic`false` && exceeds(context
 sqlite_langtag.c test_check: `!is_too_long(context, tag`langtag_kind(tag.at, tag.len`)) sqlite3
 sqlite_langtag.c keywords.txt: if (!value.`at`len`) return langtag_without_keyword
 sqlite_langtag.c keywords.txt: .key = `key, .value = value`value, .value = key`};

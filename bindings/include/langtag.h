@@ -8,15 +8,16 @@
  *         printf("%.*s\n", (int)parts.script.len, text + parts.script.start); // Hant
  *
  * For every input, each function ends, returns and writes what its comment says, and touches only the memory of its
- * arguments. This is proved of its source. No function allocates, keeps state between calls, calls back,
+ * arguments. This is proved for the source. No function allocates, keeps state between calls, calls back,
  * prints, exits or sets errno. So the functions may be called from several threads at once, and from signal handlers.
  * Time grows linearly with the length of the strings, except for langtag_repeats, langtag_extensions_form,
  * langtag_is_locale, langtag_locale_form, langtag_resolved_locale, and the calls that take a list of tags. langtag_next_keyword and
- * langtag_next_field read the string from its start in each call. So a walk reads it once for each different key, of
- * which there are at most 1,296.
+ * langtag_next_field read the string from its start in each call. So a walk reads the string once for each different
+ * key, of which there are at most 1,296.
  *
- * langtag_validity, langtag_canonical, langtag_is_canonical, langtag_locale_form and langtag_resolved_locale use the IANA registry. The choice of a tag,
- * distance, direction and likely subtags use its extended languages and the tags that it replaces as a whole.
+ * langtag_validity, langtag_canonical, langtag_is_canonical, langtag_locale_form and langtag_resolved_locale use the IANA
+ * registry. The choice of a tag, distance, direction and likely subtags use only its extended languages, and its list of
+ * replaced tags, such as i-klingon.
  *
  * WHAT THE CALLER MUST ENSURE. Nothing checks these rules at run time.
  *

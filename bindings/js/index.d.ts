@@ -418,8 +418,8 @@ export declare class Site<Tag extends Text = string> {
 }
 /**
  * Returns an English name of a tag, made of CLDR's names for the subtags of its locale form: "Portuguese (Brazil)" for pt-BR. If there is no
- * locale form, or the tag has more than 262,144 bytes, the canonical form is used. If CLDR does not name the language, the name is the tag's
- * own language as IANA's registry describes it: "Himachali languages" for him. A subtag without a name is shown as it is. Extensions and
+ * locale form, or the tag has more than 262,144 bytes, the canonical form is used. If CLDR does not name the language, the name is IANA's
+ * description of the tag's own language: "Himachali languages" for him. A subtag without a name is shown as it is. Extensions and
  * private use are left out, but a tag that is only private use is shown as it is. For names in other languages, use `Intl.DisplayNames`.
  */
 export declare function describe(tag: Text): string;

@@ -697,13 +697,13 @@ function nameIn(kind, key) {
         return undefined;
     return new TextDecoder().decode(Uint8Array.from(kind === OWN ? packed : expanded(packed), (byte) => byte.charCodeAt(0)));
 }
-/** Returns the English name of a language, which has letters in lowercase. */
+/** Returns the English name of a language. The code is in lowercase. */
 function languageName(code) {
     if (code.length > 3)
         return undefined;
     return nameIn(code.length === 2 ? TWO_LETTERS : code.charCodeAt(2) & 31, code);
 }
-/** The greatest length of a tag whose locale form is written for a name, because that takes quadratic time. */
+/** The length of a tag up to which names use its locale form. For longer tags that would take too long, because its time is quadratic. */
 const LONGEST_NAMED = 262144;
 /** Returns the form of a tag whose subtags have the names: de for ger. */
 function named(tag) {
@@ -712,8 +712,8 @@ function named(tag) {
 }
 /**
  * Returns an English name of a tag, made of CLDR's names for the subtags of its locale form: "Portuguese (Brazil)" for pt-BR. If there is no
- * locale form, or the tag has more than 262,144 bytes, the canonical form is used. If CLDR does not name the language, the name is the tag's
- * own language as IANA's registry describes it: "Himachali languages" for him. A subtag without a name is shown as it is. Extensions and
+ * locale form, or the tag has more than 262,144 bytes, the canonical form is used. If CLDR does not name the language, the name is IANA's
+ * description of the tag's own language: "Himachali languages" for him. A subtag without a name is shown as it is. Extensions and
  * private use are left out, but a tag that is only private use is shown as it is. For names in other languages, use `Intl.DisplayNames`.
  */
 export function describe(tag) {

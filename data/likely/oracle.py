@@ -137,8 +137,8 @@ def forms(text):
 @functools.lru_cache(None)
 def matching_form(text):
     """Returns the matching form of a tag, or of a range that begins like a tag, or None. A tag that the registry replaces as a whole
-    has the form of its replacement."""
-    front = FRONT.fullmatch(registry().whole(text) or text)
+    has the form of its replacement, also with extensions and private use."""
+    front = FRONT.fullmatch(registry().whole(re.split("-.(?=-|$)", text)[0]) or text)
     return form_of(front_fields(front)) if front and text.lower() != "und" else None
 
 

@@ -52,7 +52,7 @@ WHOLE = [text for kind in ("grandfathered", "redundant") for name in registry().
 def near_tag(rng):
     """Returns a tag, often a tag that a rule names."""
     if rng.random() < 0.05:
-        return rng.choice(WHOLE)
+        return rng.choice(WHOLE) + rng.choice(["", "", "", "-x-a", "-u-co-pinyin", "-t-en-x-b"])
     if rng.random() < 0.3:
         return random_tag(rng)
     text = rng.choice(NEAR)

@@ -131,7 +131,7 @@ pub fn match_for_ranges<'a>(
 /// Returns the indices of all suitable tags for an `Accept-Language` header, best first.
 ///
 /// They are the tag that [`best_for_header`] chooses, the tag that it chooses among the others, and
-/// so on. A player offers its tracks in this order, and a catalogue looks for a message in it.
+/// so on. This is the order in which a player offers tracks, and a catalogue looks for a message.
 ///
 /// For every 64 indices, each range is compared with each tag, and each tag with each earlier index.
 /// [`write_suitable`] stops after as many indices as you want, and does not allocate.
@@ -229,8 +229,8 @@ pub fn resolved_locale(range: impl AsRef<[u8]>, tag: impl TagEntry) -> Option<La
     Some(or_abort(locale::resolved_locale(range.as_ref(), tag)))
 }
 
-/// Writes the locale that `resolved_locale` returns to a buffer, and returns what was written, or
-/// `None` if `tag` is a string that is not a tag.
+/// Writes to a buffer the locale that `resolved_locale` returns. Returns what was written, or `None`
+/// if `tag` is a string that is not a tag.
 ///
 /// It does not allocate.
 ///

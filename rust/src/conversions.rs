@@ -64,7 +64,7 @@ from! {
 }
 #[cfg(feature = "alloc")]
 from! {
-    /// As from a reference to a reference to a [`LangTag`].
+    /// The same for an owned tag.
     ['a] &&'a LangTagBuf => LangTag<'a>: tag => tag.as_lang_tag()
 }
 from! {
@@ -95,10 +95,10 @@ from!([] Singleton => u8: singleton => singleton.unwrap());
 from!([] Singleton => char: singleton => char::from(singleton.unwrap()));
 
 impl<'a> Extensions<'a> {
-    /// Returns the extension with a singleton, which may be a [`Singleton`], a `char` or a `u8`, or
-    /// `None` if there is none.
+    /// Returns the extension with a singleton, or `None` if there is none.
     ///
-    /// Case is ignored, and the first of repeated singletons counts.
+    /// The singleton may be a [`Singleton`], a `char` or a `u8`. Case is ignored, and the first of
+    /// repeated singletons counts.
     ///
     /// ```
     /// use langtag::LangTag;
@@ -114,8 +114,9 @@ impl<'a> Extensions<'a> {
         self.get_singleton(singleton.try_into().ok()?)
     }
 
-    /// Returns an iterator over the subtags of the extension with a singleton, which may be a
-    /// [`Singleton`], a `char` or a `u8`. Its singleton is left out.
+    /// Returns an iterator over the subtags of the extension with a singleton, after the singleton.
+    ///
+    /// The singleton may be a [`Singleton`], a `char` or a `u8`.
     ///
     /// ```
     /// use langtag::LangTag;

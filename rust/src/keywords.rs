@@ -99,9 +99,9 @@ impl LangTagBuf {
 
     /// Removes a key of the extension `u`: without `ca`, `th-TH-u-ca-buddhist` becomes `th-TH`.
     ///
-    /// The key and its repetitions are removed from the first `u`, and so is this `u` if nothing else
-    /// is in it. An invalid tag may have a second extension `u`. It then becomes the first, and may
-    /// contain the key, too.
+    /// The key and its repetitions are removed from the first `u`. If the `u` is then empty, it is
+    /// removed, too. An invalid tag may have a second extension `u`, which then becomes the first, and
+    /// may contain the key.
     ///
     /// # Errors
     ///

@@ -57,8 +57,8 @@ lent! {
         /// Returns an iterator over the extensions, including extensions with a repeated singleton:
         /// `a-bb` and `A-cc` for `a-bb-A-cc`.
         iter() -> ExtensionsIter<'_>;
-        /// Returns the extension with a singleton, which may be a `Singleton`, a `char` or a `u8`,
-        /// or `None` if there is none.
+        /// Returns the extension with a singleton, or `None` if there is none. The singleton may be a
+        /// `Singleton`, a `char` or a `u8`.
         get(singleton: impl TryInto<Singleton>) -> Option<Extension<'_>>;
     }
     PrivateUseBuf: PrivateUse by as_private_use {

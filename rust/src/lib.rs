@@ -88,10 +88,10 @@
 //!
 //! # What is proved
 //!
-//! The modules that compute are the source of a library in Rattle, which is Rust with contracts,
-//! with the contracts taken out. Each function of that source is proved to do what its contract
-//! says. The crate itself is not proved: you also trust rustc, `core`, and the differences that
-//! `kinds.txt` lists. README says what else you trust.
+//! Rattle is Rust with contracts. The modules that compute are the source of a library in Rattle,
+//! without its contracts. Each function of that source is proved to do what its contract says. The
+//! crate itself is not proved: you also trust rustc, `core`, and the differences that `kinds.txt`
+//! lists. README says what else you trust.
 #![no_std]
 #![forbid(unsafe_code)]
 #![warn(missing_docs, missing_debug_implementations)]

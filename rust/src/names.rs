@@ -25,9 +25,9 @@ use crate::{LangTag, LangTagBuf, NormalLangTag, Script};
 /// [`LangTag::locale_form`].
 ///
 /// If there is no locale form, or the tag has more than 262,144 bytes, the canonical form is used. If
-/// CLDR does not name the language, the name is the tag's own language as IANA's registry describes
-/// it. A subtag without a name is shown as it is. Extensions and private use are left out, but a tag
-/// that is only private use is shown as it is.
+/// CLDR does not name the language, the name is IANA's description of the tag's own language. A
+/// subtag without a name is shown as it is. Extensions and private use are left out, but a tag that
+/// is only private use is shown as it is.
 ///
 /// ```
 /// use langtag::names::describe;
@@ -70,8 +70,8 @@ pub fn describe<'a>(tag: impl Into<LangTag<'a>>) -> String {
     String::from_utf8(name).unwrap_or_default()
 }
 
-/// The greatest length of a tag whose locale form is written for a name, because that takes
-/// quadratic time.
+/// The length of a tag up to which names use its locale form. For longer tags that would take too
+/// long, because its time is quadratic.
 const LONGEST: usize = 262_144;
 
 /// Returns the form of a tag whose subtags have the names: `de` for `ger`, and `es-US` for `es-rUS`, as

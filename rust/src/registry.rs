@@ -70,8 +70,7 @@ macro_rules! records {
     ($($(#[$text:meta])+ $name:ident($part:ident: $type:ident) -> $result:ty;)+) => {$(
         $(#[$text])+
         ///
-        /// The argument is a part, an owned part or its string. A string that is no such part has no
-        /// record.
+        /// The argument is a part, an owned part or its string. A malformed string has no record.
         #[must_use]
         pub fn $name<'a>($part: impl TryInto<$type<'a>>) -> $result {
             $part.try_into().map_or_else(|_| Default::default(), registry::$name)

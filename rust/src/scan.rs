@@ -1,5 +1,5 @@
 //! The recogniser of tags (RFC 5646 section 2.1) over bytes from any source, and what it finds.
-//! Most programs need only [`LangTag::new`](crate::LangTag::new), which calls it.
+//! Most programs need only [`LangTag::new`](crate::LangTag::new), which calls the recogniser.
 //!
 //! ```
 //! use langtag::scan::{recognise, ByteSource, Metered};

@@ -36,7 +36,8 @@ use alloc::vec::Vec;
 /// assert_eq!(SITE.best_for_header("gsw"), Some(&"de"));
 /// ```
 ///
-/// It owns its tags, so a server that reads them when it starts keeps it in its state:
+/// A `Site` owns its tags. So a server that reads its tags when it starts can keep the `Site` in its
+/// state:
 ///
 /// ```
 /// use langtag::choice::Site;

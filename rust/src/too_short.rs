@@ -2,8 +2,8 @@
 use core::fmt;
 
 /// The error of a call that writes to a buffer, if the buffer is too short. It contains the length
-/// that the result needs. The buffer is unchanged, except that `unicode::write_extensions_form`,
-/// `unicode::write_locale_form` and `choice::write_resolved_locale` leave its bytes unspecified.
+/// that the result needs. The buffer is unchanged, but after `unicode::write_extensions_form`,
+/// `unicode::write_locale_form` and `choice::write_resolved_locale` its bytes are unspecified.
 ///
 #[cfg_attr(feature = "data", doc = "```")]
 #[cfg_attr(not(feature = "data"), doc = "```ignore")]

@@ -1,19 +1,20 @@
 -- Ranges as they are read, and tags that are far from a range, as their first letters and the numbers of languages show.
-use Rattle.langtag_scan.proofs.Prelude.{◌≡◌, ◌⊎◌, inl, inr, ℕ, true, not, ◌==◌, List, [], ◌∷◌, length, length-drop, length-take, take, drop, filter, refl, sym, ap, ◌∙◌, arith, ◌&&◌, ◌||◌, codes, Bool, false, ◌<◌, ◌≤◌, ◌+◌, ◌-◌, ◌*◌, cond, get_or, Option, Some, None, option_map, nat_tests, eqb_tells, eqb-true, cases_lt, ◌++◌, common_steps, and_parts, both_ways, false_from_ne_true, or_cases, or_parts, not-true, ForSome, list_all, after_first, before_first, position_or_len, subst, unwrap_or}
+use Rattle.langtag_scan.proofs.Prelude.{◌≡◌, ◌⊎◌, inl, inr, ℕ, true, not, ◌==◌, List, [], ◌∷◌, length, length-drop, length-take, take, drop, filter, refl, sym, ap, ◌∙◌, arith, ◌&&◌, ◌||◌, codes, Bool, false, ◌<◌, ◌≤◌, ◌+◌, ◌-◌, ◌*◌, cond, get_or, Option, Some, None, option_map, nat_tests, eqb_tells, eqb-true, cases_lt, ◌++◌, common_steps, and_parts, both_ways, false_from_ne_true, or_parts, not-true, ForSome, list_all, after_first, before_first, subst, unwrap_or}
 use Rattle.langtag_scan.specs.Grammar.{are_alike, fold_byte, are_alike-decides, subtags, are_letters, is_letter, is_primary}
 use Rattle.std.proofs.Common.{lit≤}
 use Rattle.langtag_range.proofs.AlikeTexts.{is_star-fold}
 use Rattle.langtag_range.proofs.BasicForms.{basic_form-basic, basic_of, is_plain, IsBasicOf, is_language_range-from_basic, hyphened_range}
 use Rattle.langtag_range.proofs.Among.{length-alike}
 use Rattle.langtag_range.specs.Definitions.{ends_subtag, ends_in_single, basic_text, basic_form, are_extended_range, is_basic_range, is_language_range, is_star, hyphened, is_separator}
+use Rattle.langtag_cldr.proofs.BaseTexts.{ends_read}
 use Rattle.langtag_cldr.proofs.WholeTags.{cut, not_by_follow, not_by_three}
 use Rattle.langtag_fields.specs.Fields.{preferred_tag}
-use Rattle.langtag_cldr.proofs.CommonTexts.{rest_of, unmarked, none_extends, nothing_read, read_byte, read_nothing, some_length, all_fields, next_part, no_fields}
-use Rattle.langtag_cldr.specs.Definitions.{KeepsLanguage, current_text, matching_form, language_replaced, matching_fields, after_common, BeginsPlain, counted, fields_of_subtags, text_fields, language_of, counted_parts, language_aliases, Likely, known, language_alone, likely_for}
+use Rattle.langtag_cldr.proofs.CommonTexts.{rest_of, unmarked, none_extends, nothing_read, some_length, all_fields, next_part, no_fields}
+use Rattle.langtag_cldr.specs.Definitions.{KeepsLanguage, base_text, current_text, matching_form, language_replaced, matching_fields, after_common, BeginsPlain, counted, fields_of_subtags, text_fields, language_of, counted_parts, language_aliases, Likely, language_alone, likely_for}
 use Rattle.langtag_choice.specs.Nearness.{is_fallback, kept}
 use Rattle.langtag_cldr.proofs.AddedTwice.{either_way}
 use Rattle.langtag_text.specs.Numbers.{letter_number}
-use Rattle.langtag_text.proofs.Letters.{letter_number-tells, number_of_two, primary_length, primary_letters}
+use Rattle.langtag_text.proofs.Letters.{letter_number-tells}
 use Rattle.langtag_text.specs.Fields.{Fields}
 use Rattle.langtag_cldr.proofs.AlikeFields.{completed_language}
 use Rattle.langtag_text.proofs.Alike.{alike_length}
@@ -85,10 +86,6 @@ range_left (a ∷ range) tag = grind (arith, nat_tests, common_steps, some_lengt
 range_dropped : (range tag : List ℕ) → (length (after_common range tag).0 == 0) ≡ true → drop (length range) tag ≡ (after_common range tag).1
 range_dropped [] tag none = refl
 range_dropped (a ∷ range) tag none = grind (arith, common_steps, range_dropped range, some_length a range)
-
-ends_read : (left : List ℕ) → BeginsPlain left → ends_subtag (basic_text left) ≡ ends_subtag (hyphened left)
-ends_read [] plain = ap ends_subtag read_nothing
-ends_read (a ∷ left) plain = ap ends_subtag (read_byte a left plain)
 
 pub range_starts : (range tag left rest : List ℕ) → (left, rest) ≡ after_common (basic_text range) tag → (length rest == 0) ≡ are_alike (take (length tag) (basic_text range)) tag
 range_starts range tag left rest is = ap (λ p. length p.1 == 0) is ∙ sym (tag_left (basic_text range) tag)
@@ -268,10 +265,10 @@ module _ (text rest : List ℕ) (number : ℕ) (begins : IsFirst text number res
   text_language f is = grind (arith, either_way, all_fields, language_first, no_fields)
 
   -- the text is not replaced as a whole
-  not_whole : preferred_tag (basic_text text) ≡ None
+  not_whole : preferred_tag (base_text (basic_text text)) ≡ None
   not_whole = by_length (cases_lt 2 (length first))
     where
-      by_length : (2 < length first) ⊎ (length first ≤ 2) → preferred_tag (basic_text text) ≡ None
+      by_length : (2 < length first) ⊎ (length first ≤ 2) → preferred_tag (base_text (basic_text text)) ≡ None
       by_length (inl more) =
           let letters = begins.first.letters in
           not_by_three text (omega (arith, more, begins.few)) (apart_from first (codes "sgn") letters first_absent sgn_set) (apart_from first (codes "art") letters first_absent art_set)

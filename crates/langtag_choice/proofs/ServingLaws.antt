@@ -1,14 +1,12 @@
 -- Which tags are suitable, and how many.
-use Rattle.langtag_scan.proofs.Prelude.{◌≡◌, ◌==◌, ◌&&◌, ◌+◌, ◌-◌, ◌<◌, ◌≤◌, ◌⊎◌, ℕ, List, [], ◌∷◌, Option, None, Some, Bool, true, false, is_some, slice_get, get_or, length, take, cond, count_by, count_by-le-length, refl, arith, inl, inr, sym, ap, ◌∙◌, nat_tests, common_steps, get_or_from_slice_get, slice_get_within, slice_get-get_or, list_any, list_any_at, option_map_or, not, eqb-true, and_parts, Any-from_list_any, false_from_ne_true, take-length, zero, suc}
+use Rattle.langtag_scan.proofs.Prelude.{◌≡◌, ◌==◌, ◌&&◌, ◌+◌, ◌-◌, ◌<◌, ◌≤◌, ◌⊎◌, ℕ, List, [], ◌∷◌, Option, None, Some, Bool, true, false, is_some, slice_get, get_or, length, take, cond, count_by-le-length, refl, arith, inl, inr, sym, ap, ◌∙◌, nat_tests, get_or_from_slice_get, slice_get_within, slice_get-get_or, list_any, list_any_at, option_map_or, not, eqb-true, and_parts, Any-from_list_any, false_from_ne_true, take-length, zero, suc}
 use Rattle.std.proofs.lemmas.List.Sums.{count_by_more_no, count_by_more_yes, sum_by-set}
-use Rattle.std.proofs.lemmas.Option.{unwrap_or-slice_get}
 use Rattle.langtag_range.specs.Element.{Element}
 use Rattle.langtag_choice.specs.Best.{IsChoice, Pair, is_refused}
-use Rattle.langtag_choice.specs.Found.{IsAt, TriesOf, TriesRange}
-use Rattle.langtag_choice.specs.Candidates.{IsNotAfter}
+use Rattle.langtag_choice.specs.Found.{IsAt, TriesRange}
 use Rattle.langtag_choice.specs.Near.{wish_element}
 use Rattle.langtag_choice.specs.Remaining.{without_all}
-use Rattle.langtag_choice.specs.Serves.{serves, rank}
+use Rattle.langtag_choice.specs.Serves.{serves}
 use Rattle.langtag_choice.specs.Suitable.{AreSuitable, is_suitable, suitable_count, without}
 use Rattle.langtag_choice.specs.declared.candidate.Candidate.{Candidate}
 use Rattle.langtag_choice.specs.declared.wish.Wish.{Wish}

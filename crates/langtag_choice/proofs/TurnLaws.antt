@@ -1,7 +1,6 @@
 -- The entries of a shortlist are the choices in turn.
-use Rattle.langtag_scan.proofs.Prelude.{◌≡◌, ◌≢◌, ◌<◌, ℕ, true, false, List, Option, Some, None, length, get_or, refl, sym, ap, subst, ◌∙◌, inl, inr, arith, get_or_from_slice_get, get_or_past, cases_lt, nat_list_cmp_total, [], ◌∷◌, ◌++◌, is_none, replicate, common_steps, eqb_tells, get_or-replicate, ◌⊎◌}
+use Rattle.langtag_scan.proofs.Prelude.{◌≡◌, ◌≢◌, ◌<◌, ℕ, true, false, List, Option, Some, None, length, get_or, refl, sym, ap, subst, ◌∙◌, inl, inr, arith, get_or_from_slice_get, get_or_past, cases_lt, [], ◌∷◌, ◌++◌, is_none, replicate, common_steps, eqb_tells, get_or-replicate, ◌⊎◌}
 use Rattle.langtag_range.specs.Definitions.{Element}
-use Rattle.langtag_choice.specs.Serves.{IsAtMost}
 use Rattle.langtag_choice.specs.Candidates.{IsNotAfter, rank_of}
 use Rattle.langtag_choice.specs.Best.{IsChoice, Pair, rank_of_pair}
 use Rattle.langtag_choice.specs.Suitable.{without}

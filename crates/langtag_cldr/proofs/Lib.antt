@@ -1,5 +1,6 @@
 pub mod AddedTwice
 pub mod AlikeFields
+pub mod BaseTexts
 pub mod CanonicalFields
 pub mod CommonTexts
 pub mod FieldClasses

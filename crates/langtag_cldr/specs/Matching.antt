@@ -1,7 +1,7 @@
 -- The matching form of a text: the fields by which two tags are compared (UTS #35, part 1, section 'Language
 -- Matching'). Deprecated subtags are replaced, and then likely subtags are added.
-use Rattle.std.specs.Prelude.{ℕ, ◌==◌, List, [], length, Option, None, codes, if◌then◌else◌, option_map, unwrap_or}
-use Rattle.langtag_scan.specs.Grammar.{option_map_or, are_alike}
+use Rattle.std.specs.Prelude.{ℕ, ◌==◌, ◌&&◌, List, [], ◌∷◌, length, Option, None, codes, if◌then◌else◌, option_map, unwrap_or}
+use Rattle.langtag_scan.specs.Grammar.{option_map_or, are_alike, before_first, is_hyphen, is_single}
 use Rattle.langtag_range.specs.Definitions.{basic_text, hyphened}
 use Rattle.langtag_fields.specs.Fields.{preferred_tag}
 use Rattle.langtag_cldr.specs.Likely.{likely_for, or_other, language_alone, known, add_likely}
@@ -61,15 +61,20 @@ matching_fields f = completed (language_replaced f)
 
 -- ---- the form of a text
 
+-- a text without extensions and private use: the text before the first subtag of one character, unless a text begins with it
+abbrev pub base_text : List ℕ → List ℕ
+base_text [] = []
+base_text (b ∷ text) = if is_hyphen b && is_single (before_first is_hyphen text) then [] else b ∷ base_text text
+
 -- the text whose fields count: the Preferred-Value of a whole tag in the registry (RFC 5646 section 3.1.7), such as `hak`
--- for `zh-hakka`, or else the text with "_" read as "-"
+-- for `zh-hakka` and `zh-hakka-x-a`, or else the text with "_" read as "-"
 abbrev pub current_text : List ℕ → List ℕ
-current_text text = unwrap_or (preferred_tag (basic_text text)) (hyphened text)
+current_text text = unwrap_or (preferred_tag (base_text (basic_text text))) (hyphened text)
 
 -- the matching form of a text. The text `und` has none, nor has a text that does not begin with a language, such as a
--- private use tag or `i-default`. A tag that is replaced as a whole has the form of its replacement. "_" is read as "-",
--- as it is in the ranges of a header, and "*" after the first subtag is ignored. Everything after the fields is ignored,
--- too, such as variants and extensions: `en-GB-oed` has the form of `en-GB`
+-- private use tag or `i-default`. A tag that is replaced as a whole has the form of its replacement, also with extensions
+-- and private use. "_" is read as "-", as it is in the ranges of a header, and "*" after the first subtag is ignored.
+-- Everything after the fields is ignored, too, such as variants and extensions: `en-GB-oed` has the form of `en-GB`
 unfoldable pub matching_form : List ℕ → Option Fields
 matching_form text = if are_alike (basic_text text) (codes "und") then None else option_map matching_fields (text_fields (current_text text))
 

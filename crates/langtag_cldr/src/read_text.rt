@@ -48,7 +48,7 @@ pub fn basic_len(range: &[u8]) -> usize
 
 /// Returns a range without each `-*` at its start.
 #[tactic(auto, using(crate::proofs::CommonTexts::star_off))]
-fn without_stars(range: &[u8]) -> &[u8]
+pub(crate) fn without_stars(range: &[u8]) -> &[u8]
     ensures same { basic_text result.now ≡ basic_text range.now }
     ensures within { length result.now ≤ length range.now }
     ensures plain { spec.BeginsPlain result.now }

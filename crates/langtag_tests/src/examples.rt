@@ -1,16 +1,7 @@
 //! Tests that call the worked examples, and show properties that no contract states.
-use crate::support::{are_answered, cut};
-use langtag::{GrandfatheredLangTag, LangTag};
+use crate::support::{are_answered, cut, tag};
 use langtag_examples::{Catalogue, tag_for_request};
 use std::alloc::{AllocError, Global};
-
-/// Returns a string as a tag, or `i-default` if it is not a tag.
-fn tag(text: &str) -> LangTag<'_> {
-    match LangTag::new(text) {
-        Ok(tag) => tag,
-        Err(_) => GrandfatheredLangTag::IDefault.as_lang_tag(),
-    }
-}
 
 /// Inserts a string for the first tag, and one for each of 20 other tags. Returns what the second tag finds. The piece
 /// after `+` is repeated 100 times, and added to both tags.

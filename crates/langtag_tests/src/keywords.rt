@@ -1,6 +1,5 @@
 //! Setting and removing keywords of an owned tag, and the canonical forms of its extensions and of the whole tag.
-use crate::support::{are_answered, cut};
-use langtag::LangTag;
+use crate::support::{are_answered, cut, tag};
 use langtag_locale::locale_form;
 use langtag_unicode::{SetKeywordError, extensions_form, remove_keyword, set_keyword};
 use std::alloc::{AllocError, Global};
@@ -10,10 +9,7 @@ use std::alloc::{AllocError, Global};
 fn edited(alloc: Global, question: &str) -> Result<String, AllocError> {
     let (text, keyword) = cut(question);
     let (key, value) = cut(keyword);
-    let Ok(tag) = LangTag::new(text) else {
-        return String::from_str(alloc, "not a tag");
-    };
-    let mut owned = tag.try_to_owned(alloc)?;
+    let mut owned = tag(text).try_to_owned(alloc)?;
     let result = match value {
         "none" => remove_keyword(&mut owned, alloc, key),
         _ => set_keyword(&mut owned, alloc, key, value),
@@ -30,18 +26,12 @@ fn edited(alloc: Global, question: &str) -> Result<String, AllocError> {
 
 /// Returns the canonical form of the extensions of a tag.
 fn formed(alloc: Global, text: &str) -> Result<String, AllocError> {
-    let Ok(tag) = LangTag::new(text) else {
-        return String::from_str(alloc, "not a tag");
-    };
-    Ok(extensions_form(alloc, tag)?.into_string())
+    Ok(extensions_form(alloc, tag(text))?.into_string())
 }
 
 /// Returns the canonical form of a tag as a Unicode locale identifier, or `-`.
 fn localized(alloc: Global, text: &str) -> Result<String, AllocError> {
-    let Ok(tag) = LangTag::new(text) else {
-        return String::from_str(alloc, "not a tag");
-    };
-    match locale_form(alloc, tag)? {
+    match locale_form(alloc, tag(text))? {
         Some(form) => Ok(form.into_string()),
         None => String::from_str(alloc, "-"),
     }

@@ -1,16 +1,12 @@
 //! The locale to format with.
-use crate::support::{are_answered, cut};
-use langtag::LangTag;
+use crate::support::{are_answered, cut, tag};
 use langtag_locale::resolved_locale;
 use std::alloc::{AllocError, Global};
 
 /// Returns the locale to format with for a question `RANGE|TAG`.
 fn resolved(alloc: Global, question: &str) -> Result<String, AllocError> {
     let (range, text) = cut(question);
-    let Ok(tag) = LangTag::new(text) else {
-        return String::from_str(alloc, "not a tag");
-    };
-    Ok(resolved_locale(alloc, range.as_bytes(), tag)?.into_string())
+    Ok(resolved_locale(alloc, range.as_bytes(), tag(text))?.into_string())
 }
 
 #[test]

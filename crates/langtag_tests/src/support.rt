@@ -1,6 +1,10 @@
 //! How a test compares the answers to questions with the expected answers, and how it fails.
+use langtag::{GrandfatheredLangTag, LangTag};
 use std::alloc::{AllocError, Global};
 use std::process::Abort;
+
+/// What a test compares: a string, unless an allocation failed.
+pub(crate) type Answer = Result<String, AllocError>;
 
 /// Fails the test if a condition does not hold for a case. A number names the case, such as the length of its text.
 ///
@@ -16,7 +20,7 @@ pub(crate) fn are_answered(
     rt: &impl Abort,
     alloc: Global,
     rows: &[(&str, &str)],
-    answer: fn(Global, &str) -> Result<String, AllocError>,
+    answer: fn(Global, &str) -> Answer,
 )
     requires { IsAlwaysCallable answer }
 {
@@ -28,6 +32,14 @@ pub(crate) fn are_answered(
                 .expect(rt, "memory was refused twice"),
         };
         assert!(rt; found.as_str() == *wanted, "of {question}: {found}");
+    }
+}
+
+/// Returns a string as a tag, or `i-default` if it is not a tag.
+pub(crate) fn tag(text: &str) -> LangTag<'_> {
+    match LangTag::new(text) {
+        Ok(tag) => tag,
+        Err(_) => GrandfatheredLangTag::IDefault.as_lang_tag(),
     }
 }
 

@@ -106,9 +106,47 @@ pub fn best_match(header: &[u8], tags: &str) -> String {
     }))
 }
 
+/// Tags of sites, to which laws of the locale to format with apply that are not proved. They have likely subtags.
+const OF_SITES: [&str; 12] = [
+    "en",
+    "en-US-u-rg-gbzzzz",
+    "zh",
+    "zh-Hant-HK",
+    "sr-Latn-ME",
+    "es-419",
+    "uz-u-ca-buddhist-nu-thai",
+    "pa-PK-x-mine",
+    "ca-valencia",
+    "fr-t-en-t0-und-u-hc-h12",
+    "ar-EG",
+    "pt-PT",
+];
+
+/// Checks that the locale to format with is canonical if the tag is, is the result for itself, and is as near as the tag.
+fn check_laws(range: &[u8], tag: LangTag<'_>) {
+    let locale = resolved_locale(range, tag).unwrap();
+    let form = locale.locale_form().unwrap();
+    assert_eq!(form.as_str(), locale.as_str());
+    let again = resolved_locale(&locale, tag).unwrap();
+    assert_eq!(again.as_str(), locale.as_str());
+    assert!(locale.distance(tag) <= 5, "{locale} {tag}");
+    let range = std::str::from_utf8(range)
+        .ok()
+        .and_then(|range| LangTag::new(range).ok());
+    if let Some(range) = range.and_then(|range| range.locale_form()) {
+        assert!(
+            range.distance(&locale) <= range.distance(tag),
+            "{range} {locale} {tag}"
+        );
+    }
+}
+
 /// Returns the locale to format with, which must be the same for each kind of tag, and the result for itself.
 pub fn resolved(range: &[u8], tag: LangTag<'_>) -> String {
     let locale = resolved_locale(range, tag).unwrap();
+    for tag in OF_SITES {
+        check_laws(range, LangTag::new(tag).unwrap());
+    }
     assert_eq!(
         resolved_locale(range, tag.as_str()).unwrap().as_str(),
         locale.as_str()

@@ -42,7 +42,8 @@ pub const FORMLESS_DISTANCE: u8 = 255;
 /// before it ([RFC 5646 section 2.2.2]): `zh-yue` is read as `yue`, and `de-fra` as `de`. The
 /// letter `r` with a region is that region there, as Android writes it: `zh-rTW` is read as
 /// `zh-TW`. A tag that the registry replaces as a whole is read as its Preferred-Value (section
-/// 3.1.7): `i-klingon` as `tlh`, `zh-hakka` as `hak`.
+/// 3.1.7), also with extensions and private use: `i-klingon` as `tlh`, `zh-hakka` and
+/// `zh-hakka-x-a` as `hak`.
 ///
 /// ```
 /// # fn main() -> Result<(), Box<dyn std::error::Error>> {

@@ -42,7 +42,7 @@ pub fn basic_len(range: &[u8]) -> usize {
 
 /// Returns a range without each `-*` at its start.
 #[inline]
-fn without_stars(range: &[u8]) -> &[u8] {
+pub(crate) fn without_stars(range: &[u8]) -> &[u8] {
     let mut left = range;
     while begins_with_star(left) {
         left = &left[2..];

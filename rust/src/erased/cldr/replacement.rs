@@ -1,10 +1,10 @@
 // Generated from crates/langtag_cldr/src/replacement.rt. Do not edit.
 
 //! Tags that the registry replaces as a whole (RFC 5646 section 3.1.7), such as `i-klingon` and
-//! `zh-hakka`. Most strings show by their first bytes that they are none of these. What each choice
-//! runs many times is inlined.
+//! `zh-hakka`, also with extensions and private use. Most strings show by their first bytes that
+//! they are none of these. What each choice runs many times is inlined.
 
-use crate::erased::cldr::read_text::are_alike;
+use crate::erased::cldr::read_text::{after_common, without_stars};
 use crate::erased::fields::{preferred_tags, preferred_text};
 use crate::erased::range::is_separator;
 use crate::erased::scan::{case_insensitive_eq, into_smallcase};
@@ -20,12 +20,12 @@ pub(crate) fn replacement(text: &[u8], first: &[u8], rest: &[u8]) -> Option<&'st
     }
 }
 
-/// Returns the Preferred-Value of the whole tag that equals a range. Tags are searched by halves:
-/// only a range can have `_` or `*`.
+/// Returns the Preferred-Value of the whole tag that equals the base of a range. Tags are searched
+/// by halves: only a range can have `_` or `*`.
 #[inline(never)]
 fn preferred(range: &[u8]) -> Option<&'static [u8]> {
     let value = if is_plain(range) {
-        preferred_text(range)
+        preferred_text(base(range))
     } else {
         preferred_as_read(range)
     };
@@ -38,14 +38,26 @@ fn is_plain(range: &[u8]) -> bool {
     range.iter().all(|byte| *byte != b'*' && *byte != b'_')
 }
 
-/// Returns the Preferred-Value of the whole tag that equals a range, which may have `_` and `*`.
+/// Returns a string without extensions and private use.
+#[inline]
+fn base(text: &[u8]) -> &[u8] {
+    let mut len = 0;
+    while !is_baseless(&text[len..]) {
+        len += 1;
+    }
+    &text[..len]
+}
+
+/// Returns the Preferred-Value of the whole tag that equals the base of a range, which may have `_`
+/// and `*`.
 #[inline]
 fn preferred_as_read(range: &[u8]) -> Option<&'static str> {
     let (_, value) = first_alike(preferred_tags(), range)?;
     Some(value)
 }
 
-/// Returns the first pair whose first string equals a range.
+/// Returns the first pair with whose first string a range begins, if no more than extensions and
+/// private use follow.
 #[inline]
 fn first_alike(
     pairs: &'static [(&'static str, &'static str)],
@@ -54,7 +66,43 @@ fn first_alike(
     pairs
         .iter()
         .copied()
-        .find(|(text, _)| are_alike(range, text.as_bytes()))
+        .find(|(text, _)| begins_with_base(range, text.as_bytes()))
+}
+
+/// Returns whether a range begins with a string, ignoring case, and no more than extensions and
+/// private use follow.
+#[inline]
+fn begins_with_base(range: &[u8], text: &[u8]) -> bool {
+    let (left, rest) = after_common(range, text);
+    rest.is_empty() && is_baseless(left)
+}
+
+/// Returns whether the rest of a range is empty, or begins with a separator and a subtag of one
+/// character.
+#[inline]
+fn is_baseless(range: &[u8]) -> bool {
+    match range {
+        [mark, rest @ ..] => is_separator(*mark) && begins_single(rest),
+        [] => true,
+    }
+}
+
+/// Returns whether a range begins with a subtag of one character.
+#[inline]
+fn begins_single(range: &[u8]) -> bool {
+    match without_stars(range) {
+        [byte, rest @ ..] => !is_separator(*byte) && ends_subtag(rest),
+        [] => false,
+    }
+}
+
+/// Returns whether a range is empty or begins with a separator.
+#[inline]
+fn ends_subtag(range: &[u8]) -> bool {
+    match without_stars(range) {
+        [mark, ..] => is_separator(*mark),
+        [] => true,
+    }
 }
 
 /// Returns `false` only if the first subtag of a string, and the rest, show that the string is not

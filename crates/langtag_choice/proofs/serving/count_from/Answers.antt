@@ -1,4 +1,4 @@
-use Rattle.langtag_scan.proofs.Prelude.{◌≡◌, ◌+◌, ◌<◌, length, arith, nat_tests, subst}
+use Rattle.langtag_scan.proofs.Prelude.{◌+◌, ◌<◌, length, arith, nat_tests}
 use Rattle.langtag_choice.proofs.ServingLaws.{one_counted}
 use Rattle.langtag_choice.proofs.serving.count_from.Goals.{then-suitable-offset, else-suitable-offset}
 use Rattle.langtag_choice.proofs.serving.count_from.Goals as goal

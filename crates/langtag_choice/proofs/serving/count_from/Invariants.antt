@@ -1,4 +1,4 @@
-use Rattle.std.proofs.Common.{◌≡◌, ◌+◌, ◌≤◌, length, take}
+use Rattle.std.proofs.Common.{◌≡◌, ◌+◌, ◌≤◌, take}
 use Rattle.langtag_choice.specs.Suitable.{suitable_count}
 use Rattle.langtag_choice.proofs.serving.count_from.Given as goal
 

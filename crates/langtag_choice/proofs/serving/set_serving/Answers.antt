@@ -1,5 +1,4 @@
-use Rattle.langtag_scan.proofs.Prelude.{◌≡◌, ◌+◌, arith, nat_tests, cases_lt, eqb_tells, ap, ◌∙◌, false, get_or, get_or_past, get_or-set_other, get_or-set_at}
-use Rattle.langtag_range.specs.Definitions.{listed_element}
+use Rattle.langtag_scan.proofs.Prelude.{arith, nat_tests, cases_lt, eqb_tells, ap, get_or_past, get_or-set_other, get_or-set_at}
 use Rattle.langtag_choice.specs.Serves.{serves}
 use Rattle.langtag_choice.proofs.serving.set_serving.Goals.{then-free-offset+then-not-flags-offset, else-free-offset, else-free-offset-via-then-free-offset+else-not-flags-offset, else-free-offset-via-else-free-offset}
 use Rattle.langtag_choice.proofs.serving.set_serving.Goals as goal

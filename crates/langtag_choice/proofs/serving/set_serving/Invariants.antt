@@ -1,4 +1,4 @@
-use Rattle.std.proofs.Common.{◌≡◌, ◌&&◌, ◌||◌, ◌+◌, ◌≤◌, ◌<◌, ◌-◌, ℕ, List, None, Some, false, get_or, length}
+use Rattle.std.proofs.Common.{◌≡◌, ◌&&◌, ◌||◌, ◌+◌, ◌≤◌, ◌<◌, ℕ, List, None, Some, false, get_or, length}
 use Rattle.langtag_range.specs.Definitions.{listed_element}
 use Rattle.langtag_choice.specs.Serves.{serves}
 use Rattle.langtag_choice.proofs.serving.set_serving.Given as goal

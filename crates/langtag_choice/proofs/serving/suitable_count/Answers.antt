@@ -1,4 +1,4 @@
-use Rattle.langtag_scan.proofs.Prelude.{◌≡◌, ◌≤◌, ◌+◌, ◌-◌, ◌∙◌, length, take, min, arith, ap, length-take, take_all, count_by-le-length}
+use Rattle.langtag_scan.proofs.Prelude.{◌≤◌, ◌+◌, ◌-◌, ◌∙◌, length, take, min, arith, ap, length-take, take_all, count_by-le-length}
 use Rattle.langtag_choice.specs.Suitable.{is_suitable, suitable_count}
 use Rattle.langtag_choice.proofs.serving.suitable_count.Goals as goal
 

@@ -1,4 +1,4 @@
-use Rattle.langtag_scan.proofs.Prelude.{◌≡◌, ◌+◌, ◌∙◌, ◌||◌, ◌&&◌, ℕ, [], list_any, None, true, false, get_or, nat_lt, and_parts, sym, ap, arith, nat_tests, common_steps, or-false, rules}
+use Rattle.langtag_scan.proofs.Prelude.{◌≡◌, ◌+◌, ◌∙◌, ℕ, [], list_any, None, true, false, get_or, nat_lt, and_parts, sym, ap, arith, nat_tests, common_steps, rules}
 use Rattle.langtag_choice.specs.Found.{is_unrefused_at}
 use Rattle.langtag_choice.specs.Serves.{serves}
 use Rattle.langtag_choice.proofs.FoundLaws.{none_flagged}

@@ -12,7 +12,7 @@ pub returns-else-not-begins_counted-2 : goal.returns-else-not-begins_counted-2
 returns-else-not-begins_counted-2 c = grind (arith, common_steps, keeps_pair c.args.text.now)
 
 pub returns-else-is_separator-3 : goal.returns-else-is_separator-3
-returns-else-is_separator-3 c = grind (arith, common_steps, keeps_long c.args.text.now)
+returns-else-is_separator-3 c = grind (arith, common_steps, keeps_long c.args.text.now) steps 40000000
 
 pub returns-else-is_letter : goal.returns-else-is_letter
 returns-else-is_letter c = grind (arith, common_steps, keeps_other c.args.text.now)

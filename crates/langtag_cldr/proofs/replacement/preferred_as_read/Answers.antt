@@ -6,8 +6,8 @@ use Rattle.langtag_cldr.proofs.replacement.preferred_as_read.Goals as goal
 
 pub returns-in_err-value : goal.returns-in_err-value
 unfolding preferred_tag
-returns-in_err-value c = grind (arith, common_steps, value_found c.preferred_tags.result.now (basic_text c.args.range.now))
+returns-in_err-value c = grind (arith, common_steps, value_found c.preferred_tags.result.now (basic_text c.args.range.now) c.preferred_tags.ensures)
 
 pub returns : goal.returns
 unfolding preferred_tag
-returns c = grind (arith, common_steps, value_found c.preferred_tags.result.now (basic_text c.args.range.now))
+returns c = grind (arith, common_steps, value_found c.preferred_tags.result.now (basic_text c.args.range.now) c.preferred_tags.ensures)
