@@ -1,13 +1,9 @@
 #!/usr/bin/env python3
-"""Tests that generate.py --check finds differences, which are planted one by one in a copy of the files.
-
-    test_generate.py [ROOT] the root of the repository; by default, the repository that contains this file
-"""
+"""Tests that generate.py --check finds differences, which are planted one by one in a copy of the files."""
 import contextlib
 import io
 import pathlib
 import shutil
-import sys
 import tempfile
 import unittest
 
@@ -17,7 +13,7 @@ import generate
 import interface
 import sql
 
-ROOT = pathlib.Path(sys.argv[1] if sys.argv[1:] else pathlib.Path(__file__).parent.parent).resolve()
+ROOT = pathlib.Path(__file__).resolve().parent.parent
 HEADER, TEMPLATE, MODULE = generate.HEADER, interface.TEMPLATE, "bindings/python/langtag/__init__.py"
 CRATE = "crates/langtag_c/src"
 FILES = {HEADER, TEMPLATE, MODULE, "vectors/table.txt", *generate.FILES, *generate.REFERENCES, *sql.FILES, sql.WRITTEN, *calls_page.FILES, *(name for name, _ in check_numbers.VERSIONS + check_numbers.NUMBERS)}
@@ -83,4 +79,4 @@ class Planted(unittest.TestCase):
 
 
 if __name__ == "__main__":
-    unittest.main(argv=sys.argv[:1])
+    unittest.main()

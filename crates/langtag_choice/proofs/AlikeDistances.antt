@@ -1,16 +1,16 @@
 -- The distance of texts, and what it is made of, do not change with the case of letters.
-use Rattle.langtag_scan.proofs.Prelude.{◌≡◌, ℕ, ◌==◌, ◌&&◌, cond, List, [], ◌∷◌, Option, refl, ap, ◌∙◌, arith, rules, codes, Bool, map, None, Some, option_map, sym, nat_tests, common_steps, option_map_or}
-use Rattle.langtag_scan.specs.Grammar.{Alike, are_alike, fold_byte, fold_text, are_alike-decides, is_primary, is_extended, is_script, is_region, subtags}
-use Rattle.langtag_scan.proofs.CaseLaw.{fold_byte-twice, fold_text-twice, length-fold, classes-fold, subtags-fold}
+use Rattle.langtag_scan.proofs.Prelude.{◌≡◌, ℕ, cond, List, [], ◌∷◌, Option, refl, ap, ◌∙◌, arith, rules, codes, Bool, map, None, Some, option_map, sym, nat_tests, common_steps, option_map_or}
+use Rattle.langtag_scan.specs.Grammar.{Alike, are_alike, fold_text, are_alike-decides, is_primary, is_extended, is_script, is_region, subtags}
+use Rattle.langtag_scan.proofs.CaseLaw.{fold_text-twice, length-fold, classes-fold, subtags-fold}
 use Rattle.langtag_range.specs.Definitions.{basic_text}
 use Rattle.langtag_range.proofs.AlikeTexts.{hyphened-fold, is_star-fold}
 use Rattle.langtag_range.proofs.BasicForms.{basic_text-alike}
-use Rattle.langtag_cldr.specs.Definitions.{base_text, current_text, known, without_region, without_language, most_unknown, most_likely, completed, matching_form, replaced_form, text_fields, fields_of_subtags, counted, last_language, is_extended_by, language_of, after_mark, marked_region, region_after, or_other, after_language, script_of, after_script, region_of}
+use Rattle.langtag_cldr.specs.Definitions.{base_text, current_text, known, without_region, without_language, most_unknown, most_likely, completed, matching_form, replaced_form, text_fields, fields_of_subtags, counted, last_language, is_extended_by, language_of, region_after, or_other, after_language, script_of, after_script, region_of}
 use Rattle.langtag_cldr.proofs.BaseTexts.{base-alike}
-use Rattle.langtag_fields.specs.Fields.{is_prefix_of}
 use Rattle.langtag_fields.proofs.Values.{preferred_tag-alike}
 use Rattle.langtag_text.specs.Fields.{Fields}
-use Rattle.langtag_cldr.proofs.AlikeFields.{AlikeOptions, form_completed, fields-right, alone_alike, added-alike, is_prefix_of-alike, by_options, language-alike, letters-alike, suffices-alike}
+use Rattle.langtag_cldr.proofs.MarkFolds.{cond-map, is_extended_by-fold, last_language-fold, marked_region-fold, or_other-fold}
+use Rattle.langtag_cldr.proofs.AlikeFields.{AlikeOptions, form_completed, fields-right, alone_alike, added-alike, by_options, language-alike, letters-alike, suffices-alike}
 use Rattle.langtag_text.proofs.Alike.{AlikeFields, are_alike-left, are_alike-right}
 use Rattle.langtag_choice.specs.Distance.{distance_of_forms, is_among, language_distance, region_distance, script_distance, DistanceIgnoresCase, distance_of_texts}
 use Rattle.langtag_choice.specs.Nearness.{unlikely, unlikely_of, unlikely_form}
@@ -58,13 +58,6 @@ forms-alike a b c d h k f g v w same also =
 
 -- ---- the fields of subtags
 
-pub cond-map : {A B : Type 0} (f : A → B) (b : Bool) (x y : A) → cond b (f x) (f y) ≡ f (cond b x y)
-cond-map f b x y = grind arith
-
-last_language-fold : (language : List ℕ) (subtags : List (List ℕ)) → last_language (fold_text language) (map fold_text subtags) ≡ fold_text (last_language language subtags)
-last_language-fold language [] = refl
-last_language-fold language (s ∷ others) = rw (ap (λ c. c.extended) (classes-fold s), last_language-fold s others) (cond-map fold_text (is_extended s) (last_language s others) language)
-
 after_language-fold : (subtags : List (List ℕ)) → after_language (map fold_text subtags) ≡ map fold_text (after_language subtags)
 after_language-fold [] = refl
 after_language-fold (s ∷ others) = rw (ap (λ c. c.extended) (classes-fold s), after_language-fold others) (cond-map (map fold_text) (is_extended s) (after_language others) (s ∷ others))
@@ -84,24 +77,10 @@ region_of-fold (s ∷ others) = rw (ap (λ c. c.region) (classes-fold s)) (cond-
 known-fold : (unknown text : List ℕ) → known unknown (fold_text text) ≡ fold_text (known unknown text)
 known-fold unknown text = rw (are_alike-right unknown (fold_text text) text (fold_text-twice text)) (cond-map fold_text (are_alike unknown text) [] text)
 
-is_extended_by-fold : (language : List ℕ) (subtags : List (List ℕ)) → is_extended_by (fold_text language) (map fold_text subtags) ≡ is_extended_by language subtags
-is_extended_by-fold language subtags = ap (is_prefix_of (fold_text language)) (last_language-fold [] subtags) ∙ is_prefix_of-alike (fold_text language) language _ _ (fold_text-twice language) (fold_text-twice (last_language [] subtags))
-
 language_of-fold : (language : List ℕ) (subtags : List (List ℕ)) → language_of (fold_text language) (map fold_text subtags) ≡ fold_text (language_of language subtags)
 language_of-fold language subtags =
     rw (is_extended_by-fold language subtags, last_language-fold [] subtags, known-fold (codes "und") language)
     (cond-map fold_text (is_extended_by language subtags) (last_language [] subtags) (known (codes "und") language))
-
-or_other-fold : (text other : List ℕ) → or_other (fold_text text) (fold_text other) ≡ fold_text (or_other text other)
-or_other-fold text other = grind (arith, nat_tests, common_steps)
-
-after_mark-fold : (subtag : List ℕ) → after_mark (fold_text subtag) ≡ fold_text (after_mark subtag)
-after_mark-fold [] = refl
-after_mark-fold (mark ∷ region) =
-    rw (fold_byte-twice mark, ap (λ c. c.region) (classes-fold region)) (cond-map fold_text ((fold_byte mark == 114) && is_region region) region [])
-
-marked_region-fold : (language : List ℕ) (subtags : List (List ℕ)) → marked_region (fold_text language) (map fold_text subtags) ≡ fold_text (marked_region language subtags)
-marked_region-fold language subtags = grind (arith, nat_tests, common_steps, is_extended_by-fold, after_mark-fold, cond-map)
 
 region_after-fold : (language : List ℕ) (subtags : List (List ℕ)) → region_after (fold_text language) (map fold_text subtags) ≡ fold_text (region_after language subtags)
 region_after-fold language subtags =

@@ -6,6 +6,7 @@ pub mod FoundLaws
 pub mod MatchingTables
 pub mod PreparedForms
 pub mod PutLaws
+pub mod RangeLengths
 pub mod RankLaws
 pub mod Refusals
 pub mod RegionWidths

@@ -6,11 +6,11 @@ ghost use Rattle.langtag_choice.specs.Variants.{lacking, variants_of};
 
 use crate::as_read::lost_as_read;
 use crate::likely_region::unlikely;
-use crate::nearness::kept;
+use crate::nearness::lost;
 use crate::region_group::region_width;
 use crate::transformed::is_transformed;
 use crate::variants::{has_variants, lacking_variants};
-use langtag_cldr::{TagFields, basic_len};
+use langtag_cldr::TagFields;
 use std::cmp::Ordering;
 
 /// How well a tag serves a range, the best first: at a distance below 16, at a distance below 50, or because only
@@ -141,7 +141,7 @@ impl Candidate<'_, '_> {
     fn breaks_tie_by_lookup(&self, other: &Candidate<'_, '_>) -> bool
         ensures { result ≡ is_lt (slice_cmp nat_cmp (drop 2 (ties_of self.now)) (drop 2 (ties_of other.now))) }
     {
-        let (lost, others_lost) = (self.lost(), other.lost());
+        let (lost, others_lost) = (lost(self.range, self.tag), lost(other.range, other.tag));
         let read = lost_as_read(self.range, self.tag, lost);
         let others_read = lost_as_read(other.range, other.tag, others_lost);
         if read != others_read {
@@ -203,14 +203,6 @@ impl Candidate<'_, '_> {
             Some(kept) => kept,
             None => unlikely(self.form),
         }
-    }
-
-    /// Returns how many bytes lookup removes from the range to find the tag, or the length of the range if lookup
-    /// does not find the tag.
-    fn lost(&self) -> usize
-        ensures { result ≡ lost (basic_text self.now.range.now) self.now.tag.now }
-    {
-        basic_len(self.range).saturating_sub(kept(self.range, self.tag))
     }
 }
 

@@ -1,5 +1,6 @@
 //! How near a tag is to a range.
 ghost use Rattle.std.specs.Prelude.{◌≡◌, ◌≤◌, ◌<◌, ◌==◌, ◌&&◌, ◌||◌, not, IsTrue, IfSome, MatchOption, Some, length};
+ghost use Rattle.langtag_scan.specs.Prelude.{list_any};
 ghost use Rattle.langtag_range.specs.Definitions.{ends_subtag, ends_in_single, basic_text, hyphened};
 ghost use Rattle.langtag_choice.specs.Serves.{may_serve, reach};
 ghost use Rattle.langtag_choice.specs.Distance.{distance_of_texts, fields_distance, formless_distance, language_distance};
@@ -15,7 +16,9 @@ use crate::prepared_form::PreparedForm;
 use crate::rule_distance::language_distance;
 use crate::tag_distance::places_distance;
 use crate::wish::Wish;
-use langtag_cldr::{TagFields, after_common, are_alike, completed, matching_form, replaced_form};
+use langtag_cldr::{
+    TagFields, after_common, are_alike, basic_len, completed, matching_form, replaced_form,
+};
 use langtag_range::ends_in_single;
 
 /// The distance of a tag from a range, and the tag's matching form.
@@ -179,15 +182,42 @@ fn equal_text<'t>(limit: u8, range: &[u8], tag: &'t [u8]) -> Option<Nearness<'t>
 }
 
 /// Returns the number of bytes of a range that lookup keeps when it finds a tag, or 0 if it does not find the tag.
-#[tactic(auto, unfolding(crate::specs::Nearness::kept))]
+#[tactic(auto, unfolding(crate::specs::Nearness::kept), using(crate::proofs::RangeLengths::longer_tag))]
 pub(crate) fn kept(range: &[u8], tag: &[u8]) -> usize
     ensures { result ≡ spec.kept (basic_text range.now) tag.now }
 {
-    if is_fallback(range, tag) {
+    if tag.len() <= range.len() && is_fallback(range, tag) {
         tag.len()
     } else {
         0
     }
+}
+
+/// Returns how many bytes lookup removes from a range to find a tag, or the length of the range if lookup does not find the
+/// tag.
+pub(crate) fn lost(range: &[u8], tag: &[u8]) -> usize
+    ensures { result ≡ spec.lost (basic_text range.now) tag.now }
+{
+    len_of(range).saturating_sub(kept(range, tag))
+}
+
+/// Returns the length of a range without each `-*`. This is quick if there is none.
+#[tactic(auto, using(crate::proofs::RangeLengths::starless))]
+fn len_of(range: &[u8]) -> usize
+    ensures { result ≡ length (basic_text range.now) }
+{
+    if has_star(range) {
+        basic_len(range)
+    } else {
+        range.len()
+    }
+}
+
+/// Returns whether a range contains `*`.
+fn has_star(range: &[u8]) -> bool
+    ensures { result ≡ list_any (λ byte. byte == 42) range.now }
+{
+    range.iter().any(|byte| *byte == b'*')
 }
 
 /// Returns whether a tag equals a range, or equals the string before one of the range's hyphens and does not end in a

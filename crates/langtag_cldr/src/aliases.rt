@@ -57,6 +57,7 @@ fn region_replaced<'a>(fields: TagFields<'a>) -> TagFields<'a>
 }
 
 /// Returns the replacement of the language, if there is one.
+#[inline(always)]
 pub(crate) fn language_alias(fields: TagFields<'_>) -> Option<TagFields<'static>>
     ensures { option_map field_texts result ≡ likely_for language_aliases (language_alone (field_texts fields.entry)) }
 {

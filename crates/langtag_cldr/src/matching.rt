@@ -2,6 +2,7 @@
 //! longest prefix of a tag that is a normal tag. A tag that the registry replaces as a whole has the fields of its
 //! replacement, so `i-klingon` is as near as `tlh`. Private-use tags and `i-default` begin with no language, so they have
 //! none. A region in digits stays, such as `840`, as in ICU's LocaleMatcher, although `maximized` looks up `US` for it.
+//! The fields of a string are read in one call, in which all else is inlined.
 ghost use Rattle.std.specs.Prelude.{◌≡◌, option_map};
 ghost use Rattle.langtag_cldr.specs.Matching as spec;
 ghost use Rattle.langtag_cldr.specs.Definitions.{field_texts};
@@ -22,6 +23,7 @@ pub fn matching_form(text: &[u8]) -> Option<TagFields<'_>>
 
 /// Returns the fields of a string, with its language replaced if CLDR replaces it.
 #[tactic(auto, unfolding(crate::specs::Matching::replaced_form))]
+#[inline(never)]
 pub fn replaced_form(text: &[u8]) -> Option<TagFields<'_>>
     ensures { option_map field_texts result ≡ spec.replaced_form text.now }
 {

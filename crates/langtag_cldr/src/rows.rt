@@ -78,6 +78,7 @@ fn other_row(key: TagFields<'_>) -> Option<TagFields<'static>>
 
 /// Returns the number that stands for three fields, which is never 0.
 #[tactic(auto, using(crate::proofs::FieldClasses::script_length, crate::proofs::FieldClasses::region_length), unfolding(crate::specs::Numbers::key_number))]
+#[inline(always)]
 pub fn key_number(key: TagFields<'_>) -> u32
     requires { length key.language.now ≤ 3 }
     ensures { result ≡ key_number (field_texts key.entry) }

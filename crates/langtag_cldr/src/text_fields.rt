@@ -21,6 +21,7 @@ impl<'a> TagFields<'a> {
     /// Returns the fields of a string in which `_` is read as `-`, or `None` if it does not begin with a language. A tag that
     /// the registry replaces as a whole has the fields of its replacement.
     #[tactic(auto, using(crate::proofs::FieldClasses::known_language, crate::proofs::FieldClasses::known_script, crate::proofs::FieldClasses::known_other, langtag_text::proofs::FieldClasses::from_primary))]
+    #[inline(always)]
     pub(crate) fn of_text(text: &'a [u8]) -> Option<TagFields<'a>>
         ensures { option_map field_texts result ≡ spec.text_fields (current_text text.now) }
     {

@@ -6,6 +6,7 @@ use Rattle.langtag.specs.Definitions.{are_alike_bytes, repeat}
 use Rattle.langtag_fields.specs.Valid.{IsValid, IsValidRecord}
 use Rattle.langtag_fields.proofs.RepeatsSeen.{repeat-after, repeat_after}
 use Rattle.langtag_keyword.proofs.IdentifierParts.{Apart, none_repeated}
+use Rattle.langtag_likely.specs.Marked.{as_read}
 use Rattle.langtag_locale.specs.Locale.{IsLocale, is_locale_extension, is_locale_record, is_unicode_subtag}
 use Rattle.langtag_locale.specs.Resolved.{IsAsked, IsResolved, Wish, resolved_record, resolved_subtags, wish_for, wish_of}
 use Rattle.langtag_locale.specs.ResolvedLaws.{EachResolved, HasRegisteredPlace, IsSettled, RepeatsNoMore, RepeatsNothing}
@@ -187,7 +188,7 @@ same_wish : (w : Wish) (r : Record) → wish_for (resolved_record (wish_for r w)
 unfolding resolved_record
 same_wish w r = refl
 
-pub is_settled : (l r : Record) → IsWellFormed l → is_locale_record l ≡ true → IsWellFormed r → RepeatsNothing r → IsSettled l r
+pub is_settled : (l r : Record) → IsWellFormed l → is_locale_record (as_read l) ≡ true → IsWellFormed r → RepeatsNothing r → IsSettled l r
 is_settled l r fits locale well none =
     let w : Wish = wish_of l in
     ap (λ a. resolved_record a (resolved_record (wish_for r w) r)) (same_wish w r) ∙ resolved_again w r (wish_allowed l fits locale) well (apart_if_none are_alike_bytes (bytes r.extensions) none.singletons)

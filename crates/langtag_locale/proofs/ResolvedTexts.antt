@@ -8,6 +8,8 @@ use Rattle.langtag_keyword.specs.Keywords.{subtags_of}
 use Rattle.langtag_keyword.proofs.FormRecords.{Good}
 use Rattle.langtag_keyword.proofs.Found.{found_is}
 use Rattle.langtag_keyword.proofs.KeywordBlocks.{find_u}
+use Rattle.langtag_likely.specs.Marked.{as_read}
+use Rattle.langtag_likely.proofs.MarkLaws.{read_fits, read_keeps}
 use Rattle.langtag_locale.specs.Locale.{is_locale_extension, is_locale_record, is_unicode_subtag}
 use Rattle.langtag_locale.specs.LocaleForm.{identifier_form, record_fields}
 use Rattle.langtag_locale.specs.Resolved.{Wish, resolved_record, wish_for, wish_of}
@@ -40,12 +42,12 @@ u_may l all = by_found (find_extension 117 l.extensions) (sym (find_u l.extensio
     by_found (Some e) is =
         each_from_test is_unicode_subtag e.subtags (unicode_allowed e (found_is (is_of 117) l.extensions e is) (found_has is_locale_extension (is_of 117) l.extensions e all is))
 
-pub wish_allowed : (l : Record) → IsWellFormed l → is_locale_record l ≡ true → IsAllowed (wish_of l)
+pub wish_allowed : (l : Record) → IsWellFormed l → is_locale_record (as_read l) ≡ true → IsAllowed (wish_of l)
 wish_allowed l fits locale = record {
-  region = known-region (codes "ZZ") _ (form_subtags l.variants (record_fields l) (record_subtags l fits locale)).region;
-  is_known = known-twice (codes "ZZ") (identifier_form l.variants (record_fields l)).region;
+  region = known-region (codes "ZZ") _ (form_subtags l.variants (record_fields (as_read l)) (record_subtags (as_read l) (read_fits l fits) locale)).region;
+  is_known = known-twice (codes "ZZ") (identifier_form l.variants (record_fields (as_read l))).region;
   unicode = good_unicode l fits;
-  may = u_may l (all_allowed l locale);
+  may = u_may l (subst (λ es. list_all is_locale_extension es ≡ true) (read_keeps l).extensions (all_allowed (as_read l) locale));
 }
 
 pub asked_allowed : (r : Record) (w : Wish) → IsAllowed w → IsAllowed (wish_for r w)

@@ -8,6 +8,7 @@ use Rattle.langtag_text.specs.Fields.{subtag_of}
 use Rattle.langtag_text.specs.RecommendedCase.{capital_text}
 use Rattle.langtag_cldr.specs.Definitions.{or_else}
 use Rattle.langtag_keyword.specs.Keywords.{subtags_of}
+use Rattle.langtag_likely.specs.Marked.{as_read}
 use Rattle.langtag_locale.specs.Locale.{is_locale_record}
 use Rattle.langtag_keyword.proofs.FormRecords.{Good}
 use Rattle.langtag_keyword.proofs.IdentifierParts.{Apart}
@@ -58,7 +59,7 @@ keyword_served w r allowed key v low found = by_subtags (resolved_subtags a (sub
     by_subtags [] same is = absurd cc
     by_subtags (s ∷ ss) same is = ap (value_of is_key key) (changed-subtags (resolved_subtags a) r.extensions s ss same) ∙ is
 
-has_wish : (l r : Record) → IsWellFormed l → is_locale_record l ≡ true → HasWish l r (resolved_record (wish_for r (wish_of l)) r)
+has_wish : (l r : Record) → IsWellFormed l → is_locale_record (as_read l) ≡ true → HasWish l r (resolved_record (wish_for r (wish_of l)) r)
 unfolding resolved_record
 has_wish l r fits locale = record {
   region = region_served r (wish_for r (wish_of l)).region;
@@ -75,7 +76,7 @@ range_served range tag resolved is = elim is [
         asks.is_locale,
         λ m ms r rs q qs.
             let same = spelled_once l m ls.0 ms.0 (ls.1 ∙ sym ms.1) in
-            let allowed = subst (λ m. is_locale_record m ≡ true) same locale in
+            let allowed = subst (λ m. is_locale_record (as_read m) ≡ true) same locale in
             subst (HasWish m r) (spelled_once (resolved_record (wish_for r (wish_of m)) r) q (asked_well (wish_of m) r (wish_allowed m ms.0 allowed) rs.0) qs.0 (sym (asks.parts m ms r rs) ∙ sym qs.1)) (has_wish m r ms.0 allowed),
       )
 ]

@@ -1,6 +1,7 @@
 //! A law of the form of a Unicode locale identifier (UTS #35, part 1, Annex C). The toolchain checks only contracts, so the law
 //! is the clause of a function that does nothing.
 ghost use Rattle.std.specs.Prelude.{◌≡◌, ℕ, IsTrue, List};
+ghost use Rattle.langtag_likely.specs.Marked.{as_read};
 ghost use Rattle.langtag_locale.specs.Locale.{IsLocale, is_locale_record};
 ghost use Rattle.langtag_locale.specs.LocaleForm.{locale_record};
 ghost use Rattle.langtag_locale.specs.Resolved.{IsResolved};
@@ -77,6 +78,6 @@ fn resolved_is_valid()
 #[tactic(auto, using(crate::proofs::ResolvedTags::is_settled))]
 fn asked_again()
     // law: asking for the same again changes nothing, if the tag repeats no singleton
-    ensures settled { (l r : model.Record) → model.IsWellFormed l → IsTrue (is_locale_record l) → model.IsWellFormed r
+    ensures settled { (l r : model.Record) → model.IsWellFormed l → IsTrue (is_locale_record (as_read l)) → model.IsWellFormed r
         → RepeatsNothing r → IsSettled l r }
 {}

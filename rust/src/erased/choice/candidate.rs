@@ -4,11 +4,11 @@
 
 use crate::erased::choice::as_read::lost_as_read;
 use crate::erased::choice::likely_region::unlikely;
-use crate::erased::choice::nearness::kept;
+use crate::erased::choice::nearness::lost;
 use crate::erased::choice::region_group::region_width;
 use crate::erased::choice::transformed::is_transformed;
 use crate::erased::choice::variants::{has_variants, lacking_variants};
-use crate::erased::cldr::{basic_len, TagFields};
+use crate::erased::cldr::TagFields;
 use core::cmp::Ordering;
 
 /// How well a tag serves a range, the best first: at a distance below 16, at a distance below 50,
@@ -118,7 +118,7 @@ impl Candidate<'_, '_> {
     /// is, then how likely the region is, and then the index. Lookup first reads the languages as
     /// CLDR replaces them, and then as they are written.
     fn breaks_tie_by_lookup(&self, other: &Candidate<'_, '_>) -> bool {
-        let (lost, others_lost) = (self.lost(), other.lost());
+        let (lost, others_lost) = (lost(self.range, self.tag), lost(other.range, other.tag));
         let read = lost_as_read(self.range, self.tag, lost);
         let others_read = lost_as_read(other.range, other.tag, others_lost);
         if read != others_read {
@@ -170,13 +170,6 @@ impl Candidate<'_, '_> {
     #[inline]
     fn unlikely(&self) -> u8 {
         self.unlikely.unwrap_or_else(|| unlikely(self.form))
-    }
-
-    /// Returns how many bytes lookup removes from the range to find the tag, or the length of the
-    /// range if lookup does not find the tag.
-    #[inline]
-    fn lost(&self) -> usize {
-        basic_len(self.range).saturating_sub(kept(self.range, self.tag))
     }
 }
 

@@ -8,7 +8,7 @@ use crate::erased::choice::rule_distance::language_distance;
 use crate::erased::choice::tag_distance::places_distance;
 use crate::erased::choice::wish::Wish;
 use crate::erased::cldr::{
-    after_common, are_alike, completed, matching_form, replaced_form, TagFields,
+    after_common, are_alike, basic_len, completed, matching_form, replaced_form, TagFields,
 };
 use crate::erased::range::ends_in_single;
 
@@ -146,11 +146,34 @@ fn equal_text<'t>(limit: u8, range: &[u8], tag: &'t [u8]) -> Option<Nearness<'t>
 /// not find the tag.
 #[inline]
 pub(crate) fn kept(range: &[u8], tag: &[u8]) -> usize {
-    if is_fallback(range, tag) {
+    if tag.len() <= range.len() && is_fallback(range, tag) {
         tag.len()
     } else {
         0
     }
+}
+
+/// Returns how many bytes lookup removes from a range to find a tag, or the length of the range if
+/// lookup does not find the tag.
+#[inline]
+pub(crate) fn lost(range: &[u8], tag: &[u8]) -> usize {
+    len_of(range).saturating_sub(kept(range, tag))
+}
+
+/// Returns the length of a range without each `-*`. This is quick if there is none.
+#[inline]
+fn len_of(range: &[u8]) -> usize {
+    if has_star(range) {
+        basic_len(range)
+    } else {
+        range.len()
+    }
+}
+
+/// Returns whether a range contains `*`.
+#[inline]
+fn has_star(range: &[u8]) -> bool {
+    range.iter().any(|byte| *byte == b'*')
 }
 
 /// Returns whether a tag equals a range, or equals the string before one of the range's hyphens and

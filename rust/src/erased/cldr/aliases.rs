@@ -40,6 +40,7 @@ fn region_replaced(fields: TagFields<'_>) -> TagFields<'_> {
 }
 
 /// Returns the replacement of the language, if there is one.
+#[inline(always)]
 pub(crate) fn language_alias(fields: TagFields<'_>) -> Option<TagFields<'static>> {
     if fields.language.len() > 3 {
         return None;

@@ -4,7 +4,8 @@
 //! are those of the longest prefix of a tag that is a normal tag. A tag that the registry replaces
 //! as a whole has the fields of its replacement, so `i-klingon` is as near as `tlh`. Private-use
 //! tags and `i-default` begin with no language, so they have none. A region in digits stays, such
-//! as `840`, as in ICU's LocaleMatcher, although `maximized` looks up `US` for it.
+//! as `840`, as in ICU's LocaleMatcher, although `maximized` looks up `US` for it. The fields of a
+//! string are read in one call, in which all else is inlined.
 
 use crate::erased::cldr::aliases::{language_replaced, letters_replaced};
 use crate::erased::cldr::likely::add_likely;
@@ -20,7 +21,7 @@ pub fn matching_form(text: &[u8]) -> Option<TagFields<'_>> {
 }
 
 /// Returns the fields of a string, with its language replaced if CLDR replaces it.
-#[inline]
+#[inline(never)]
 #[must_use]
 pub fn replaced_form(text: &[u8]) -> Option<TagFields<'_>> {
     if are_alike(text, b"und") {

@@ -59,6 +59,7 @@ fn other_row(key: TagFields<'_>) -> Option<TagFields<'static>> {
 }
 
 /// Returns the number that stands for three fields, which is never 0.
+#[inline(always)]
 #[must_use]
 pub fn key_number(key: TagFields<'_>) -> u32 {
     let script = place(&tables::SCRIPT_KEYS, key.script) * REGIONS;

@@ -13,6 +13,7 @@ impl<'a> TagFields<'a> {
     /// Returns the fields of a string in which `_` is read as `-`, or `None` if it does not begin
     /// with a language. A tag that the registry replaces as a whole has the fields of its
     /// replacement.
+    #[inline(always)]
     pub(crate) fn of_text(text: &'a [u8]) -> Option<TagFields<'a>> {
         let (first, rest) = current_parts(text);
         if !is_primary(first) {
