@@ -1,5 +1,5 @@
-//! A law of the form of a Unicode locale identifier (UTS #35, part 1, Annex C). The toolchain checks only contracts, so the law
-//! is the clause of a function that does nothing.
+//! Laws of the form of a Unicode locale identifier (UTS #35, part 1, Annex C), and of the locale to format with. The toolchain
+//! checks only contracts, so each law is the clause of a function that does nothing.
 ghost use Rattle.std.specs.Prelude.{◌≡◌, ℕ, IsTrue, List};
 ghost use Rattle.langtag_likely.specs.Marked.{as_read};
 ghost use Rattle.langtag_locale.specs.Locale.{IsLocale, is_locale_record};

@@ -1,7 +1,7 @@
 //! Methods of tags, conversions, and lists with entries that are not tags or ranges.
 #![cfg(all(feature = "alloc", feature = "data"))]
 #![allow(clippy::needless_borrows_for_generic_args)] // references are taken, too
-use langtag::choice::{best_for_header, best_for_ranges, match_for_header, Site};
+use langtag::choice::{best_for_header, best_for_ranges, match_for_header, Site, TagEntry};
 use langtag::matching::{
     look_up, tag_for_header, AcceptLanguage, LanguageRange, LanguageRangeBuf, WeightedRange,
 };
@@ -138,10 +138,9 @@ fn second_ways() {
             (102, Some("fr"))
         );
     }
-    assert_eq!(
-        best_for_header("de", &[String::from(" de"), String::from("de ")]),
-        None
-    );
+    let blanks = [String::from(" de"), String::from("de ")];
+    assert_eq!(best_for_header("de", &blanks.each_ref()), None);
+    assert!(blanks.iter().all(|it| it.tag().is_none()));
     let long = format!("de-{}-CH", "Latn");
     let long = [format!(
         "{long}-1996-u-co-phonebk-x-{}",
