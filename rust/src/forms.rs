@@ -32,7 +32,7 @@ macro_rules! writer {
         $calls:ident in $module:ident: $write_form:ident of $form:literal -> $shown:ty, $written:ident;
         $what:literal $(, $or_none:literal)?; $tag:literal is $value:literal $(, $unwrap:literal)?
     ) => {
-        #[doc = concat!("Writes ", $what, " to a buffer, as `", $form, "` returns it, and returns what was written", $($or_none,)? ".")]
+        #[doc = concat!("Writes ", $what, " to a buffer, as `", $form, "` returns it. Returns what was written", $($or_none,)? ".")]
         ///
         /// It does not allocate.
         ///

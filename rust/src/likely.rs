@@ -45,8 +45,8 @@ writer! {
     "a tag without the script and the region that are likely anyway"; "zh-Hant-TW" is "zh-TW"
 }
 
-/// Writes the tag for a POSIX locale name to a buffer, as `from_posix` returns it, and returns what
-/// was written, or `None` if the name has no tag.
+/// Writes the tag for a POSIX locale name to a buffer, as `from_posix` returns it. Returns what was
+/// written, or `None` if the name has no tag.
 ///
 /// It does not allocate.
 ///

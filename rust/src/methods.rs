@@ -62,9 +62,9 @@ impl<'a> LangTag<'a> {
     ///
     /// It is 0 if language, script and region are equal after likely subtags are added: from `zh-TW`
     /// to `zh-Hant`. Up to 15, the languages are the same or nearly the same, perhaps with another
-    /// region or script. Below 50, most users of this tag's language read the other. It is at most
-    /// 134, or [`FORMLESS_DISTANCE`](choice::FORMLESS_DISTANCE) if the tags differ and one of them is
-    /// only `und`, is a private-use tag, or is `i-default`, `i-enochian` or `i-mingo`. Variants,
+    /// region or script. Below 50, most users of this tag's language read the other language. The
+    /// distance is at most 134, or [`FORMLESS_DISTANCE`](choice::FORMLESS_DISTANCE) if the tags differ
+    /// and one of them is only `und`, is a private-use tag, or is `i-default`, `i-enochian` or `i-mingo`. Variants,
     /// extensions and private use are ignored. A tag that the registry replaces as a whole is compared
     /// as its replacement: `i-klingon` as `tlh`, `zh-hakka` as `hak`.
     ///

@@ -49,8 +49,8 @@ writer! {
     ", or `None` if the tag has no such form"; "ger-UK" is "de-GB", ".unwrap()"
 }
 
-/// Writes a tag with a value of a key of the extension `u` to a buffer, as
-/// `LangTagBuf::set_keyword` sets it, and returns what was written.
+/// Sets the value of a key of the extension `u`, as `LangTagBuf::set_keyword` does, and writes the
+/// tag to a buffer. Returns what was written.
 ///
 /// It does not allocate. The lengths of the tag, the key and the value, and 4 more bytes, are
 /// always enough.
@@ -79,8 +79,8 @@ pub fn write_with_keyword<'a, 'b>(
     Ok(written(buffer, len)?)
 }
 
-/// Writes a tag without a key of the extension `u` to a buffer, as `LangTagBuf::remove_keyword`
-/// removes it, and returns what was written.
+/// Removes a key of the extension `u`, as `LangTagBuf::remove_keyword` does, and writes the tag to a
+/// buffer. Returns what was written.
 ///
 /// It does not allocate. The length of the tag is always enough.
 ///
