@@ -810,11 +810,12 @@ export function resolvedLocale(range: Text, tag: Text): LanguageTag {
  * Returns the best tag for a header by language distance, or the last argument if none is suitable. Malformed elements are read
  * leniently: de_CH is read as de-CH. A tag whose longest matching range has the weight 0 is not chosen, and * chooses nothing.
  *
- * Among tags at the same distance, the best has the most variants of the range. If several have as many, a tag without the extension t,
- * which marks translations by a machine, is better, unless the range has it. Then it is the tag for which lookup removes the fewest subtags
- * from the range, where `eng` is read as `en`. Then it is the tag with the range's own code, then the tag of the smallest group of regions
- * that has the range's region, such as `es-419` for `es-MX`, then a tag with the most likely region of its language, then one of CLDR's
- * paradigm locales, such as `en-GB`, and then the first in the list. So list the tags in the order that you prefer.
+ * Among tags at the same distance, these rules decide, one after the other. The tag that has more of the range's variants is better. A tag
+ * without the extension t, which marks machine translations, is better, unless the range has t. The tag for which lookup removes fewer
+ * subtags from the range is better, where lookup reads `eng` as `en`. The tag with the range's own code is better. A tag whose region is a
+ * group with the range's region is better, and the smallest group is best: `es-419` for `es-MX`. A tag with the most likely region of its
+ * language is better. One of CLDR's paradigm locales, such as `en-GB`, is better. Otherwise the first in the list is chosen. So list the
+ * tags in the order that you prefer.
  *
  * Throws InvalidTag if one of the tags is not a tag: a Site throws it
  * once, when the program starts. Time is at most proportional to the length of the header times the length of the tags.
