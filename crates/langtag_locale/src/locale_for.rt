@@ -1,7 +1,8 @@
 //! The Unicode locale identifier whose form is the form of a tag (UTS #35, part 1, Annex C). A tag that is not such an
 //! identifier is replaced before its form is written. It then gets the form of its canonical form (RFC 5646 section
 //! 4.5), unless CLDR does not have the Preferred-Value yet (data/unicode/ahead-of-cldr.txt). `zh-yue-hepburn-heploc`
-//! differs, too: it gets the form of `yue-hepburn-heploc`.
+//! differs, too: it gets the form of `yue-hepburn-heploc`. So does `es-rSL`, whose canonical form is `rsl`: Android writes
+//! `es-SL` so.
 ghost use Rattle.std.specs.Prelude.{◌≡◌, IfSome, List, None, Some, ℕ};
 ghost use Rattle.langtag_scan.specs.Grammar.{EachRecord, Spells};
 ghost use Rattle.langtag.specs.Definitions.{lang_tag_text, normal_lang_tag_text};

@@ -4,7 +4,8 @@
 //! that is not such an identifier is replaced before its form is written. It then gets the form of
 //! its canonical form (RFC 5646 section 4.5), unless CLDR does not have the Preferred-Value yet
 //! (data/unicode/ahead-of-cldr.txt). `zh-yue-hepburn-heploc` differs, too: it gets the form of
-//! `yue-hepburn-heploc`.
+//! `yue-hepburn-heploc`. So does `es-rSL`, whose canonical form is `rsl`: Android writes `es-SL`
+//! so.
 
 use crate::erased::fields::{is_registered_extlang, preferred_tag};
 use crate::erased::locale::locale::is_read_record;
